@@ -33,6 +33,10 @@ pub record Asked : Type 0 where
   pub user : ℕ
   pub now : TimePacket
 
+-- this change, by this user, at this time
+abbrev pub asking : Change → ℕ → TimePacket → Asked
+asking change user now = record { change = change; user = user; now = now }
+
 -- ---- why it is refused. `file` is the file that is changed, or the directory in which a file is made or deleted
 
 -- only the owner of a file and user 0 may change its attributes

@@ -14,7 +14,7 @@ ghost use Rattle.rbf_update.specs.Deletions.{deletion_calls, descriptor_found};
 ghost use Rattle.file_rules.specs.Change.{writes, sizes, sets_attributes, creates, makes_directory};
 ghost use Rattle.file_rules.specs.Way.{root_of};
 ghost use Rattle.file_drives.specs.Calls.{deleting_calls, making_calls, sizing_calls, writing_calls};
-ghost use Rattle.file_drives.specs.Changed.{Asked, ChangesVolume, file_answer, numbered};
+ghost use Rattle.file_drives.specs.Changed.{Asked, ChangesVolume, asking, file_answer, numbered};
 ghost use Rattle.file_drives.specs.Drives.{DriveView, drives_seen, ChangesOneDrive};
 ghost use Rattle.file_drives.specs.Entries.{IsDeletableOn, IsDeletionOn, IsPlaceAt, IsPlaceOn, MayBeDeletedOn};
 ghost use Rattle.file_drives.specs.Mounted.{AgreesOnDrive, AreMounted, ArrivesOn, HasDataFileAt, HasFileAt, MountsAs, OnDisks, ReadsFile, ReadsToMount, kept_at, mounted_at, number_arrived};
@@ -117,10 +117,8 @@ impl Disks {
     ///
     /// `Device` if the drive's read fails.
     pub fn fd(&mut self, devices: &mut Devices, place: FilePlace) -> Result<Fd, FileFault>
-        requires file { HasFileAt self.old
-            (drives_seen BlockDriver-box devices.old) place }
-        ensures ok { OnDisks self.old
-            (drives_seen BlockDriver-box devices.old) place
+        requires file { HasFileAt self.old (drives_seen BlockDriver-box devices.old) place }
+        ensures ok { OnDisks self.old (drives_seen BlockDriver-box devices.old) place
             (λ v file. IfOk result (IsFdOf file)) }
         ensures device { OnErr result (IsSome (file_fault result)) }
         ensures drive { ReadsFile place (file_fault result) (λ v file. 1)
@@ -148,10 +146,8 @@ impl Disks {
         at: u32,
         into: &mut [u8],
     ) -> Result<u32, FileFault>
-        requires file { HasFileAt self.old
-            (drives_seen BlockDriver-box devices.old) place }
-        ensures ok { OnDisks self.old
-            (drives_seen BlockDriver-box devices.old) place
+        requires file { HasFileAt self.old (drives_seen BlockDriver-box devices.old) place }
+        ensures ok { OnDisks self.old (drives_seen BlockDriver-box devices.old) place
             (λ v file. IfOk result (IsRead file at into.old into.new)) }
         ensures device { OnErr result (IsSome (file_fault result)) }
         ensures drive { ReadsFile place (file_fault result)
@@ -185,10 +181,8 @@ impl Disks {
         user: u16,
         execute: bool,
     ) -> Result<FilePlace, DirError>
-        requires file { HasFileAt self.old
-            (drives_seen BlockDriver-box devices.old) place }
-        ensures walked { OnDisks self.old
-            (drives_seen BlockDriver-box devices.old) place
+        requires file { HasFileAt self.old (drives_seen BlockDriver-box devices.old) place }
+        ensures walked { OnDisks self.old (drives_seen BlockDriver-box devices.old) place
             (λ v file. AnswersWalk (step (Some file) user execute name.now)
             (number_arrived result)) }
         ensures file { IfOk result (ArrivesOn place.drive self.new
@@ -228,8 +222,7 @@ impl Disks {
         from: &[u8],
         now: TimePacket,
     ) -> Result<(), FileFault>
-        requires file { HasDataFileAt self.old
-            (drives_seen BlockDriver-box devices.old) place }
+        requires file { HasDataFileAt self.old (drives_seen BlockDriver-box devices.old) place }
         ensures changed { (user : ℕ) → ChangesVolume place
             (record { change = writes place.number at from.now; user = user; now = now })
             (file_answer result) (writing_calls place.number at (length from.now) result)
@@ -265,8 +258,7 @@ impl Disks {
         size: u32,
         now: TimePacket,
     ) -> Result<(), FileFault>
-        requires file { HasDataFileAt self.old
-            (drives_seen BlockDriver-box devices.old) place }
+        requires file { HasDataFileAt self.old (drives_seen BlockDriver-box devices.old) place }
         ensures changed { (user : ℕ) → ChangesVolume place
             (record { change = sizes place.number size; user = user; now = now })
             (file_answer result)
@@ -299,8 +291,7 @@ impl Disks {
         user: u16,
         now: TimePacket,
     ) -> Result<(), DirError>
-        requires file { HasFileAt self.old
-            (drives_seen BlockDriver-box devices.old) place }
+        requires file { HasFileAt self.old (drives_seen BlockDriver-box devices.old) place }
         ensures changed { ChangesVolume place
             (record { change = sets_attributes place.number attr; user = user; now = now })
             (numbered result) (λ v file left. attribute_calls file user)
@@ -334,13 +325,10 @@ impl Disks {
         user: u16,
         execute: bool,
     ) -> Result<NewPlace, DirError>
-        requires file { HasFileAt self.old
-            (drives_seen BlockDriver-box devices.old) dir }
-        ensures answer { OnDisks self.old
-            (drives_seen BlockDriver-box devices.old) dir
+        requires file { HasFileAt self.old (drives_seen BlockDriver-box devices.old) dir }
+        ensures answer { OnDisks self.old (drives_seen BlockDriver-box devices.old) dir
             (λ v file. AnswersPlace file name.now user execute (place_found result)) }
-        ensures found { IfOk result (IsPlaceOn
-            (drives_seen BlockDriver-box devices.new)
+        ensures found { IfOk result (IsPlaceOn (drives_seen BlockDriver-box devices.new)
             dir name.now user execute) }
         ensures drive { ReadsFile dir (directory_fault result)
             (λ v file. place_calls file name.now user execute)
@@ -374,14 +362,11 @@ impl Disks {
         user: u16,
         execute: bool,
     ) -> Result<Deletable, DirError>
-        requires file { HasFileAt self.old
-            (drives_seen BlockDriver-box devices.old) dir }
-        ensures answer { OnDisks self.old
-            (drives_seen BlockDriver-box devices.old) dir
+        requires file { HasFileAt self.old (drives_seen BlockDriver-box devices.old) dir }
+        ensures answer { OnDisks self.old (drives_seen BlockDriver-box devices.old) dir
             (λ v file. AnswersWalk (deletion_end v.files file name.now user execute)
             (descriptor_found result)) }
-        ensures found { IfOk result (IsDeletableOn
-            (drives_seen BlockDriver-box devices.new)
+        ensures found { IfOk result (IsDeletableOn (drives_seen BlockDriver-box devices.new)
             dir name.now) }
         ensures drive { ReadsFile dir (directory_fault result)
             (λ v file. deletion_calls file name.now user execute)
@@ -418,17 +403,12 @@ impl Disks {
         attr: u8,
         now: TimePacket,
     ) -> Result<u32, FileFault>
-        requires file { HasFileAt self.old
-            (drives_seen BlockDriver-box devices.old) dir }
-        requires place { IsPlaceAt
-            (drives_seen BlockDriver-box devices.old)
+        requires file { HasFileAt self.old (drives_seen BlockDriver-box devices.old) dir }
+        requires place { IsPlaceAt (drives_seen BlockDriver-box devices.old)
             dir name.now found.now }
         requires attributes { attr < 128 }
-        ensures changed { ChangesVolume dir (record {
-          change = creates dir.number name.now attr;
-          user = found.now.user;
-          now = now;
-        })
+        ensures changed { ChangesVolume dir
+            (asking (creates dir.number name.now attr) found.now.user now)
             (widened result) (λ v file left. entering_calls v file 2 (widened result))
             self.old (drives_seen BlockDriver-box devices.old)
             self.new (drives_seen BlockDriver-box devices.new) }
@@ -460,17 +440,12 @@ impl Disks {
         attr: u8,
         now: TimePacket,
     ) -> Result<u32, FileFault>
-        requires file { HasFileAt self.old
-            (drives_seen BlockDriver-box devices.old) dir }
-        requires place { IsPlaceAt
-            (drives_seen BlockDriver-box devices.old)
+        requires file { HasFileAt self.old (drives_seen BlockDriver-box devices.old) dir }
+        requires place { IsPlaceAt (drives_seen BlockDriver-box devices.old)
             dir name.now found.now }
         requires reading { found.now.execute ≡ false }
-        ensures changed { ChangesVolume dir (record {
-          change = makes_directory dir.number name.now attr;
-          user = found.now.user;
-          now = now;
-        })
+        ensures changed { ChangesVolume dir
+            (asking (makes_directory dir.number name.now attr) found.now.user now)
             (widened result) (making_calls (widened result))
             self.old (drives_seen BlockDriver-box devices.old)
             self.new (drives_seen BlockDriver-box devices.new) }
@@ -500,11 +475,8 @@ impl Disks {
         dir: FilePlace,
         found: &Deletable,
     ) -> Result<(), FileFault>
-        requires file { HasFileAt self.old
-            (drives_seen BlockDriver-box devices.old) dir }
-        requires entry { MayBeDeletedOn
-            (drives_seen BlockDriver-box devices.old)
-            dir found.now }
+        requires file { HasFileAt self.old (drives_seen BlockDriver-box devices.old) dir }
+        requires entry { MayBeDeletedOn (drives_seen BlockDriver-box devices.old) dir found.now }
         ensures changed { (asked : Asked) → IsDeletionOn dir found.now asked
             (drives_seen BlockDriver-box devices.old)
             → ChangesVolume dir asked (file_answer result) (deleting_calls found.now.descriptor)

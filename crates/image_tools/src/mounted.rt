@@ -32,7 +32,7 @@ pub fn use_tool(
     ensures tail { OnMedia (KeepsTailBy (tool_of tool.now)) (media d.old) (media d.new) }
     ensures others { OnOk result
         (OnMedia (KeepsOthersBy (tool_of tool.now)) (media d.old) (media d.new)) }
-    ensures fault { Faults ⟦<dyn BlockDriver as BlockDriver>⟧ (tool_fault result) d.old d.new }
+    ensures fault { Faults BlockDriver-dyn (tool_fault result) d.old d.new }
 {
     match Volume::mount(alloc, d) {
         Ok(mut volume) => use_mounted(alloc, &mut volume, d, tool, now),

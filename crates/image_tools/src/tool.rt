@@ -41,7 +41,7 @@ pub fn use_mounted(
     ensures tail { OnMedia (KeepsTailBy (tool_of tool.now)) (media d.old) (media d.new) }
     ensures others { OnOk result
         (OnMedia (KeepsOthersBy (tool_of tool.now)) (media d.old) (media d.new)) }
-    ensures fault { Faults ⟦<dyn BlockDriver as BlockDriver>⟧ (tool_fault result) d.old d.new }
+    ensures fault { Faults BlockDriver-dyn (tool_fault result) d.old d.new }
 {
     match tool {
         ToolUse::Put(file) => no_bytes(alloc, put(alloc, v, d, file, now)),

@@ -115,7 +115,8 @@ one_read media before count lsn bytes mid half sector now after next news read i
 one_image : (media : Option (List ℕ)) (one other : List ℕ) → media ≡ Some one → media ≡ Some other → one ≡ other
 one_image media one other p q = let both : Some one ≡ Some other = sym p ∙ q in cc
 
-module _ (image : List ℕ) (header : HasHeader image) (has : HasMap (image_geometry image)) (map : ClusterMap) (bytes : map.bytes ≡ take (256 * map_sectors (image_geometry image)) (drop 256 image)) where
+module _ (image : List ℕ) (header : HasHeader image) (has : HasMap (image_geometry image)) (map : ClusterMap)
+    (bytes : map.bytes ≡ take (256 * map_sectors (image_geometry image)) (drop 256 image)) where
   map_length : length map.bytes ≡ 256 * map_sectors (image_geometry image)
   map_length =
       let fits = has.fits in

@@ -63,7 +63,8 @@ module _ (media : Option (List ℕ)) (v : DiskVolume) (on : Represents media v) 
       let shown = on.vol.sound.shows.shown n file is in
       let size = length_of_file (image_geometry on.image) disk v on.vol.sound n file is in
       let here : file.contents ≡ take (length file.contents) (segment_bytes disk file.segments) =
-      ap (λ (f : DiskFile). f.contents) shown ∙ ap (λ k. take k (segment_bytes disk (segments_field (disk n)))) (sym size) ∙ ap (λ (f : DiskFile). take (length file.contents) (segment_bytes disk f.segments)) (sym shown) in
+      ap (λ (f : DiskFile). f.contents) shown ∙ ap (λ k. take k (segment_bytes disk (segments_field (disk n))))
+      (sym size) ∙ ap (λ (f : DiskFile). take (length file.contents) (segment_bytes disk f.segments)) (sym shown) in
       here ∙ ap (λ m. take (length file.contents) (segment_bytes (sector_at m) file.segments)) (sym on.is)
 
   -- so they have room for its size

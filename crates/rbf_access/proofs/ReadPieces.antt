@@ -45,7 +45,9 @@ abbrev pub buffer_at : List ℕ → List ℕ → ℕ → ℕ → List ℕ
 buffer_at whole old at place = take (filled at (length old) place) (drop at whole) ++ drop (filled at (length old) place) old
 
 -- the sectors before a place have been read
-pub record IsReadTo (whole old : List ℕ) (at place : ℕ) (into : List ℕ) (media media_now : Option (List ℕ)) (volume volume_now : KeptVolume) (segments : List (ℕ × ℕ)) (start held : List Sector) (before now : DriveCounts) : Type 0 where
+pub record IsReadTo (whole old : List ℕ) (at place : ℕ) (into : List ℕ) (media media_now : Option (List ℕ))
+    (volume volume_now : KeptVolume) (segments : List (ℕ × ℕ)) (start held : List Sector) (before now : DriveCounts) : Type
+    0 where
   pub bytes_are : into ≡ buffer_at whole old at place
   pub same_media : media_now ≡ media
   pub same_volume : volume_now ≡ volume
@@ -95,7 +97,9 @@ module _ (whole old : List ℕ) (at : ℕ) (within : at + length old ≤ length 
     front : take (start - at) (buffer_at whole old at place) ≡ take (start - at) (drop at whole)
     front =
         let d : start - at ≡ filled at (length old) place = omega arith in
-        ap (λ n. take n (buffer_at whole old at place)) d ∙ take_at (take (filled at (length old) place) (drop at whole)) (drop (filled at (length old) place) old) (filled at (length old) place) (front_length place)
+        ap (λ n. take n (buffer_at whole old at place)) d ∙ take_at
+        (take (filled at (length old) place) (drop at whole)) (drop (filled at (length old) place) old)
+        (filled at (length old) place) (front_length place)
         ∙ ap (λ n. take n (drop at whole)) (sym d)
 
     behind : drop (end - at) (buffer_at whole old at place) ≡ drop (filled at (length old) (place + 1)) old
@@ -115,12 +119,16 @@ module _ (whole old : List ℕ) (at : ℕ) (within : at + length old ≤ length 
         ∙ ap (take (end - start)) (drop-take inner (256 - inner) (drop (256 * place) whole) ∙ ap (take (256 - inner)) (drop-drop inner (256 * place) whole))
         ∙ take-take (end - start) (256 - inner) (drop (256 * place + inner) whole) (omega arith) ∙ ap (λ n. take (end - start) (drop n whole)) there
 
-    pub piece_more : take (start - at) (buffer_at whole old at place) ++ take (end - start) (drop (start - 256 * place) sector) ++ drop (end - at) (buffer_at whole old at place) ≡ buffer_at whole old at (place + 1)
+    pub piece_more : take (start - at) (buffer_at whole old at place) ++ take (end - start)
+        (drop (start - 256 * place) sector) ++ drop (end - at) (buffer_at whole old at place) ≡ buffer_at whole old at
+        (place + 1)
     piece_more =
         let both : start - at + (end - start) ≡ filled at (length old) (place + 1) = omega arith in
         let there : at + (start - at) ≡ start = omega arith in
         ap (λ b. b ++ take (end - start) (drop (start - 256 * place) sector) ++ drop (end - at) (buffer_at whole old at place)) front
-        ∙ ap (λ b. take (start - at) (drop at whole) ++ b ++ drop (end - at) (buffer_at whole old at place)) (middle ∙ ap (λ n. take (end - start) (drop n whole)) (sym there) ∙ ap (take (end - start)) (sym (drop-drop (start - at) at whole)))
+        ∙ ap (λ b. take (start - at) (drop at whole) ++ b ++ drop (end - at) (buffer_at whole old at place))
+        (middle ∙ ap (λ n. take (end - start) (drop n whole)) (sym there) ∙ ap (take (end - start))
+        (sym (drop-drop (start - at) at whole)))
         ∙ ap (λ b. b ++ drop (end - at) (buffer_at whole old at place)) (sym (take-add (start - at) (end - start) (drop at whole)) ∙ ap (λ n. take n (drop at whole)) both)
         ∙ ap (λ b. take (filled at (length old) (place + 1)) (drop at whole) ++ b) behind
 

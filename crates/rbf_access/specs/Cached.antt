@@ -1,5 +1,5 @@
 -- The sectors that are cached of a mounted volume.
-use Rattle.std.specs.Prelude.{◌≡◌, ℕ, ◌+◌, ◌<◌, ◌≤◌, Option, Some, IsSome, List, take, slice_index}
+use Rattle.std.specs.Prelude.{◌≡◌, ℕ, ◌+◌, ◌<◌, ◌≤◌, Option, Some, IsSome, List, take, slice_index, Result, OnOk}
 use Rattle.rbf_model.specs.Segments.{sectors_of}
 use Rattle.os9_outer.specs.Drive.{sector_at}
 use Rattle.sector_cache.specs.declared.sector.Sector.{Sector}
@@ -32,3 +32,10 @@ pub record IsUsed (lsn : ℕ) (old new : List Sector) : Type 0 where
 pub record StayFirst (segments : List (ℕ × ℕ)) (from count : ℕ) (old new : List Sector) : Type 0 where
   pub first : count ≤ 64 → AreHeld (take count new) segments from (from + count)
   pub others : (n m : ℕ) → n + count ≤ 64 → IsHeld (take n old) m → IsHeld (take (n + count) new) m
+
+-- how the sectors of these segments from a place on, so many of them, are read through the cache: if all of them are
+-- held, no call of the drive is made; when they have been read, they have been used
+pub record UsesSectors {A Fault : Type 0} (segments : List (ℕ × ℕ)) (from count : ℕ) (result : Result A Fault)
+    (old new : List Sector) (calls calls_now : ℕ) : Type 0 where
+  pub hits : AreHeld old segments from (from + count) → calls_now ≡ calls
+  pub held : OnOk result (StayFirst segments from count old new)

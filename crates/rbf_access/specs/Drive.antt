@@ -20,10 +20,11 @@ drive_counts members driver =
       calls = members.drive_calls driver;
     }
 
--- the counts of a drive that is lent: the table of its methods gives the driver's ghost members
-abbrev pub counts_of : {Table : Type 0} {Driver : Table → Type 0} → ((table : Table) → Ghosts (Driver table))
-    → (table : Table) × Driver table → DriveCounts
-counts_of members drive = drive_counts (members drive.0) drive.1
+-- the counts of a drive that is lent, as `counts_of BlockDriver-dyn d.now`
+abbrev pub counts_of : {Table : Type 0} {Driver : Table → Type 0}
+    → ((drive : (table : Table) × Driver table) → Ghosts (Driver drive.0)) → (table : Table) × Driver table
+    → DriveCounts
+counts_of members drive = drive_counts (members drive) drive.1
 
 -- a call that made at most so many reads and writes, and that the fault of this number ended, if any: then the count
 -- of faults rose, and the fault is the last one; without a fault the count and the last fault are as before
@@ -35,9 +36,10 @@ pub record MovesCounts (fault : Option ℕ) (most : ℕ) (before now : DriveCoun
   pub kept : IfNone fault (now.faults ≡ before.faults)
   pub last_kept : IfNone fault (now.last ≡ before.last)
 
--- the same of a drive that is lent, as `Counts ⟦<dyn BlockDriver as BlockDriver>⟧ fault most d.old d.new`
-abbrev pub Counts : {Table : Type 0} {Driver : Table → Type 0} → ((table : Table) → Ghosts (Driver table))
-    → Option ℕ → ℕ → (table : Table) × Driver table → (table : Table) × Driver table → Type 0
+-- the same of a drive that is lent, as `Counts BlockDriver-dyn fault most d.old d.new`
+abbrev pub Counts : {Table : Type 0} {Driver : Table → Type 0}
+    → ((drive : (table : Table) × Driver table) → Ghosts (Driver drive.0)) → Option ℕ → ℕ
+    → (table : Table) × Driver table → (table : Table) × Driver table → Type 0
 Counts members fault most before now = MovesCounts fault most (counts_of members before) (counts_of members now)
 
 -- exactly so many reads and writes were made, as far as the count tells: it stands still at its last value

@@ -1,7 +1,7 @@
 -- What is read of a file.
-use Rattle.std.specs.Prelude.{◌≡◌, true, ℕ, ◌+◌, ◌/◌, ◌<◌, Option, Some, List, ◌++◌, length, min, drop}
+use Rattle.std.specs.Prelude.{◌≡◌, true, ℕ, ◌+◌, ◌-◌, ◌*◌, ◌/◌, ◌^◌, ◌<◌, ◌≤◌, Option, Some, List, ◌++◌, length, min, drop, Result, OnOk}
 use Rattle.os9_outer.specs.Drive.{sector_count as drive_sectors}
-use Rattle.rbf_model.specs.Segments.{has}
+use Rattle.rbf_model.specs.Segments.{has, sectors_of}
 use Rattle.rbf_model.specs.File.{DiskFile}
 use Rattle.rbf_model.specs.Volume.{DiskVolume}
 use Rattle.rbf_sector.specs.declared.fd.Fd.{Fd}
@@ -49,8 +49,21 @@ read_calls file at room = 1 + sector_span at (min (at + room) (length file.conte
 abbrev pub AreOnDrive : Option (List ℕ) → List ℕ → Type 0
 AreOnDrive media sectors = (s : ℕ) → has sectors s ≡ true → s < drive_sectors media
 
+-- the drive has the sectors of these segments, and they have so many bytes from a place on
+pub record HaveBytes (media : Option (List ℕ)) (segments : List (ℕ × ℕ)) (at count : ℕ) : Type 0 where
+  pub on_drive : AreOnDrive media (sectors_of segments)
+  pub within : count ≤ 256 * length (sectors_of segments) - at
+  pub fits : at + count < 2 ^ 32
+
 -- all sectors of a read are cached: the descriptor, and those of which it reads a byte
 pub record AreCached (held : List Sector) (fd : ℕ) (file : DiskFile) (at room : ℕ) : Type 0 where
   pub descriptor : IsHeld held fd
   pub sectors : AreHeld held file.segments (at / 256)
       (at / 256 + sector_span at (min (at + room) (length file.contents)))
+
+-- how a read of file n goes through the cache: if all its sectors are cached, no call of the drive is made; when it has
+-- been read, they are cached if they are 64 at most
+pub record UsesCache {A Fault : Type 0} (n : ℕ) (file : DiskFile) (at room : ℕ) (result : Result A Fault)
+    (old new : List Sector) (calls calls_now : ℕ) : Type 0 where
+  pub hits : AreCached old n file at room → calls_now ≡ calls
+  pub held : OnOk result (read_calls file at room ≤ 64 → AreCached new n file at room)

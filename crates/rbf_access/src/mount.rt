@@ -31,7 +31,7 @@ impl Volume {
         ensures media_kept { media d.new ≡ media d.old }
         ensures made { IfOk result (λ volume.
             Made (mount_calls volume) (drive_calls d.old) (drive_calls d.new)) }
-        ensures counts { Counts ⟦<dyn BlockDriver as BlockDriver>⟧
+        ensures counts { Counts BlockDriver-dyn
             (volume_fault result) (media_calls (media d.old)) d.old d.new }
         ensures refused_calls { IsErrOf result VolFault.NotRbf
             → drive_calls d.new ≤ drive_calls d.old + 1 }
@@ -48,7 +48,7 @@ fn read_identification(d: &mut dyn BlockDriver) -> Result<Ident, VolFault>
     ensures ident { IfOk result (IsIdentOf (media d.old)) }
     ensures not_rbf { IsErrOf result VolFault.NotRbf → ¬ HoldsVolume (media d.old) }
     ensures media_kept { media d.new ≡ media d.old }
-    ensures counts { Counts ⟦<dyn BlockDriver as BlockDriver>⟧ (volume_fault result) 1 d.old d.new }
+    ensures counts { Counts BlockDriver-dyn (volume_fault result) 1 d.old d.new }
     ensures empty { sector_count (media d.old) ≡ 0 → drive_calls d.new ≡ drive_calls d.old }
     ensures made { OnOk result (Made 1 (drive_calls d.old) (drive_calls d.new)) }
 {
@@ -85,7 +85,7 @@ fn read_map(alloc: Global, d: &mut dyn BlockDriver, ident: &Ident) -> Result<Rbf
     ensures map { IfOk result (IsMapOf (media d.old)) }
     ensures rbf { ¬ IsErrOf result VolFault.NotRbf }
     ensures media_kept { media d.new ≡ media d.old }
-    ensures counts { Counts ⟦<dyn BlockDriver as BlockDriver>⟧
+    ensures counts { Counts BlockDriver-dyn
         (volume_fault result) (map_sectors (geometry_of ident.now)) d.old d.new }
     ensures made { OnOk result
         (Made (map_sectors (geometry_of ident.now)) (drive_calls d.old) (drive_calls d.new)) }
@@ -103,8 +103,7 @@ fn read_map_bytes(alloc: Global, d: &mut dyn BlockDriver, end: u16) -> Result<Ve
     ensures bytes { IfOk result (λ bytes. bytes.items ≡ map_bytes (media d.old) (end - 1)) }
     ensures rbf { ¬ IsErrOf result VolFault.NotRbf }
     ensures media_kept { media d.new ≡ media d.old }
-    ensures counts { Counts ⟦<dyn BlockDriver as BlockDriver>⟧
-        (volume_fault result) (end - 1) d.old d.new }
+    ensures counts { Counts BlockDriver-dyn (volume_fault result) (end - 1) d.old d.new }
     ensures made { OnOk result (Made (end - 1) (drive_calls d.old) (drive_calls d.new)) }
 {
     let mut bytes = Vec::new(alloc);

@@ -1,17 +1,16 @@
-ghost use Rattle.std.specs.Prelude.{◌≡◌, ◌+◌, ◌-◌, ◌*◌, ◌/◌, ◌^◌, ◌<◌, ◌≤◌, ◌++◌, ℕ, List, IfOk, IsSome, OnOk, OnErr, drop, length, max, min, take};
+ghost use Rattle.std.specs.Prelude.{◌≡◌, ◌+◌, ◌-◌, ◌*◌, ◌/◌, ◌^◌, ◌<◌, ◌++◌, ℕ, List, IfOk, IsSome, OnOk, OnErr, drop, length, max, min, take};
 ghost use Rattle.os9_outer.specs.Drive.{sector_at};
 ghost use Rattle.rbf_model.specs.File.{segment_bytes};
-ghost use Rattle.rbf_model.specs.Segments.{sectors_of};
 ghost use Rattle.rbf_model.specs.Volume.{DiskVolume, Vol};
 ghost use Rattle.rbf_map.specs.Map.{map_free_clusters};
 ghost use Rattle.rbf_change.specs.Calls.{free_total, shape};
 ghost use Rattle.rbf_change.specs.Agrees.{Agrees};
 ghost use Rattle.rbf_change.specs.Contents.{bytes_from, sector_span};
-ghost use Rattle.rbf_access.specs.Cached.{AreHeld, IsCacheOf, IsHeld, IsUsed, StayFirst};
+ghost use Rattle.rbf_access.specs.Cached.{IsCacheOf, IsHeld, IsUsed, UsesSectors};
 ghost use Rattle.rbf_access.specs.Drive.{Counts};
 ghost use Rattle.rbf_access.specs.Faults.{file_fault};
 ghost use Rattle.rbf_access.specs.Mounted.{kept, HasFile, IsMounted, Represents};
-ghost use Rattle.rbf_access.specs.Reading.{AreCached, AreOnDrive, IsFdOf, IsRead, OnFile, read_calls};
+ghost use Rattle.rbf_access.specs.Reading.{HaveBytes, IsFdOf, IsRead, OnFile, UsesCache, read_calls};
 
 use crate::faults::FileFault;
 use crate::volume::Volume;
@@ -57,8 +56,7 @@ impl Volume {
         ensures used { OnOk result (IsUsed lsn self.old.cache self.new.cache) }
         ensures still { (m : ℕ) → IsHeld self.old.cache lsn → IsHeld self.old.cache m
             → IsHeld self.new.cache m }
-        ensures counts { Counts ⟦<dyn BlockDriver as BlockDriver>⟧
-            (file_fault result) 1 d.old d.new }
+        ensures counts { Counts BlockDriver-dyn (file_fault result) 1 d.old d.new }
     {
         let bytes = self.load(d, lsn)?;
         Ok(read_fd(&bytes))
@@ -85,14 +83,9 @@ impl Volume {
         ensures mounted { IsMounted self.new (media d.new) }
         ensures media_kept { media d.new ≡ media d.old }
         ensures volume_kept { kept self.new ≡ kept self.old }
-        // Where all its sectors are cached no call of the drive is made; afterwards they are, if they
-        // are 64 at most.
-        ensures hits { OnFile (media d.old) fd (λ file. AreCached self.old.cache fd file at
-            (length into.old) → drive_calls d.new ≡ drive_calls d.old) }
-        ensures held { OnFile (media d.old) fd (λ file. OnOk result
-            (read_calls file at (length into.old) ≤ 64
-            → AreCached self.new.cache fd file at (length into.old))) }
-        ensures counts { OnFile (media d.old) fd (λ file. Counts ⟦<dyn BlockDriver as BlockDriver>⟧
+        ensures cache { OnFile (media d.old) fd (λ file. UsesCache fd file at (length into.old)
+            result self.old.cache self.new.cache (drive_calls d.old) (drive_calls d.new)) }
+        ensures counts { OnFile (media d.old) fd (λ file. Counts BlockDriver-dyn
             (file_fault result) (read_calls file at (length into.old)) d.old d.new) }
     {
         let file = self.fd(d, fd)?;
@@ -110,21 +103,16 @@ impl Volume {
         into: &mut [u8],
     ) -> Result<(), FileFault>
         requires cached { IsCacheOf (media d.old) self.old.cache }
-        requires on_drive { AreOnDrive (media d.old) (sectors_of segs.now) }
-        requires within { length into.old ≤ 256 * length (sectors_of segs.now) - at }
-        requires fits { at + length into.old < 2 ^ 32 }
+        requires bytes { HaveBytes (media d.old) segs.now at (length into.old) }
         ensures bytes { OnOk result (into.new
             ≡ bytes_from (segment_bytes (sector_at (media d.old)) segs.now) at (length into.old)) }
         ensures device { OnErr result (IsSome (file_fault result)) }
         ensures media_kept { media d.new ≡ media d.old }
         ensures volume_kept { kept self.new ≡ kept self.old }
         ensures cached { IsCacheOf (media d.new) self.new.cache }
-        ensures hits { AreHeld self.old.cache segs.now (at / 256)
-            (at / 256 + sector_span at (at + length into.old))
-            → drive_calls d.new ≡ drive_calls d.old }
-        ensures held { OnOk result (StayFirst segs.now (at / 256)
-            (sector_span at (at + length into.old)) self.old.cache self.new.cache) }
-        ensures counts { Counts ⟦<dyn BlockDriver as BlockDriver>⟧
+        ensures cache { UsesSectors segs.now (at / 256) (sector_span at (at + length into.old))
+            result self.old.cache self.new.cache (drive_calls d.old) (drive_calls d.new) }
+        ensures counts { Counts BlockDriver-dyn
             (file_fault result) (sector_span at (at + length into.old)) d.old d.new }
     {
         if into.is_empty() {

@@ -11,7 +11,7 @@ pub fn read_sector(d: &mut dyn BlockDriver, lsn: u32) -> Result<[u8; 256], Drive
     requires { lsn < sector_count (media d.old) }
     ensures bytes { IfOk result (λ bytes. bytes ≡ sector_at (media d.old) lsn) }
     ensures media_kept { media d.new ≡ media d.old }
-    ensures counts { Counts ⟦<dyn BlockDriver as BlockDriver>⟧ (drive_fault result) 1 d.old d.new }
+    ensures counts { Counts BlockDriver-dyn (drive_fault result) 1 d.old d.new }
     ensures made { Made 1 (drive_calls d.old) (drive_calls d.new) }
 {
     let mut bytes = [0; 256];
@@ -27,7 +27,7 @@ pub fn write_sector(d: &mut dyn BlockDriver, lsn: u32, from: &[u8; 256]) -> Resu
     requires sound { IsSound (with_sector (media d.old) lsn from.now) }
     ensures written { OnOk result (media d.new ≡ with_sector (media d.old) lsn from.now) }
     ensures media_kept { OnErr result (media d.new ≡ media d.old) }
-    ensures counts { Counts ⟦<dyn BlockDriver as BlockDriver>⟧ (drive_fault result) 1 d.old d.new }
+    ensures counts { Counts BlockDriver-dyn (drive_fault result) 1 d.old d.new }
 {
     d.write(lsn, from)
 }

@@ -40,8 +40,7 @@ impl Volume {
         ensures used { OnOk result (IsUsed lsn self.old.cache self.new.cache) }
         ensures left { OnErr result (self.new.cache ≡ self.old.cache) }
         ensures still { StayHeld lsn self.old.cache self.new.cache }
-        ensures counts { Counts ⟦<dyn BlockDriver as BlockDriver>⟧
-            (file_fault result) 1 d.old d.new }
+        ensures counts { Counts BlockDriver-dyn (file_fault result) 1 d.old d.new }
     {
         let mut bytes = [0; 256];
         if self.cache.get(0, lsn, &mut bytes) {
@@ -76,10 +75,10 @@ impl Volume {
         ensures device { OnErr result (IsSome (file_fault result)) }
         ensures volume_kept { kept self.new ≡ kept self.old }
         ensures cached { IsCacheOf (media d.new) self.new.cache }
-        ensures first { OnOk result (self.new.cache ≡ take 64 (put_first self.old.cache 0 lsn from.now)) }
+        ensures first { OnOk result
+            (self.new.cache ≡ take 64 (put_first self.old.cache 0 lsn from.now)) }
         ensures forgotten { OnErr result (self.new.cache ≡ without self.old.cache 0 lsn) }
-        ensures counts { Counts ⟦<dyn BlockDriver as BlockDriver>⟧
-            (file_fault result) 1 d.old d.new }
+        ensures counts { Counts BlockDriver-dyn (file_fault result) 1 d.old d.new }
     {
         match write_sector(d, lsn, from) {
             Ok(()) => {

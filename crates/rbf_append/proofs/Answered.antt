@@ -40,14 +40,17 @@ abbrev pub appending : ℕ → ℕ → List ℕ → TimePacket → EntryWrite
 appending d place entry now = record { directory = d; place = place; entry = entry; now = now }
 
 -- the drive's fault
-pub fault_answers : (v : DiskVolume) (dir : DiskFile) (a : EntryWrite) (m0 m1 : Option (List ℕ)) (e : FileFault) → IsSome (file_fault {A = Unit {0}} (Err e)) → EntryStops v dir a m0 m1 → AnswersEntry v dir a m0 m1 (Err e)
+pub fault_answers : (v : DiskVolume) (dir : DiskFile) (a : EntryWrite) (m0 m1 : Option (List ℕ)) (e : FileFault)
+    → IsSome (file_fault {A = Unit {0}} (Err e)) → EntryStops v dir a m0 m1 → AnswersEntry v dir a m0 m1 (Err e)
 fault_answers v dir a m0 m1 (Device x) is stops = stops
 fault_answers v dir a m0 m1 NoCluster is stops = absurd (both_ways false refl is)
 fault_answers v dir a m0 m1 TooManyRuns is stops = absurd (both_ways false refl is)
 
 module _ (m0 : Option (List ℕ)) (a : EntryWrite) (may : MayAppend m0 a.directory a.place a.entry) (whole : length a.entry ≡ 32) where
   -- whichever volume the media represents
-  pub any_file : (m1 : Option (List ℕ)) (r : Result (Unit {0}) FileFault) → AnswersEntry may.content may.dir a m0 m1 r → (v : DiskVolume) (file : DiskFile) → Represents m0 v → v.files a.directory ≡ Some file → AnswersEntry v file a m0 m1 r
+  pub any_file : (m1 : Option (List ℕ)) (r : Result (Unit {0}) FileFault) → AnswersEntry may.content may.dir a m0 m1 r
+      → (v : DiskVolume) (file : DiskFile) → Represents m0 v → v.files a.directory ≡ Some file
+      → AnswersEntry v file a m0 m1 r
   any_file m1 r answer v file on is =
       let same : may.content ≡ v = same_content m0 may.content v may.on on in
       let one : may.dir ≡ file = same_Some may.dir file (sym may.is ∙ ap (λ (w : DiskVolume). w.files a.directory) same ∙ is) in
@@ -85,7 +88,9 @@ module _ (m0 : Option (List ℕ)) (a : EntryWrite) (may : MayAppend m0 a.directo
       count_few : count ≤ 1
       count_few = let few = needs_few m0 a may whole in let same_count = counted in omega arith
 
-      grows_here : (mid : Option (List ℕ)) (r : Result (List (ℕ × ℕ)) FileFault) → ((v : DiskVolume) → Represents m1 v → Grows v count loaded.file.segs m1 mid r) → Grows may.content count may.dir.segments m0 mid r
+      grows_here : (mid : Option (List ℕ)) (r : Result (List (ℕ × ℕ)) FileFault)
+          → ((v : DiskVolume) → Represents m1 v → Grows v count loaded.file.segs m1 mid r)
+          → Grows may.content count may.dir.segments m0 mid r
       grows_here mid r grows =
           subst (λ m. Grows may.content count may.dir.segments m mid r) same
           (subst (λ xs. Grows may.content count xs m1 mid r) says.segments_are (grows may.content (record { image = may.on.image; is = same ∙ may.on.is; vol = may.on.vol })))
@@ -132,7 +137,8 @@ module _ (m0 : Option (List ℕ)) (a : EntryWrite) (may : MayAppend m0 a.directo
         pub same_list : length (sectors_of longer) ≡ length (sectors_of loaded.file.segs) → longer ≡ loaded.file.segs
         same_list size =
             let k = cluster_size may.content in
-            let all : length (sectors_of longer) ≡ length (sectors_of may.dir.segments) + length grown.taken * k = ap (λ xs. length (sectors_of xs)) grown.segments ∙ length-with k may.dir.segments grown.taken in
+            let all : length (sectors_of longer) ≡ length (sectors_of may.dir.segments) + length grown.taken * k =
+            ap (λ xs. length (sectors_of xs)) grown.segments ∙ length-with k may.dir.segments grown.taken in
             let had : length (sectors_of loaded.file.segs) ≡ length (sectors_of may.dir.segments) = ap (λ xs. length (sectors_of xs)) says.segments_are in
             let some : length grown.taken * 1 ≤ length grown.taken * k = mul-le-mul_left (length grown.taken) (positive m0 a may whole) in
             let none : grown.taken ≡ [] = nil_from_length grown.taken (omega arith) in
@@ -148,7 +154,9 @@ module _ (m0 : Option (List ℕ)) (a : EntryWrite) (may : MayAppend m0 a.directo
           pub put_on_drive : lsn < drive_sectors mid
           put_on_drive = subst (λ s. s < drive_sectors mid) (sym lsn_is) (on_drive m0 a may whole count counted mid longer grown)
 
-          pub put_answers : (m2 : Option (List ℕ)) (e : FileFault) → IsSome (file_fault {A = Unit {0}} (Err e)) → m2 ≡ mid → (v : DiskVolume) (file : DiskFile) → Represents m0 v → v.files a.directory ≡ Some file → AnswersEntry v file a m0 m2 (Err e)
+          pub put_answers : (m2 : Option (List ℕ)) (e : FileFault) → IsSome (file_fault {A = Unit {0}} (Err e))
+              → m2 ≡ mid → (v : DiskVolume) (file : DiskFile) → Represents m0 v → v.files a.directory ≡ Some file
+              → AnswersEntry v file a m0 m2 (Err e)
           put_answers m2 e device still =
               any_file m2 (Err e) (fault_answers may.content may.dir a m0 m2 e device (unput m0 a may whole count counted mid longer grown m2 still))
 
@@ -165,7 +173,9 @@ module _ (m0 : Option (List ℕ)) (a : EntryWrite) (may : MayAppend m0 a.directo
             pub store_on_drive : a.directory < drive_sectors m2
             store_on_drive = descriptor_on_drive m0 a may whole count counted mid longer grown m2 written_at
 
-            pub store_answers : (m3 : Option (List ℕ)) (e : FileFault) → IsSome (file_fault {A = Unit {0}} (Err e)) → m3 ≡ m2 → (v : DiskVolume) (file : DiskFile) → Represents m0 v → v.files a.directory ≡ Some file → AnswersEntry v file a m0 m3 (Err e)
+            pub store_answers : (m3 : Option (List ℕ)) (e : FileFault) → IsSome (file_fault {A = Unit {0}} (Err e))
+                → m3 ≡ m2 → (v : DiskVolume) (file : DiskFile) → Represents m0 v → v.files a.directory ≡ Some file
+                → AnswersEntry v file a m0 m3 (Err e)
             store_answers m3 e device still =
                 any_file m3 (Err e) (fault_answers may.content may.dir a m0 m3 e device (unnamed m0 a may whole count counted mid longer grown m2 written_at m3 still))
 

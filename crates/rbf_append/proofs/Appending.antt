@@ -121,7 +121,8 @@ module _ (m0 : Option (List ℕ)) (a : EntryWrite) (may : MayAppend m0 a.directo
       let end = may.end in
       ap length (written_at_end dir.contents entry (32 * place) (omega arith) may.end) ∙ length-append dir.contents entry ∙ omega arith
 
-  choice_of : (count : ℕ) (taken : List ℕ) → count ≡ place_clusters v dir place → IsChosen k count (is_free_in v) dir.segments taken → IsChoice k (is_free_in v) dir.segments (length (written dir.contents (32 * place) entry)) taken
+  choice_of : (count : ℕ) (taken : List ℕ) → count ≡ place_clusters v dir place
+      → IsChosen k count (is_free_in v) dir.segments taken → IsChoice k (is_free_in v) dir.segments (length (written dir.contents (32 * place) entry)) taken
   choice_of count taken counted chosen = record { enough = chosen.counted ∙ counted ∙ ap (clusters_needed k dir.segments) (sym size_then); gained = chosen.gained; fits = chosen.fits }
 
   -- a free cluster has no sector of the map
@@ -191,7 +192,10 @@ module _ (m0 : Option (List ℕ)) (a : EntryWrite) (may : MayAppend m0 a.directo
       vol = ends.vol;
       lose = ends.lose;
       others = λ s none differ. ends.changes.others s none;
-      order = inl (ends.changes.others (sector_of_place (with_clusters k dir.segments ends.taken) place) (subst (λ i. ¬ IsMapSector (image_geometry i) (sector_of_place (with_clusters k dir.segments ends.taken) place)) (same_Some image0 ends.image (sym may.on.is ∙ ends.was)) (at_no_map ends.taken ends.chosen)));
+      order =
+          inl (ends.changes.others (sector_of_place (with_clusters k dir.segments ends.taken) place)
+          (subst (λ i. ¬ IsMapSector (image_geometry i) (sector_of_place (with_clusters k dir.segments ends.taken)
+          place)) (same_Some image0 ends.image (sym may.on.is ∙ ends.was)) (at_no_map ends.taken ends.chosen)));
       named =
           let same : image0 ≡ ends.image = same_Some image0 ends.image (sym may.on.is ∙ ends.was) in
           subst (λ i. file_at (sector ends.now) n ≡ file_at (sector i) n) same
@@ -200,7 +204,8 @@ module _ (m0 : Option (List ℕ)) (a : EntryWrite) (may : MayAppend m0 a.directo
     }
 
     -- the room was there
-    pub growth_answers : (mid : Option (List ℕ)) (fault : FileFault) → Grows v count dir.segments m0 mid (Err fault) → (IsSome (file_fault {A = Unit {0}} (Err fault))) × AnswersEntry v dir a m0 mid (Err fault)
+    pub growth_answers : (mid : Option (List ℕ)) (fault : FileFault) → Grows v count dir.segments m0 mid (Err fault)
+        → (IsSome (file_fault {A = Unit {0}} (Err fault))) × AnswersEntry v dir a m0 mid (Err fault)
     growth_answers mid (Device x) grows = (refl, growth_stops mid grows.ends)
     growth_answers mid NoCluster grows =
         let enough = may.room.enough in
@@ -470,7 +475,8 @@ module _ (m0 : Option (List ℕ)) (a : EntryWrite) (may : MayAppend m0 a.directo
         }
 
         -- the descriptor is written
-        module _ (loaded : Loaded) (says : IsFdOf dir loaded.file) (descriptor : loaded.descriptor ≡ sector_at m0 d) (bytes : List ℕ) (resized : IsResized loaded longer (32 * (place + 1)) a.now bytes) where
+        module _ (loaded : Loaded) (says : IsFdOf dir loaded.file) (descriptor : loaded.descriptor ≡ sector_at m0 d)
+            (bytes : List ℕ) (resized : IsResized loaded longer (32 * (place + 1)) a.now bytes) where
           abbrev new_dir : DiskFile
           new_dir = file_from (sector image2) bytes
 
@@ -505,7 +511,12 @@ module _ (m0 : Option (List ℕ)) (a : EntryWrite) (may : MayAppend m0 a.directo
           contents_then : new_dir.contents ≡ dir.contents ++ entry
           contents_then =
               let end = may.end in
-              let long : 32 * place ≤ length (segment_bytes (sector image2) dir.segments) = omega (arith, ap length old_contents, length-take (length dir.contents) (segment_bytes (sector image2) dir.segments)) in
+              let long : 32 * place ≤ length (segment_bytes (sector image2) dir.segments) =
+              omega (
+                arith,
+                ap length old_contents,
+                length-take (length dir.contents) (segment_bytes (sector image2) dir.segments),
+              ) in
               let within : place / 8 < length (sectors_of dir.segments ++ more) = subst (λ xs. place / 8 < length xs) sectors_are (within_place taken grown.chosen) in
               ap (λ s. take s (segment_bytes (sector image2) (segments_field bytes))) resized.fields.size_is
               ∙ ap (λ xs. take (32 * (place + 1)) (segment_bytes (sector image2) xs)) list_is

@@ -92,14 +92,17 @@ one_needed k segments place some room =
         mul_div_one m p = ap (λ x. x / m) (let e : m ≡ 1 * m = omega arith in e) ∙ mul-div_cancel 1 p
 
 -- a choice of one cluster or none
-pub choice_exists : (k : ℕ) (free : ℕ → Bool) (segments : List (ℕ × ℕ)) (size : ℕ) → clusters_needed k segments size ≤ 1 → length segments ≤ 48 → (1 ≤ clusters_needed k segments size → length segments < 48)
+pub choice_exists : (k : ℕ) (free : ℕ → Bool) (segments : List (ℕ × ℕ)) (size : ℕ) → clusters_needed k segments size ≤ 1
+    → length segments ≤ 48 → (1 ≤ clusters_needed k segments size → length segments < 48)
     → ((c : ℕ) → uses k segments c ≡ true → free c ≡ false) → (1 ≤ clusters_needed k segments size → (c : ℕ) × (free c ≡ true)) → (taken : List ℕ) × IsChoice k free segments size taken
 choice_exists k free segments size few most room apart some = ⊎_elim
     (λ none. ([], record { enough = sym none; gained = tt; fits = most }))
     (λ needs.
     let one : 1 ≤ clusters_needed k segments size = omega arith in
     let c = some one in
-    let beside : free_beside k free segments c.0 ≡ true = and_from (free c.0) (not (uses k segments c.0)) c.1 (not_from_false (uses k segments c.0) (false_from_ne_true (uses k segments c.0) (λ h. both_ways (free c.0) (apart c.0 h) c.1))) in
+    let beside : free_beside k free segments c.0 ≡ true =
+    and_from (free c.0) (not (uses k segments c.0)) c.1 (not_from_false (uses k segments c.0)
+    (false_from_ne_true (uses k segments c.0) (λ h. both_ways (free c.0) (apart c.0 h) c.1))) in
     let d = one_gained k (free_beside k free segments) segments c.0 beside in (
       d.0 ∷ [],
       record {

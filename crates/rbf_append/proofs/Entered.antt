@@ -69,7 +69,9 @@ module _ (m0 : Option (List ℕ)) (d place : ℕ) (entry : List ℕ) (may : MayE
         let there = low in
         let at = may.place_is in
         subst (λ n. MovesCounts f n s t)
-        (sym (cond-true (nat_lt (32 * entry_place may.dir.contents) (length may.dir.contents)) 2 (if nat_lt 0 (entry_clusters (cluster_size may.content) may.dir) then 4 else 3) (lt-ltb (32 * entry_place may.dir.contents) (length may.dir.contents) (omega arith)))) moved)
+        (sym (cond-true (nat_lt (32 * entry_place may.dir.contents) (length may.dir.contents)) 2
+        (if nat_lt 0 (entry_clusters (cluster_size may.content) may.dir) then 4 else 3)
+        (lt-ltb (32 * entry_place may.dir.contents) (length may.dir.contents) (omega arith)))) moved)
 
   module _ (outside : loaded.file.size / 32 ≤ place) where
     ends_there : length may.dir.contents ≡ 32 * place
@@ -92,12 +94,17 @@ module _ (m0 : Option (List ℕ)) (d place : ℕ) (entry : List ℕ) (may : MayE
       calls_here =
           let end = ends_there in
           let at = may.place_is in
-          let same : entry_clusters (cluster_size may.content) may.dir ≡ place_clusters may.content may.dir place = ap (λ p. clusters_needed (cluster_size may.content) may.dir.segments (32 * (p + 1))) (sym may.place_is) in
+          let same : entry_clusters (cluster_size may.content) may.dir ≡ place_clusters may.content may.dir place =
+          ap (λ p. clusters_needed (cluster_size may.content) may.dir.segments (32 * (p + 1))) (sym may.place_is) in
           subst (λ n. 3 + place_clusters may.content may.dir place ≤ n)
-          (sym (cond-false (nat_lt (32 * entry_place may.dir.contents) (length may.dir.contents)) 2 (if nat_lt 0 (entry_clusters (cluster_size may.content) may.dir) then 4 else 3) (le-ltb (32 * entry_place may.dir.contents) (length may.dir.contents) (omega arith))))
+          (sym (cond-false (nat_lt (32 * entry_place may.dir.contents) (length may.dir.contents)) 2
+          (if nat_lt 0 (entry_clusters (cluster_size may.content) may.dir) then 4 else 3)
+          (le-ltb (32 * entry_place may.dir.contents) (length may.dir.contents) (omega arith))))
           (subst (λ c. 3 + c ≤ (if nat_lt 0 (entry_clusters (cluster_size may.content) may.dir) then 4 else 3)) same
           (three_or_four (entry_clusters (cluster_size may.content) may.dir) (subst (λ c. c ≤ 1) (sym same) (needs_few m0 a may_append whole))))
 
-      pub append_calls : (v : DiskVolume) (file : DiskFile) → Represents m0 v → v.files d ≡ Some file → (f : Option ℕ) (s t : DriveCounts) → MovesCounts f (3 + place_clusters v file place) s t → MovesCounts f (entry_calls v file) s t
+      pub append_calls : (v : DiskVolume) (file : DiskFile) → Represents m0 v → v.files d ≡ Some file
+          → (f : Option ℕ) (s t : DriveCounts) → MovesCounts f (3 + place_clusters v file place) s t
+          → MovesCounts f (entry_calls v file) s t
       append_calls = any (λ v file. (f : Option ℕ) (s t : DriveCounts) → MovesCounts f (3 + place_clusters v file place) s t → MovesCounts f (entry_calls v file) s t)
           (λ f s t moved. counts_most f (3 + place_clusters may.content may.dir place) (entry_calls may.content may.dir) s t calls_here moved)

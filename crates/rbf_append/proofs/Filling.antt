@@ -67,7 +67,9 @@ module _ (m0 : Option (List ℕ)) (d place : ℕ) (entry : List ℕ) (may : MayF
   k = cluster_size v
 
   -- whichever volume the media represents
-  any_file : (now : TimePacket) (m1 : Option (List ℕ)) (r : Result (Unit {0}) FileFault) → AnswersEntry v dir (a now) m0 m1 r → (w : DiskVolume) (file : DiskFile) → Represents m0 w → w.files d ≡ Some file → AnswersEntry w file (a now) m0 m1 r
+  any_file : (now : TimePacket) (m1 : Option (List ℕ)) (r : Result (Unit {0}) FileFault)
+      → AnswersEntry v dir (a now) m0 m1 r → (w : DiskVolume) (file : DiskFile) → Represents m0 w → w.files d ≡ Some file
+      → AnswersEntry w file (a now) m0 m1 r
   any_file now m1 r answer w file on is =
       let same : v ≡ w = same_content m0 v w may.place.on on in
       let one : dir ≡ file = same_Some dir file (sym may.place.is ∙ ap (λ (x : DiskVolume). x.files d) same ∙ is) in
@@ -107,7 +109,9 @@ module _ (m0 : Option (List ℕ)) (d place : ℕ) (entry : List ℕ) (may : MayF
     end = λ x h. sym (and_not_false (is_marked (sector image0) x));
   }
 
-  unfilled_answers : (now : TimePacket) (m1 : Option (List ℕ)) (e : FileFault) → IsSome (file_fault {A = Unit {0}} (Err e)) → m1 ≡ m0 → (w : DiskVolume) (file : DiskFile) → Represents m0 w → w.files d ≡ Some file → AnswersEntry w file (a now) m0 m1 (Err e)
+  unfilled_answers : (now : TimePacket) (m1 : Option (List ℕ)) (e : FileFault)
+      → IsSome (file_fault {A = Unit {0}} (Err e)) → m1 ≡ m0 → (w : DiskVolume) (file : DiskFile) → Represents m0 w
+      → w.files d ≡ Some file → AnswersEntry w file (a now) m0 m1 (Err e)
   unfilled_answers now m1 e device same = any_file now m1 (Err e) (fault_answers v dir (a now) m0 m1 e device (unfilled now m1 same))
 
   module _ (loaded : Loaded) (is_loaded : IsLoaded m0 d loaded) where
@@ -234,8 +238,12 @@ module _ (m0 : Option (List ℕ)) (d place : ℕ) (entry : List ℕ) (may : MayF
         filled_answers now = any_file now m1 (Ok tt) (is_written now)
 
   -- as it is written, or is not
-  pub entry_answers : (now : TimePacket) (loaded : Loaded) → IsLoaded m0 d loaded → (lsn : ℕ) → slice_get (sectors_of loaded.file.segs) (place / 8) ≡ Some lsn → (m1 : Option (List ℕ)) (r : Result (Unit {0}) FileFault)
-      → OnOk r (m1 ≡ with_piece m0 lsn (32 * (place % 8)) entry) → OnErr r (m1 ≡ m0) → OnErr r (IsSome (file_fault r)) → (w : DiskVolume) (file : DiskFile) → Represents m0 w → w.files d ≡ Some file → AnswersEntry w file (a now) m0 m1 r
+  pub entry_answers : (now : TimePacket) (loaded : Loaded) → IsLoaded m0 d loaded → (lsn : ℕ)
+      → slice_get (sectors_of loaded.file.segs) (place / 8) ≡ Some lsn
+      → (m1 : Option (List ℕ)) (r : Result (Unit {0}) FileFault)
+      → OnOk r (m1 ≡ with_piece m0 lsn (32 * (place % 8)) entry) → OnErr r (m1 ≡ m0) → OnErr r (IsSome (file_fault r))
+      → (w : DiskVolume) (file : DiskFile) → Represents m0 w → w.files d ≡ Some file
+      → AnswersEntry w file (a now) m0 m1 r
   entry_answers now loaded is_loaded lsn there m1 (Ok x) written_to still device = filled_answers loaded is_loaded lsn there m1 written_to now
   entry_answers now loaded is_loaded lsn there m1 (Err e) written_to still device = unfilled_answers now m1 e device still
 

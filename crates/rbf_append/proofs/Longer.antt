@@ -58,7 +58,8 @@ module _ (one other : ℕ → List ℕ) (n : ℕ) (same : (s : ℕ) → has (own
   }
 
 -- the clusters that are lost when a file has another in its place with all its clusters
-lost_of : (in_new in_old whole lost was : Bool) → (in_new ≡ true → was ≡ false) → (in_new ≡ false → (in_old ≡ false) × (lost ≡ was)) → (if in_new then false else (if in_old then whole else lost)) ≡ was
+lost_of : (in_new in_old whole lost was : Bool) → (in_new ≡ true → was ≡ false)
+    → (in_new ≡ false → (in_old ≡ false) × (lost ≡ was)) → (if in_new then false else (if in_old then whole else lost)) ≡ was
 lost_of true in_old whole lost was new other = sym (new refl)
 lost_of false true whole lost was new other = absurd (both_ways true (other refl).0 refl)
 lost_of false false whole lost was new other = (other refl).1
@@ -71,7 +72,8 @@ or_none : (t : Bool) → (t || false) ≡ t
 or_none true = refl
 or_none false = refl
 
-module _ (image : List ℕ) (v : DiskVolume) (lost : ℕ → Bool) (taken : List ℕ) (vol : Vol image (with_lost v lost)) (lost_is : (c : ℕ) → lost c ≡ (v.lost c || has taken c)) (not_lost : (c : ℕ) → has taken c ≡ true → v.lost c ≡ false)
+module _ (image : List ℕ) (v : DiskVolume) (lost : ℕ → Bool) (taken : List ℕ) (vol : Vol image (with_lost v lost))
+    (lost_is : (c : ℕ) → lost c ≡ (v.lost c || has taken c)) (not_lost : (c : ℕ) → has taken c ≡ true → v.lost c ≡ false)
     (n : ℕ) (old : DiskFile) (is : v.files n ≡ Some old) (free : ℕ → Bool) (gained : Gains (image_geometry image).cluster free old.segments taken)
     (bytes : List ℕ) (list : segments_field bytes ≡ with_clusters (image_geometry image).cluster old.segments taken) (room : has_room (segments_field bytes) (size_field bytes) ≡ true) where
   abbrev g : Geometry

@@ -68,6 +68,8 @@ needs_entry v dir place entry whole fits =
     ∙ ap (clusters_needed (cluster_size v) dir.segments) (let s : 32 * place + length entry ≡ 32 * (place + 1) = omega arith in s)
 
 -- a place that a directory has needs no cluster
-pub needs_none : (v : DiskVolume) (dir : DiskFile) (place : ℕ) → 1 ≤ cluster_size v → length dir.contents ≤ 256 * length (sectors_of dir.segments) → 32 * (place + 1) ≤ length dir.contents → place_clusters v dir place ≡ 0
+pub needs_none : (v : DiskVolume) (dir : DiskFile) (place : ℕ) → 1 ≤ cluster_size v
+    → length dir.contents ≤ 256 * length (sectors_of dir.segments) → 32 * (place + 1) ≤ length dir.contents
+    → place_clusters v dir place ≡ 0
 needs_none v dir place some fits within =
     no_clusters (cluster_size v) (sector_count (32 * (place + 1)) - length (sectors_of dir.segments)) some (omega arith)

@@ -56,7 +56,9 @@ module _ (media : Option (List ℕ)) (v : DiskVolume) (on : Represents media v) 
       (subst (λ h. has_cluster h g.root r.0 (s / h.cluster) ≡ true) (sym volume_shape)
       (cluster_from_owns g g.root r.0 s (owns_system g r.0 s (has_range 0 (1 + map_sectors g) s (omega arith) (omega arith))))))
 
-  module _ (d place : ℕ) (dir : DiskFile) (is : v.files d ≡ Some dir) (entry : List ℕ) (whole : length entry ≡ 32) (n : ℕ) (file : DiskFile) (fresh : (c : ℕ) → has_cluster (shape v) n file c ≡ true → is_free_in v c ≡ true) (gained : List ℕ)
+  module _ (d place : ℕ) (dir : DiskFile) (is : v.files d ≡ Some dir) (entry : List ℕ) (whole : length entry ≡ 32)
+      (n : ℕ) (file : DiskFile) (fresh : (c : ℕ) → has_cluster (shape v) n file c ≡ true → is_free_in v c ≡ true)
+      (gained : List ℕ)
       (choice : IsChoice k (free_without (shape v) (is_free_in v) n file) dir.segments (length (written dir.contents (32 * place) entry)) gained) where
     abbrev segments : List (ℕ × ℕ)
     segments = with_clusters k dir.segments gained
@@ -91,7 +93,9 @@ module _ (media : Option (List ℕ)) (v : DiskVolume) (on : Represents media v) 
 
     gained_free : has gained (at / k) ≡ true → (is_free_in v (at / k) ≡ true) × (has_cluster (shape v) n file (at / k) ≡ false)
     gained_free h =
-        let both_are = and_parts (is_free_in v (at / k)) (not (has_cluster (shape v) n file (at / k))) (has_free k (free_without (shape v) (is_free_in v) n file) dir.segments gained (at / k) choice.gained h) in
+        let both_are =
+        and_parts (is_free_in v (at / k)) (not (has_cluster (shape v) n file (at / k)))
+        (has_free k (free_without (shape v) (is_free_in v) n file) dir.segments gained (at / k) choice.gained h) in
         (both_are.0, not-true (has_cluster (shape v) n file (at / k)) both_are.1)
 
     pub entry_no_map : (image : List ℕ) → media ≡ Some image → ¬ IsMapSector (image_geometry image) at

@@ -35,8 +35,7 @@ pub fn append_entry(
     ensures device { OnErr result (IsSome (file_fault result)) }
     ensures mounted { IsMounted v.new (media d.new) }
     ensures counts { OnVolumeFile (media d.old) dir.now.number (λ on file.
-        Counts ⟦<dyn BlockDriver as BlockDriver>⟧ (file_fault result)
-        (3 + place_clusters on file place) d.old d.new) }
+        Counts BlockDriver-dyn (file_fault result) (3 + place_clusters on file place) d.old d.new) }
 {
     let count = clusters_for_place(v.ident.cluster, &dir.file.segs, place);
     let longer = grow(v, d, &dir.file.segs, count)?;

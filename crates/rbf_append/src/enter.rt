@@ -41,8 +41,7 @@ pub fn enter_file(
     ensures device { OnErr result (IsSome (file_fault result)) }
     ensures mounted { IsMounted v.new (media d.new) }
     ensures counts { OnVolumeFile (media d.old) dir.now.number (λ on file.
-        Counts ⟦<dyn BlockDriver as BlockDriver>⟧ (file_fault result) (entry_calls on file)
-        d.old d.new) }
+        Counts BlockDriver-dyn (file_fault result) (entry_calls on file) d.old d.new) }
 {
     if place < dir.file.size / 32 {
         fill_place(v, d, dir, place, entry)
@@ -68,7 +67,7 @@ fn fill_place(
         (media d.old) (media d.new) result) }
     ensures device { OnErr result (IsSome (file_fault result)) }
     ensures mounted { IsMounted v.new (media d.new) }
-    ensures counts { Counts ⟦<dyn BlockDriver as BlockDriver>⟧ (file_fault result) 2 d.old d.new }
+    ensures counts { Counts BlockDriver-dyn (file_fault result) 2 d.old d.new }
 {
     let lsn = dir.file.segs.lsn_of(place / 8).unwrap();
     put_entry(v, d, lsn, place, entry)

@@ -98,7 +98,9 @@ first_within g k n positive fits = ⊎_elim
     (λ many.
     let big : 1 < k = (let ne : k ≢ 1 = λ e. both_ways (k == 1) many (eq-eqb k 1 e) in omega arith) in
     subst (LieWithin g) (sym (first_more k n big))
-    (All-cons (λ s. is_within g s ≡ true) (n + 1, k - 1) [] (and_from (nat_le 1 (n + 1)) (nat_le (n + 1 + (k - 1)) g.total) (le-leb 1 (n + 1) (omega arith)) (le-leb (n + 1 + (k - 1)) g.total (omega arith))) (none_within g)))
+    (All-cons (λ s. is_within g s ≡ true) (n + 1, k - 1) []
+    (and_from (nat_le 1 (n + 1)) (nat_le (n + 1 + (k - 1)) g.total) (le-leb 1 (n + 1) (omega arith))
+    (le-leb (n + 1 + (k - 1)) g.total (omega arith))) (none_within g)))
     (cases_Bool (k == 1))
 
 plain : (attributes : ℕ) → attributes < 128 → (bit_at attributes 7 == 1) ≡ true → ⊥
@@ -200,7 +202,9 @@ module _ (media : Option (List ℕ)) (v : DiskVolume) (on : Represents media v) 
   not_root : n ≢ g.root
   not_root same =
       let r = root_file g (sector on.image) v on.vol.sound in
-      let used : has_cluster g g.root r.0 (g.root / g.cluster) ≡ true = cluster_from_owns g g.root r.0 g.root (owns_own g g.root r.0 g.root (or_left (g.root == g.root) (has (sectors_of r.0.segments) g.root) (eq-eqb g.root g.root refl))) in
+      let used : has_cluster g g.root r.0 (g.root / g.cluster) ≡ true =
+      cluster_from_owns g g.root r.0 g.root (owns_own g g.root r.0 g.root
+      (or_left (g.root == g.root) (has (sectors_of r.0.segments) g.root) (eq-eqb g.root g.root refl))) in
       let there : g.root / g.cluster ≡ c = ap (λ s. s / g.cluster) (sym same) ∙ ap (λ x. n / x) (sym same_k) ∙ in_cluster in
       both_ways (has_cluster g g.root r.0 c) (free_facts.2 g.root r.0 r.1) (subst (λ d. has_cluster g g.root r.0 d ≡ true) there used)
 
@@ -286,10 +290,13 @@ module _ (media mid : Option (List ℕ)) (v : DiskVolume) (on : Represents media
   lost_there : u.lost (m / h.cluster) ≡ true
   lost_there =
       let there : m / h.cluster ≡ c media v on attr owner now grown.taken grown.chosen =
-      ap (λ x. x / h.cluster) m_is ∙ ap (λ x. n media v on attr owner now grown.taken grown.chosen / x) (sym (ap (λ (s : Geometry). s.cluster) in_u)) ∙ in_cluster media v on attr owner now grown.taken grown.chosen in
+      ap (λ x. x / h.cluster) m_is ∙ ap (λ x. n media v on attr owner now grown.taken grown.chosen / x)
+      (sym (ap (λ (s : Geometry). s.cluster) in_u)) ∙ in_cluster media v on attr owner now grown.taken grown.chosen in
       let his : has grown.taken (c media v on attr owner now grown.taken grown.chosen) ≡ true =
       ap (λ xs. has xs (c media v on attr owner now grown.taken grown.chosen)) (taken_is media v on attr owner now grown.taken grown.chosen)
-      ∙ or_left (c media v on attr owner now grown.taken grown.chosen == c media v on attr owner now grown.taken grown.chosen) false (eq-eqb (c media v on attr owner now grown.taken grown.chosen) (c media v on attr owner now grown.taken grown.chosen) refl) in
+      ∙ or_left (c media v on attr owner now grown.taken grown.chosen == c media v on attr owner now grown.taken
+      grown.chosen) false (eq-eqb (c media v on attr owner now grown.taken grown.chosen)
+      (c media v on attr owner now grown.taken grown.chosen) refl) in
       ap u.lost there ∙ or_right (v.lost (c media v on attr owner now grown.taken grown.chosen)) (has grown.taken (c media v on attr owner now grown.taken grown.chosen)) his
 
   pub on_mid : Represents mid u
@@ -385,7 +392,10 @@ module _ (media mid : Option (List ℕ)) (v : DiskVolume) (on : Represents media
         was = grown.was;
         is = written ∙ ap (λ x. with_sector x m bytes) grown.is;
         left = with_lost v (λ d. v.lost d || has_cluster (shape v) m made_file d);
-        vol = subst (λ lost. Vol image1 (with_lost v lost)) (fun_ext (λ d. lost_is media v on attr owner now grown.taken grown.chosen d ∙ ap (λ x. v.lost d || has_cluster (shape v) x made_file d) (sym m_is))) vol_then;
+        vol =
+            subst (λ lost. Vol image1 (with_lost v lost)) (fun_ext
+            (λ d. lost_is media v on attr owner now grown.taken grown.chosen d ∙ ap
+            (λ x. v.lost d || has_cluster (shape v) x made_file d) (sym m_is))) vol_then;
         made = record {
           file = made_file;
           made = subst (λ x. IsNewFile sectors (is_free_in v) x (file_plan attr owner now) made_file) (sym m_is) (new_file media v on attr owner now grown.taken grown.chosen);
@@ -426,7 +436,8 @@ module _ (media mid : Option (List ℕ)) (v : DiskVolume) (on : Represents media
   }
 
 -- the cluster could not be taken
-pub untaken : (media mid : Option (List ℕ)) (v : DiskVolume) (on : Represents media v) (attr owner : ℕ) (now : TimePacket) → GrowthEnds v 1 media mid [] → MakingEnds v (file_plan attr owner now) media mid
+pub untaken : (media mid : Option (List ℕ)) (v : DiskVolume) (on : Represents media v) (attr owner : ℕ) (now : TimePacket)
+    → GrowthEnds v 1 media mid [] → MakingEnds v (file_plan attr owner now) media mid
 untaken media mid v on attr owner now ends = record {
   image = ends.image;
   now = ends.now;
@@ -459,7 +470,8 @@ makes_ok media mid new v on attr owner now after m grows made = record {
   ends = tt;
 }
 
-pub makes_fault : (media mid new : Option (List ℕ)) (v : DiskVolume) (on : Represents media v) (attr owner : ℕ) (now : TimePacket) (after : List (ℕ × ℕ)) (e : FileFault) (r : Result ℕ FileFault) → r ≡ Err e → IsSome (file_fault {A = Unit {0}} (Err e))
+pub makes_fault : (media mid new : Option (List ℕ)) (v : DiskVolume) (on : Represents media v) (attr owner : ℕ) (now : TimePacket) (after : List (ℕ × ℕ)) (e : FileFault) (r : Result ℕ FileFault)
+    → r ≡ Err e → IsSome (file_fault {A = Unit {0}} (Err e))
     → Grows v 1 [] media mid (Ok after) → MakingEnds v (file_plan attr owner now) media new → Makes v (file_plan attr owner now) media new r
 makes_fault media mid new v on attr owner now after e r is device grows ends = subst (Makes v (file_plan attr owner now) media new) (sym is) (by_fault e device)
   where
@@ -494,14 +506,20 @@ makes_refused media mid v on attr owner now e r is grows = subst (Makes v (file_
 
 -- As the code has it.
 
-pub empty_grows : (v : DiskVolume) (media mid : Option (List ℕ)) (segments : List (ℕ × ℕ)) (r : Result (List (ℕ × ℕ)) FileFault) → segments ≡ [] → Grows v 1 segments media mid r → Grows v 1 [] media mid r
+pub empty_grows : (v : DiskVolume) (media mid : Option (List ℕ)) (segments : List (ℕ × ℕ)) (r : Result (List (ℕ × ℕ)) FileFault)
+    → segments ≡ [] → Grows v 1 segments media mid r → Grows v 1 [] media mid r
 empty_grows v media mid segments r none grows = subst (λ xs. Grows v 1 xs media mid r) none grows
 
-pub first_there : (media mid : Option (List ℕ)) (v : DiskVolume) (on : Represents media v) (attr owner : ℕ) (now : TimePacket) (after : List (ℕ × ℕ)) (grown : IsGrown v 1 media mid [] after) → IsSome (slice_get (sectors_of after) 0)
+pub first_there : (media mid : Option (List ℕ)) (v : DiskVolume) (on : Represents media v) (attr owner : ℕ) (now : TimePacket) (after : List (ℕ × ℕ)) (grown : IsGrown v 1 media mid [] after)
+    → IsSome (slice_get (sectors_of after) 0)
 first_there media mid v on attr owner now after grown =
-    let list : after ≡ with_clusters (cluster_size v) [] (c media v on attr owner now grown.taken grown.chosen ∷ []) = grown.segments ∙ ap (with_clusters (cluster_size v) []) (taken_is media v on attr owner now grown.taken grown.chosen) in
+    let list : after ≡ with_clusters (cluster_size v) [] (c media v on attr owner now grown.taken grown.chosen ∷ []) =
+    grown.segments ∙ ap (with_clusters (cluster_size v) [])
+    (taken_is media v on attr owner now grown.taken grown.chosen) in
     let is : slice_get (sectors_of after) 0 ≡ Some (c media v on attr owner now grown.taken grown.chosen * cluster_size v) =
-    ap (λ xs. slice_get (sectors_of xs) 0) list ∙ first_of (c media v on attr owner now grown.taken grown.chosen * cluster_size v) (cluster_size v) (positive media v on attr owner now grown.taken grown.chosen) in
+    ap (λ xs. slice_get (sectors_of xs) 0) list ∙ first_of
+    (c media v on attr owner now grown.taken grown.chosen * cluster_size v) (cluster_size v)
+    (positive media v on attr owner now grown.taken grown.chosen) in
     subst IsSome (sym is) refl
 
 pub number_few : (media mid : Option (List ℕ)) (v : DiskVolume) (on : Represents media v) (attr owner : ℕ) (now : TimePacket) (after : List (ℕ × ℕ)) (grown : IsGrown v 1 media mid [] after) (m : ℕ)
@@ -512,19 +530,23 @@ number_few media mid v on attr owner now after grown m is =
     omega arith
 
 -- sectors of a cluster, as they are kept
-pub kept_cluster : (volume : Volume) (media mid : Option (List ℕ)) (v : DiskVolume) (after : List (ℕ × ℕ)) (grown : IsGrown v 1 media mid [] after) → IsMounted volume mid → volume.ident.cluster ≡ cluster_size v
+pub kept_cluster : (volume : Volume) (media mid : Option (List ℕ)) (v : DiskVolume) (after : List (ℕ × ℕ)) (grown : IsGrown v 1 media mid [] after)
+    → IsMounted volume mid → volume.ident.cluster ≡ cluster_size v
 kept_cluster volume media mid v after grown mounted =
     let u : DiskVolume = with_lost v (λ d. v.lost d || has grown.taken d) in
     let on : Represents mid u = record { image = grown.now; is = grown.is; vol = grown.vol } in
     let agrees = agrees_on volume mid u mounted on in
     ap (λ (s : Geometry). s.cluster) (agrees.sizes_are ∙ sym (shape-image grown.now u grown.vol))
 
-pub fd_as : (fd : Fd) (attr owner : ℕ) (now : TimePacket) (k size m : ℕ) (segs : List (ℕ × ℕ)) → fd ≡ record { attr = attr; owner = owner; modified = minute_of now; links = 1; size = 0; created = day_of now; segs = segs } → segs ≡ first_segments k m → k ≡ size
+pub fd_as : (fd : Fd) (attr owner : ℕ) (now : TimePacket) (k size m : ℕ) (segs : List (ℕ × ℕ))
+    → fd ≡ record { attr = attr; owner = owner; modified = minute_of now; links = 1; size = 0; created = day_of now; segs = segs }
+    → segs ≡ first_segments k m → k ≡ size
     → fd ≡ record { attr = attr; owner = owner; modified = minute_of now; links = 1; size = 0; created = day_of now; segs = first_segments size m }
 fd_as fd attr owner now k size m segs is list same =
     is ∙ ap (λ xs. record { attr = attr; owner = owner; modified = minute_of now; links = 1; size = 0; created = day_of now; segs = xs }) (list ∙ ap (λ x. first_segments x m) same)
 
-pub refused_as : (e : FileFault) (r : Result ℕ FileFault) (media mid : Option (List ℕ)) → r ≡ Err e → (IsNone (file_fault {A = Unit {0}} (Err e)) → mid ≡ media) → OnErr r (IsNone (file_fault r) → mid ≡ media)
+pub refused_as : (e : FileFault) (r : Result ℕ FileFault) (media mid : Option (List ℕ)) → r ≡ Err e
+    → (IsNone (file_fault {A = Unit {0}} (Err e)) → mid ≡ media) → OnErr r (IsNone (file_fault r) → mid ≡ media)
 refused_as e r media mid is same = subst (λ x. OnErr x (IsNone (file_fault x) → mid ≡ media)) (sym is) (by_fault e same)
   where
     by_fault : (f : FileFault) → (IsNone (file_fault {A = Unit {0}} (Err f)) → mid ≡ media) → IsNone (file_fault {A = ℕ} (Err f)) → mid ≡ media

@@ -35,8 +35,7 @@ pub fn create_fd(
         → Makes v (file_plan attr owner now) (media d.old) (media d.new) result }
     ensures refused { OnErr result (IsNone (file_fault result) → media d.new ≡ media d.old) }
     ensures mounted { IsMounted volume.new (media d.new) }
-    ensures counts { Counts ⟦<dyn BlockDriver as BlockDriver>⟧
-        (file_fault result) 2 d.old d.new }
+    ensures counts { Counts BlockDriver-dyn (file_fault result) 2 d.old d.new }
 {
     let space = grow(volume, d, &Segs::empty(), 1)?;
     let n = space.lsn_of(0).unwrap();

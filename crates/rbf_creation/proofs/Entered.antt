@@ -59,7 +59,8 @@ and_not_false : (t : Bool) → (t && not false) ≡ t
 and_not_false true = refl
 and_not_false false = refl
 
-module _ (m0 : Option (List ℕ)) (v : DiskVolume) (on : Represents m0 v) (d : ℕ) (name : List ℕ) (attr user : ℕ) (execute : Bool) (now : TimePacket) (dir : DiskFile) (is : v.files d ≡ Some dir) (directory : is_directory dir ≡ true)
+module _ (m0 : Option (List ℕ)) (v : DiskVolume) (on : Represents m0 v) (d : ℕ) (name : List ℕ) (attr user : ℕ)
+    (execute : Bool) (now : TimePacket) (dir : DiskFile) (is : v.files d ≡ Some dir) (directory : is_directory dir ≡ true)
     (place : ℕ) (named : IsName name) (proper : is_dots name ≡ false) (absent : IsAbsent dir.contents name place) (room : HasRoom v dir place 1) where
   abbrev k : ℕ
   k = cluster_size v
@@ -185,11 +186,14 @@ module _ (m0 : Option (List ℕ)) (v : DiskVolume) (on : Represents m0 v) (d : �
       }
 
       -- a fault came when clusters of these may have been taken
-      pub took : refusal_of v dir e ≡ None → (image image1 : List ℕ) (left : DiskVolume) (m1 : Option (List ℕ)) → m0 ≡ Some image → m1 ≡ Some image1 → Vol image1 left → MayLose v left (λ c. has_cluster (shape v) n file c || has gained c)
+      pub took : refusal_of v dir e ≡ None → (image image1 : List ℕ) (left : DiskVolume) (m1 : Option (List ℕ))
+          → m0 ≡ Some image → m1 ≡ Some image1 → Vol image1 left
+          → MayLose v left (λ c. has_cluster (shape v) n file c || has gained c)
           → ((s : ℕ) → ¬ IsMapSector (image_geometry image) s → s ≢ n → s ≢ at → sector image1 s ≡ sector image s)
           → IsAfterMarks image image1 n left (λ c. has_cluster (shape v) n file c) → (sector image1 n ≡ sector image n) ⊎ (file_at (sector image1) n ≡ file)
           → ((c : ℕ) → has gained c ≡ true → left.lost c ≡ true → file_at (sector image1) n ≡ file)
-          → (sector image1 at ≡ sector image at) ⊎ (StandsBehind image image1 dir at place entry × StandsWhole v left image1 n file gained) → KeepsMapEnd image image1 (λ _. false) → EnteringTook v dir e m0 m1
+          → (sector image1 at ≡ sector image at) ⊎ (StandsBehind image image1 dir at place entry × StandsWhole v left image1 n file gained)
+          → KeepsMapEnd image image1 (λ _. false) → EnteringTook v dir e m0 m1
       took allowed image image1 left m1 was now_is vol lose others order described grown entered_last end = record {
         allowed = allowed;
         image = image;
@@ -206,7 +210,10 @@ module _ (m0 : Option (List ℕ)) (v : DiskVolume) (on : Represents m0 v) (d : �
         marks = λ s h. subst (λ t. IsAfterMarks image image1 t left (λ c. has_cluster (shape v) n file c)) (only_number s h) order;
         descriptor = described;
         growth = grown;
-        entry = subst (λ p. (sector image1 (sector_of_place segments p) ≡ sector image (sector_of_place segments p)) ⊎ (StandsBehind image image1 dir (sector_of_place segments p) p entry × StandsWhole v left image1 n file gained))
+        entry =
+            subst (λ p. (sector image1 (sector_of_place segments p) ≡ sector image (sector_of_place segments p)) ⊎
+            (StandsBehind image image1 dir (sector_of_place segments p) p entry × StandsWhole v left image1 n file
+            gained))
             absent.free_is entered_last;
         end = end;
       }
@@ -305,8 +312,13 @@ module _ (m0 : Option (List ℕ)) (v : DiskVolume) (on : Represents m0 v) (d : �
         let same : here.image ≡ made.now = same_Some here.image made.now (sym here.was ∙ made.is) in
         let choice_here : IsChoice k (free_then n file) dir.segments (size_then n file new) here.taken = subst (λ f. IsChoice k f dir.segments (size_then n file new) here.taken) free_is here.choice in
         let entry_sector = sector_of_place (with_clusters k dir.segments here.taken) place in
-        let entry_was : sector here.image entry_sector ≡ sector made.image entry_sector = ap (λ i. sector i entry_sector) same ∙ made.writes.others entry_sector (at_no_map n file new here.taken choice_here made.image made.was) (at_apart n file new here.taken choice_here) in
-        let shown_then : file_at (sector here.now) n ≡ file = subst (λ m. file_at (sector here.now) m ≡ file_at (sector here.image) m) number here.named ∙ ap (λ i. file_at (sector i) n) same ∙ made.made.shown in
+        let entry_was : sector here.image entry_sector ≡ sector made.image entry_sector =
+        ap (λ i. sector i entry_sector) same ∙ made.writes.others entry_sector
+        (at_no_map n file new here.taken choice_here made.image made.was)
+        (at_apart n file new here.taken choice_here) in
+        let shown_then : file_at (sector here.now) n ≡ file =
+        subst (λ m. file_at (sector here.now) m ≡ file_at (sector here.image) m) number here.named ∙ ap
+        (λ i. file_at (sector i) n) same ∙ made.made.shown in
         took n file new here.taken choice_here allowed made.image here.now here.left m1 made.was here.is here.vol
         (record {
           same = here.lose.same;
@@ -409,14 +421,20 @@ module _ (m0 : Option (List ℕ)) (v : DiskVolume) (on : Represents m0 v) (d : �
           after = done.after;
           vol = done.vol;
           enters = record { both = both_then; volume = volume_is };
-          filled = subst (λ p. sector done.now (sector_of_place put_in.new.segments p) ≡ put_at (sector made.image (sector_of_place put_in.new.segments p)) (32 * (p % 8)) (new_entry name n)) absent.free_is
+          filled =
+              subst (λ p. sector done.now (sector_of_place put_in.new.segments p) ≡ put_at
+              (sector made.image (sector_of_place put_in.new.segments p)) (32 * (p % 8)) (new_entry name n))
+              absent.free_is
               (done.writes.filled ∙ ap (λ b. put_at b (32 * (place % 8)) (new_entry name n)) (image_at ∙ made.writes.others (sector_of_place put_in.new.segments place) no_map_then apart_then_n));
           others = λ s none out other differ.
               done.writes.others s (λ map. none (subst (λ h. IsMapSector h s) (ap image_geometry same_image ∙ sym image_same) map)) other
               (λ same. differ (same ∙ ap (sector_of_place put_in.new.segments) absent.free_is))
               ∙ ap (λ i. sector i s) same_image
               ∙ made.writes.others s none (λ same. (not_has_first n (take (sector_count (length file.contents)) (sectors_of file.segments)) s out).0 (sym same));
-          list = subst IsNewList (sym (done.writes.others n (λ map. free_no_map n its_free (subst (λ h. IsMapSector h n) (ap image_geometry same_image ∙ sym image_same) map)) apart (λ same. apart_then_n (sym same)) ∙ ap (λ i. sector i n) same_image)) made.made.rest;
+          list =
+              subst IsNewList (sym (done.writes.others n (λ map. free_no_map n its_free
+              (subst (λ h. IsMapSector h n) (ap image_geometry same_image ∙ sym image_same) map)) apart
+              (λ same. apart_then_n (sym same)) ∙ ap (λ i. sector i n) same_image)) made.made.rest;
           kept_list = subst (λ b. KeepsListEnd b (sector done.now d)) (ap (λ i. sector i d) same_image ∙ made.writes.others d d_no_map (λ same. apart (sym same))) done.writes.list;
           end = λ c behind.
               subst (λ i. KeepsMapEnd i done.now (λ _. false)) same_image done.writes.end c

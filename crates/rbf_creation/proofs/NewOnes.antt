@@ -42,9 +42,12 @@ module _ (free h : ℕ → Bool) (x : ℕ) (one : (c : ℕ) → h c ≡ true →
 
   pub one_fewer : (a m : ℕ) → length (filter free (range_with_len a m)) ≤ length (filter both (range_with_len a m)) + 1
   one_fewer a zero = omega arith
-  one_fewer a (suc m) = by (free a) (h a) refl (filter free (range_with_len (a + 1) m)) (filter both (range_with_len (a + 1) m)) (λ here. all_past (a + 1) m (let same = one a here in omega arith)) (one_fewer (a + 1) m)
+  one_fewer a (suc m) =
+      by (free a) (h a) refl (filter free (range_with_len (a + 1) m)) (filter both (range_with_len (a + 1) m))
+      (λ here. all_past (a + 1) m (let same = one a here in omega arith)) (one_fewer (a + 1) m)
     where
-      by : (t u : Bool) → h a ≡ u → (xs ys : List ℕ) → (h a ≡ true → length xs ≤ length ys) → length xs ≤ length ys + 1 → length (if t then a ∷ xs else xs) ≤ length (if t && not u then a ∷ ys else ys) + 1
+      by : (t u : Bool) → h a ≡ u → (xs ys : List ℕ) → (h a ≡ true → length xs ≤ length ys) → length xs ≤ length ys + 1
+          → length (if t then a ∷ xs else xs) ≤ length (if t && not u then a ∷ ys else ys) + 1
       by true true eu xs ys past low = let p = past eu in omega arith
       by true false eu xs ys past low = omega arith
       by false true eu xs ys past low = low
@@ -77,7 +80,8 @@ one_cluster k segments some =
     let low : k - 1 < k = omega arith in
     ap (λ n. n / k) none ∙ div-eq_of_lt low
 
-module _ (media : Option (List ℕ)) (v : DiskVolume) (on : Represents media v) (n : ℕ) (plan : Plan) (bare : length plan.contents ≡ 0) (file : DiskFile) (new : IsNewFile (cluster_size v) (is_free_in v) n plan file) where
+module _ (media : Option (List ℕ)) (v : DiskVolume) (on : Represents media v) (n : ℕ) (plan : Plan)
+    (bare : length plan.contents ≡ 0) (file : DiskFile) (new : IsNewFile (cluster_size v) (is_free_in v) n plan file) where
   abbrev k : ℕ
   k = cluster_size v
 
@@ -107,7 +111,10 @@ module _ (media : Option (List ℕ)) (v : DiskVolume) (on : Represents media v) 
       let there : v.files (shape v).root ≡ Some r.0 = ap (λ (s : Geometry). v.files s.root) volume_shape ∙ r.1 in
       both_ways (has_cluster (shape v) (shape v).root r.0 (n / k)) ((free_facts (n / k) first_free).1 (shape v).root r.0 there)
       (subst (λ m. has_cluster (shape v) (shape v).root r.0 (m / k) ≡ true) (sym same)
-      (cluster_from_owns (shape v) (shape v).root r.0 (shape v).root (owns_own (shape v) (shape v).root r.0 (shape v).root (or_left ((shape v).root == (shape v).root) (has (sectors_of r.0.segments) (shape v).root) (eq-eqb (shape v).root (shape v).root refl)))))
+      (cluster_from_owns (shape v) (shape v).root r.0 (shape v).root
+      (owns_own (shape v) (shape v).root r.0 (shape v).root
+      (or_left ((shape v).root == (shape v).root) (has (sectors_of r.0.segments) (shape v).root)
+      (eq-eqb (shape v).root (shape v).root refl)))))
 
   none_gained : new.gained ≡ []
   none_gained = nil_from_length new.gained (new.choice.enough ∙ ap (clusters_needed k (first_segments k n)) bare ∙ one_cluster k (first_segments k n) positive)

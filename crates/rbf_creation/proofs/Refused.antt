@@ -20,7 +20,8 @@ use Rattle.rbf_append.specs.Rooms.{place_clusters, HasRoom, HasNoSegment}
 use Rattle.rbf_creation.specs.Creating.{request}
 use Rattle.rbf_creation.proofs.NewOnes.{one_cluster}
 
-module _ (media : Option (List ℕ)) (v : DiskVolume) (on : Represents media v) (d : ℕ) (name : List ℕ) (attr user : ℕ) (execute : Bool) (now : TimePacket) (dir : DiskFile) (place : ℕ) (proper : is_dots name ≡ false)
+module _ (media : Option (List ℕ)) (v : DiskVolume) (on : Represents media v) (d : ℕ) (name : List ℕ) (attr user : ℕ)
+    (execute : Bool) (now : TimePacket) (dir : DiskFile) (place : ℕ) (proper : is_dots name ≡ false)
     (allowed : may_change dir user execute ≡ true) (absent : IsAbsent dir.contents name place) where
   abbrev k : ℕ
   k = cluster_size v
@@ -74,6 +75,8 @@ module _ (media : Option (List ℕ)) (v : DiskVolume) (on : Represents media v) 
 -- a file without contents needs the cluster of its descriptor
 pub needs_one : (media : Option (List ℕ)) (v : DiskVolume) → Represents media v → file_clusters (cluster_size v) 0 ≡ 1
 needs_one media v on =
-    let some : 1 ≤ cluster_size v = subst (λ (s : Geometry). 1 ≤ s.cluster) (sym (shape-image on.image v on.vol)) (cluster_positive (image_geometry on.image).cluster on.vol.sound.shape.header.clusters) in
+    let some : 1 ≤ cluster_size v =
+    subst (λ (s : Geometry). 1 ≤ s.cluster) (sym (shape-image on.image v on.vol))
+    (cluster_positive (image_geometry on.image).cluster on.vol.sound.shape.header.clusters) in
     let none = one_cluster (cluster_size v) (first_segments (cluster_size v) 0) some in
     omega arith

@@ -41,7 +41,9 @@ Answered m0 m1 d name attr user execute now r =
     (v : DiskVolume) (file : DiskFile) → Represents m0 v → v.files d ≡ Some file → AnswersEntering v file (request d name attr user execute now) m0 m1 r
 
 -- there is no place
-pub no_place : (m0 m1 : Option (List ℕ)) → m1 ≡ m0 → (d : ℕ) (name : List ℕ) (attr user : ℕ) (execute : Bool) (now : TimePacket) (e : DirError) → OnFile m0 d (λ file. AnswersPlace file name user execute (Err e)) → Answered m0 m1 d name attr user execute now (Err e)
+pub no_place : (m0 m1 : Option (List ℕ)) → m1 ≡ m0 → (d : ℕ) (name : List ℕ) (attr user : ℕ) (execute : Bool) (now : TimePacket) (e : DirError)
+    → OnFile m0 d (λ file. AnswersPlace file name user execute (Err e))
+    → Answered m0 m1 d name attr user execute now (Err e)
 no_place m0 m1 same d name attr user execute now e answer v file on is = by_error e (answer v file on is)
   where
     by_error : (f : DirError) → AnswersPlace file name user execute (Err f) → AnswersEntering v file (request d name attr user execute now) m0 m1 (Err f)
@@ -56,7 +58,8 @@ no_place m0 m1 same d name attr user execute now e answer v file on is = by_erro
 directory_of : (dir : DiskFile) (user : ℕ) (execute : Bool) → may_change dir user execute ≡ true → is_directory dir ≡ true
 directory_of dir user execute may = (and_parts _ _ (and_parts (may_search dir user execute) _ may).0).0
 
-module _ (m0 : Option (List ℕ)) (d place : ℕ) (name : List ℕ) (attr user : ℕ) (execute : Bool) (now : TimePacket) (has : HasFile m0 d) (found : OnFile m0 d (λ file. AnswersPlace file name user execute (Ok place))) where
+module _ (m0 : Option (List ℕ)) (d place : ℕ) (name : List ℕ) (attr user : ℕ) (execute : Bool) (now : TimePacket)
+    (has : HasFile m0 d) (found : OnFile m0 d (λ file. AnswersPlace file name user execute (Ok place))) where
   spot : IsNewPlace has.file name user execute place
   spot = found has.content has.file has.on has.is
 
@@ -81,7 +84,9 @@ module _ (m0 : Option (List ℕ)) (d place : ℕ) (name : List ℕ) (attr user :
     unfolding on1
     agrees = agrees_on volume m1 has.content mounted on1
 
-    room_of : (r : Result (Unit {0}) FileFault) → ((image : List ℕ) (on : DiskVolume) (file : DiskFile) → Agrees (kept volume) image → Vol image on → IsFdOf file loaded.file → AnswersRoom on file place 1 r) → AnswersRoom has.content has.file place 1 r
+    room_of : (r : Result (Unit {0}) FileFault) → ((image : List ℕ) (on : DiskVolume) (file : DiskFile)
+        → Agrees (kept volume) image → Vol image on → IsFdOf file loaded.file → AnswersRoom on file place 1 r)
+        → AnswersRoom has.content has.file place 1 r
     room_of r answers = answers has.on.image has.content has.file agrees has.on.vol (read.says has.content has.file has.on has.is)
 
     -- there is no room
@@ -110,11 +115,15 @@ module _ (m0 : Option (List ℕ)) (d place : ℕ) (name : List ℕ) (attr user :
       allowed : refusal_of has.content has.file (request d name attr user execute now) ≡ None
       allowed = is_allowed m0 has.content has.on d name attr user execute now has.file place spot.proper spot.allowed spot.absent room
 
-      makes_here : (mid : Option (List ℕ)) (r : Result ℕ FileFault) → ((v : DiskVolume) → Represents m1 v → Makes v (file_plan attr user now) m1 mid r) → Makes has.content (file_plan attr user now) m0 mid r
+      makes_here : (mid : Option (List ℕ)) (r : Result ℕ FileFault)
+          → ((v : DiskVolume) → Represents m1 v → Makes v (file_plan attr user now) m1 mid r)
+          → Makes has.content (file_plan attr user now) m0 mid r
       makes_here mid r makes = subst (λ m. Makes has.content (file_plan attr user now) m mid r) same (makes has.content on1)
 
       -- no file was made
-      pub not_made : (mid : Option (List ℕ)) (e : FileFault) → ((v : DiskVolume) → Represents m1 v → Makes v (file_plan attr user now) m1 mid (Err e)) → (IsSome (file_fault {A = ℕ} (Err e))) × Answered m0 mid d name attr user execute now (Err (File e))
+      pub not_made : (mid : Option (List ℕ)) (e : FileFault)
+          → ((v : DiskVolume) → Represents m1 v → Makes v (file_plan attr user now) m1 mid (Err e))
+          → (IsSome (file_fault {A = ℕ} (Err e))) × Answered m0 mid d name attr user execute now (Err (File e))
       not_made mid e makes = by_fault e (makes_here mid (Err e) makes)
         where
           by_fault : (f : FileFault) → Makes has.content (file_plan attr user now) m0 mid (Err f) → (IsSome (file_fault {A = ℕ} (Err f))) × Answered m0 mid d name attr user execute now (Err (File f))
@@ -150,7 +159,10 @@ module _ (m0 : Option (List ℕ)) (d place : ℕ) (name : List ℕ) (attr user :
         left_file : made.left.files d ≡ Some has.file
         left_file = ap (λ (x : DiskVolume). x.files d) made.made.volume ∙ has.is
 
-        pub entry_calls_here : (f : Option ℕ) (t u : DriveCounts) → OnVolumeFile mid loaded.number (λ on file. MovesCounts f (entry_calls on file) t u) → (v : DiskVolume) (file : DiskFile) → Represents m0 v → v.files d ≡ Some file → MovesCounts f (entry_calls v file) t u
+        pub entry_calls_here : (f : Option ℕ) (t u : DriveCounts)
+            → OnVolumeFile mid loaded.number (λ on file. MovesCounts f (entry_calls on file) t u)
+            → (v : DiskVolume) (file : DiskFile) → Represents m0 v → v.files d ≡ Some file
+            → MovesCounts f (entry_calls v file) t u
         entry_calls_here f t u moved = any (λ v file. MovesCounts f (entry_calls v file) t u)
             (subst (λ m. MovesCounts f m t u) (calls_left m0 has.content has.on d name attr user execute now has.file has.is directory place spot.named spot.proper spot.absent room n mid made)
             (moved made.left has.file on_mid (ap made.left.files read.number_is ∙ left_file)))
@@ -162,33 +174,46 @@ module _ (m0 : Option (List ℕ)) (d place : ℕ) (name : List ℕ) (attr user :
               (may_enter_it m0 has.content has.on d name attr user execute now has.file has.is directory place spot.named spot.proper spot.absent room n mid made bytes bytes_are)
 
           module _ (m2 : Option (List ℕ)) where
-            here : (r : Result (Unit {0}) FileFault) → OnVolumeFile mid loaded.number (λ on file. AnswersEntry on file (record { directory = loaded.number; place = place; entry = bytes; now = now }) mid m2 r)
+            here : (r : Result (Unit {0}) FileFault) → OnVolumeFile mid loaded.number
+                (λ on file. AnswersEntry on file (record {
+                  directory = loaded.number;
+                  place = place;
+                  entry = bytes;
+                  now = now;
+                }) mid m2 r)
                 → AnswersEntry made.left has.file (record { directory = d; place = place; entry = new_entry name n; now = now }) mid m2 r
             here r answer =
                 subst (λ m. AnswersEntry made.left has.file (record { directory = m; place = place; entry = new_entry name n; now = now }) mid m2 r) read.number_is
                 (subst (λ b. AnswersEntry made.left has.file (record { directory = loaded.number; place = place; entry = b; now = now }) mid m2 r) bytes_are
                 (answer made.left has.file on_mid (ap made.left.files read.number_is ∙ left_file)))
 
-            pub not_entered : (e : FileFault) → IsSome (file_fault {A = Unit {0}} (Err e)) → OnVolumeFile mid loaded.number (λ on file. AnswersEntry on file (record { directory = loaded.number; place = place; entry = bytes; now = now }) mid m2 (Err e))
+            pub not_entered : (e : FileFault) → IsSome (file_fault {A = Unit {0}} (Err e))
+                → OnVolumeFile mid loaded.number (λ on file. AnswersEntry on file (record { directory = loaded.number; place = place; entry = bytes; now = now }) mid m2 (Err e))
                 → Answered m0 m2 d name attr user execute now (Err (File e))
             not_entered (Device x) device answer = answered m2 (Err (File (Device x))) (
               spot.proper,
               stops_after
-                  (unentered m0 has.content has.on d name attr user execute now has.file has.is directory place spot.named spot.proper spot.absent room n mid made allowed m2 (here (Err (Device x)) answer)),
+                  (unentered m0 has.content has.on d name attr user execute now has.file has.is directory place
+                  spot.named spot.proper spot.absent room n mid made allowed m2 (here (Err (Device x)) answer)),
             )
             not_entered NoCluster device answer = absurd (both_ways false refl device)
             not_entered TooManyRuns device answer = absurd (both_ways false refl device)
 
-            pub is_entered : OnVolumeFile mid loaded.number (λ on file. AnswersEntry on file (record { directory = loaded.number; place = place; entry = bytes; now = now }) mid m2 (Ok tt)) → Answered m0 m2 d name attr user execute now (Ok n)
+            pub is_entered : OnVolumeFile mid loaded.number (λ on file. AnswersEntry on file (record { directory = loaded.number; place = place; entry = bytes; now = now }) mid m2 (Ok tt))
+                → Answered m0 m2 d name attr user execute now (Ok n)
             is_entered answer = answered m2 (Ok n)
                 (entered m0 has.content has.on d name attr user execute now has.file has.is directory place spot.named spot.proper spot.absent room n mid made allowed m2 (here (Ok tt) answer))
 
 -- the place was found before
 module _ (m0 m1 : Option (List ℕ)) (same : m1 ≡ m0) (d : ℕ) (name : List ℕ) (user : ℕ) (execute : Bool) (found : NewPlace) (is : IsFoundFor m0 d user execute found) where
   pub answer_there : (attr : ℕ) (now : TimePacket) (r : Result ℕ FileFault) (m2 : Option (List ℕ))
-      → ((v : DiskVolume) (file : DiskFile) → Represents m1 v → v.files found.dir.number ≡ Some file → AnswersEntering v file (request found.dir.number name attr found.user found.execute now) m1 m2 (widened r)) → Answered m0 m2 d name attr user execute now (widened r)
+      → ((v : DiskVolume) (file : DiskFile) → Represents m1 v → v.files found.dir.number ≡ Some file
+      → AnswersEntering v file (request found.dir.number name attr found.user found.execute now) m1 m2 (widened r))
+      → Answered m0 m2 d name attr user execute now (widened r)
   answer_there attr now r m2 = asked m0 m1 same d name user execute found is (λ m n u x v file. AnswersEntering v file (request n name attr u x now) m m2 (widened r))
 
-  pub calls_there : (r : Result ℕ FileFault) (t u : DriveCounts) → ((v : DiskVolume) (file : DiskFile) → Represents m1 v → v.files found.dir.number ≡ Some file → MovesCounts (file_fault r) (entering_calls v file 2 (widened r)) t u)
+  pub calls_there : (r : Result ℕ FileFault) (t u : DriveCounts)
+      → ((v : DiskVolume) (file : DiskFile) → Represents m1 v → v.files found.dir.number ≡ Some file
+      → MovesCounts (file_fault r) (entering_calls v file 2 (widened r)) t u)
       → (v : DiskVolume) (file : DiskFile) → Represents m0 v → v.files d ≡ Some file → MovesCounts (file_fault r) (entering_calls v file 2 (widened r)) t u
   calls_there r t u = asked m0 m1 same d name user execute found is (λ m n w x v file. MovesCounts (file_fault r) (entering_calls v file 2 (widened r)) t u)

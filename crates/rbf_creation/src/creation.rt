@@ -45,7 +45,7 @@ pub fn create(
         (request dir name.now attr user execute now) (media d.old) (media d.new) result) }
     ensures mounted { IsMounted v.new (media d.new) }
     ensures counts { OnVolumeFile (media d.old) dir (λ on file.
-        Counts ⟦<dyn BlockDriver as BlockDriver>⟧ (directory_fault result)
+        Counts BlockDriver-dyn (directory_fault result)
         (place_calls file name.now user execute + entering_calls on file 2 result)
         d.old d.new) }
 {

@@ -42,7 +42,7 @@ pub fn create_at(
         (media d.old) (media d.new) (widened result)) }
     ensures mounted { IsMounted v.new (media d.new) }
     ensures counts { OnVolumeFile (media d.old) found.now.dir.number (λ on file.
-        Counts ⟦<dyn BlockDriver as BlockDriver>⟧ (file_fault result)
+        Counts BlockDriver-dyn (file_fault result)
         (entering_calls on file 2 (widened result)) d.old d.new) }
 {
     check_room(v, &found.dir.file, found.place, 1)?;

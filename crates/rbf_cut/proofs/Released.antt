@@ -1,6 +1,6 @@
 -- Clusters that are given back, sector by sector of the map.
 use Rattle.std.proofs.Common.{◌≡◌, ℕ, ◌+◌, ◌-◌, ◌*◌, ◌/◌, ◌<◌, ◌≤◌, Bool, true, false, not, ◌==◌, ◌&&◌, ◌||◌, Option, Some, None, List, refl, sym, ap, ◌∙◌, subst, ⊎_elim, arith, eqb-true}
-use Rattle.std.specs.Prelude.{nat_lt, OnErr, Result, Ok, Err}
+use Rattle.std.specs.Prelude.{nat_lt}
 use mathlib.Core.Path.{fun_ext}
 use Rattle.std.proofs.Math.Nat.{le-div_iff_mul-le}
 use Rattle.std.proofs.lemmas.Bool.{and_parts, false_from_ne_true, ltb-true, lt-ltb, cases_Bool}
@@ -49,10 +49,12 @@ release_begins gone kept media first = record {
 }
 
 module _ (gone : ℕ → Bool) (place : ℕ) (kept kept_now : KeptVolume) (media mid : Option (List ℕ)) (first half : DriveCounts) (far : IsReleaseSoFar gone place kept kept_now media mid first half) where
-  clearing : (v : DiskVolume) (old : List ℕ) → media ≡ Some old → Vol old v → MayClear v old gone → Agrees kept old → place < map_sectors (image_geometry old) → IsClearing v old (before gone place) gone place mid kept_now
+  clearing : (v : DiskVolume) (old : List ℕ) → media ≡ Some old → Vol old v → MayClear v old gone → Agrees kept old
+      → place < map_sectors (image_geometry old) → IsClearing v old (before gone place) gone place mid kept_now
   clearing v old is vol may agrees within = record { vol = vol; may = may; far = far.cleared v old is vol may agrees; fresh = λ c there. not_yet gone place c there; within = within }
 
-  pub release_more : (now : Option (List ℕ)) (kept_then : KeptVolume) (after : DriveCounts) → place < map_sectors kept.sizes → ClearsNext gone place mid now kept_now kept_then → kept_then.sizes ≡ kept_now.sizes
+  pub release_more : (now : Option (List ℕ)) (kept_then : KeptVolume) (after : DriveCounts)
+      → place < map_sectors kept.sizes → ClearsNext gone place mid now kept_now kept_then → kept_then.sizes ≡ kept_now.sizes
       → ((c : ℕ) → gone c ≡ true → c < cluster_count kept.sizes) → MovesCounts None 1 half after → (NoneHere gone place → MovesCounts None 0 half after)
       → IsReleaseSoFar gone (place + 1) kept kept_then media now first after
   release_more now kept_then after within next sizes in_volume counts none = record {
@@ -101,10 +103,6 @@ module _ (gone : ℕ → Bool) (place : ℕ) (kept kept_now : KeptVolume) (media
           still = not_yet gone place some.0 (eqb-true (some.0 / 2048) place parts.1);
         }
 
-pub on_err : {A E : Type 0} (r : Result A E) (P : Type 0) → P → OnErr r P
-on_err (Ok a) P p = tt
-on_err (Err e) P p = p
-
 -- what is given up is in the volume
 pub rest_in_volume : (k : ℕ) (cut : CutSectors) (media : Option (List ℕ)) (kv : KeptVolume) → MayRelease k cut media kv → (c : ℕ) → in_rest k cut c ≡ true → c < cluster_count kv.sizes
 rest_in_volume k cut media kv may c h =
@@ -118,8 +116,12 @@ none_as k other cut place P same rest none = rest (subst (λ x. NoneHere (in_res
 pub go_as : (k other : ℕ) (cut : CutSectors) (place : ℕ) (media : Option (List ℕ)) (kv : KeptVolume) → other ≡ k → MayGoOn (in_rest k cut) place media kv → MayGoOn (in_rest other cut) place media kv
 go_as k other cut place media kv same go = subst (λ x. MayGoOn (in_rest x cut) place media kv) (sym same) go
 
-pub stopped_as : (k other : ℕ) (cut : CutSectors) (place : ℕ) (media now : Option (List ℕ)) (kv kv_now : KeptVolume) → other ≡ k → IsStopped (in_rest other cut) place media now kv kv_now → IsStopped (in_rest k cut) place media now kv kv_now
+pub stopped_as : (k other : ℕ) (cut : CutSectors) (place : ℕ) (media now : Option (List ℕ)) (kv kv_now : KeptVolume)
+    → other ≡ k → IsStopped (in_rest other cut) place media now kv kv_now
+    → IsStopped (in_rest k cut) place media now kv kv_now
 stopped_as k other cut place media now kv kv_now same stop = subst (λ x. IsStopped (in_rest x cut) place media now kv kv_now) same stop
 
-pub next_as : (k other : ℕ) (cut : CutSectors) (place : ℕ) (media now : Option (List ℕ)) (kv kv_now : KeptVolume) → other ≡ k → ClearsNext (in_rest other cut) place media now kv kv_now → ClearsNext (in_rest k cut) place media now kv kv_now
+pub next_as : (k other : ℕ) (cut : CutSectors) (place : ℕ) (media now : Option (List ℕ)) (kv kv_now : KeptVolume)
+    → other ≡ k → ClearsNext (in_rest other cut) place media now kv kv_now
+    → ClearsNext (in_rest k cut) place media now kv kv_now
 next_as k other cut place media now kv kv_now same next = subst (λ x. ClearsNext (in_rest x cut) place media now kv kv_now) same next

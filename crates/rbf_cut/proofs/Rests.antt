@@ -56,7 +56,9 @@ rest_cleared_none q place part old = record {
   cleared = none_cleared place old (λ c. (nat_le part.first c && nat_lt c part.first) && not (q c)) (λ c. ap (λ t. t && not (q c)) (none_between part.first part.first c (omega arith)));
 }
 
-pub rest_cleared_more : (q : ℕ → Bool) (place : ℕ) (part : Stretch) (old now new : List ℕ) (at : ℕ) → at < part.end → IsRestCleared q place part old now at → ClearsIn place now new (λ c. (c == at) && not (q at)) → IsRestCleared q place part old new (at + 1)
+pub rest_cleared_more : (q : ℕ → Bool) (place : ℕ) (part : Stretch) (old now new : List ℕ) (at : ℕ) → at < part.end
+    → IsRestCleared q place part old now at → ClearsIn place now new (λ c. (c == at) && not (q at))
+    → IsRestCleared q place part old new (at + 1)
 rest_cleared_more q place part old now new at low far one = record {
   begun = let begun = far.begun in omega arith;
   most = omega arith;
@@ -64,9 +66,12 @@ rest_cleared_more q place part old now new at low far one = record {
       (λ c h. rest_more q part.first at c far.begun) far.cleared one;
 }
 
-pub rest_cleared_all : (q : ℕ → Bool) (place : ℕ) (part : Stretch) (old now : List ℕ) (at : ℕ) → part.end ≤ at → IsRestCleared q place part old now at → ClearsIn place old now (λ c. in_stretch part c && not (q c))
+pub rest_cleared_all : (q : ℕ → Bool) (place : ℕ) (part : Stretch) (old now : List ℕ) (at : ℕ) → part.end ≤ at
+    → IsRestCleared q place part old now at → ClearsIn place old now (λ c. in_stretch part c && not (q c))
 rest_cleared_all q place part old now at past far =
-    as_cleared place old now (λ c. (nat_le part.first c && nat_lt c at) && not (q c)) (λ c. in_stretch part c && not (q c)) (λ c h. ap (λ t. t && not (q c)) (all_between part.first part.end at c past far.most)) far.cleared
+    as_cleared place old now (λ c. (nat_le part.first c && nat_lt c at) && not (q c))
+    (λ c. in_stretch part c && not (q c)) (λ c h. ap (λ t. t && not (q c))
+    (all_between part.first part.end at c past far.most)) far.cleared
 
 pub record IsRestFreed (q : ℕ → Bool) (part : Stretch) (old now : ClusterMap) (at : ℕ) : Type 0 where
   pub begun : part.first ≤ at
@@ -80,7 +85,9 @@ rest_freed_none q part old = record {
   freed = none_freed old (λ c. (nat_le part.first c && nat_lt c part.first) && not (q c)) (λ c. ap (λ t. t && not (q c)) (none_between part.first part.first c (omega arith)));
 }
 
-pub rest_freed_more : (q : ℕ → Bool) (part : Stretch) (old now new : ClusterMap) (at : ℕ) → at < part.end → IsRestFreed q part old now at → ClearsMarks now new (λ c. (c == at) && not (q at)) → IsRestFreed q part old new (at + 1)
+pub rest_freed_more : (q : ℕ → Bool) (part : Stretch) (old now new : ClusterMap) (at : ℕ) → at < part.end
+    → IsRestFreed q part old now at → ClearsMarks now new (λ c. (c == at) && not (q at))
+    → IsRestFreed q part old new (at + 1)
 rest_freed_more q part old now new at low far one = record {
   begun = let begun = far.begun in omega arith;
   most = omega arith;
@@ -90,13 +97,15 @@ rest_freed_more q part old now new at low far one = record {
 
 pub rest_freed_all : (q : ℕ → Bool) (part : Stretch) (old now : ClusterMap) (at : ℕ) → part.end ≤ at → IsRestFreed q part old now at → ClearsMarks old now (λ c. in_stretch part c && not (q c))
 rest_freed_all q part old now at past far =
-    as_freed old now (λ c. (nat_le part.first c && nat_lt c at) && not (q c)) (λ c. in_stretch part c && not (q c)) (λ c. ap (λ t. t && not (q c)) (all_between part.first part.end at c past far.most)) far.freed
+    as_freed old now (λ c. (nat_le part.first c && nat_lt c at) && not (q c)) (λ c. in_stretch part c && not (q c))
+    (λ c. ap (λ t. t && not (q c)) (all_between part.first part.end at c past far.most)) far.freed
 
 -- the next cluster has its mark there, and is in the map if it is given up
 pub next_there : (place : ℕ) (part : Stretch) (at : ℕ) → part.first ≤ at → at < part.end → ((c : ℕ) → in_stretch part c ≡ true → c / 2048 ≡ place) → at / 2048 ≡ place
 next_there place part at begun low there = there at (within part.first part.end at begun low)
 
-pub next_rest_in_map : (q : ℕ → Bool) (part : Stretch) (old now : ClusterMap) (at : ℕ) → at < part.end → AreInMap (λ c. in_stretch part c && not (q c)) old → IsRestFreed q part old now at → q at ≡ false → at < now.clusters
+pub next_rest_in_map : (q : ℕ → Bool) (part : Stretch) (old now : ClusterMap) (at : ℕ) → at < part.end
+    → AreInMap (λ c. in_stretch part c && not (q c)) old → IsRestFreed q part old now at → q at ≡ false → at < now.clusters
 next_rest_in_map q part old now at low all far given =
     let there : at < old.clusters = all at (and_from (in_stretch part at) (not (q at)) (within part.first part.end at far.begun low) (not_from_false (q at) given)) in
     let same = far.freed.clusters in
@@ -104,7 +113,8 @@ next_rest_in_map q part old now at low all far given =
 
 -- Segments.
 
-pub front_rest : (k place i c : ℕ) (own : OwnSectors) (q : ℕ → Bool) (part : Stretch) → i < length (own_segments own) → ((c : ℕ) → in_stretch part c ≡ here (in_part k own i) place c) → c / 2048 ≡ place
+pub front_rest : (k place i c : ℕ) (own : OwnSectors) (q : ℕ → Bool) (part : Stretch) → i < length (own_segments own)
+    → ((c : ℕ) → in_stretch part c ≡ here (in_part k own i) place c) → c / 2048 ≡ place
     → ((in_front k own i c && not (q c)) || (in_stretch part c && not (q c))) ≡ (in_front k own (i + 1) c && not (q c))
 front_rest k place i c own q part low is there = either (in_front k own i c) (in_stretch part c) (not (q c)) ∙ ap (λ t. t && not (q c)) (front_in k place i c own part low is there)
 
@@ -116,7 +126,8 @@ front_rest_here k place i c own q part low is =
     ∙ ap (λ t. t && not (q c)) (front_here k place i c own part low is)
     ∙ sym (swap (in_front k own (i + 1) c) (not (q c)) (c / 2048 == place))
 
-pub rest_here_all : (k place i : ℕ) (own : OwnSectors) (q : ℕ → Bool) → length (own_segments own) ≤ i → (c : ℕ) → here (λ d. in_front k own i d && not (q d)) place c ≡ here (λ d. in_own k own d && not (q d)) place c
+pub rest_here_all : (k place i : ℕ) (own : OwnSectors) (q : ℕ → Bool) → length (own_segments own) ≤ i → (c : ℕ)
+    → here (λ d. in_front k own i d && not (q d)) place c ≡ here (λ d. in_own k own d && not (q d)) place c
 rest_here_all k place i own q past c = ap (λ t. (t && not (q c)) && (c / 2048 == place)) (front_all k own i c past)
 
 pub part_of_rest : (k place i : ℕ) (cut : CutSectors) (part : Stretch) (old now : ClusterMap) → i < length (own_segments cut.old) → ((c : ℕ) → in_stretch part c ≡ here (in_part k cut.old i) place c)
@@ -132,10 +143,14 @@ part_of_rest k place i cut part old now low is all same c h =
 in_part_is : (k place i c : ℕ) (own : OwnSectors) (part : Stretch) → ((c : ℕ) → in_stretch part c ≡ here (in_part k own i) place c) → c / 2048 ≡ place → in_part k own i c ≡ in_stretch part c
 in_part_is k place i c own part is there = sym (is c ∙ ap (λ t. in_part k own i c && t) (eq-eqb (c / 2048) place there) ∙ and_true (in_part k own i c))
 
-pub kept_by : (k place i c : ℕ) (own : OwnSectors) (part : Stretch) → i < length (own_segments own) → ((c : ℕ) → in_stretch part c ≡ here (in_part k own i) place c) → c / 2048 ≡ place → part.first ≤ c → c < part.end → true ≡ in_own k own c
+pub kept_by : (k place i c : ℕ) (own : OwnSectors) (part : Stretch) → i < length (own_segments own)
+    → ((c : ℕ) → in_stretch part c ≡ here (in_part k own i) place c) → c / 2048 ≡ place → part.first ≤ c → c < part.end
+    → true ≡ in_own k own c
 kept_by k place i c own part low is there from to = sym (part_in_own k own i c low (in_part_is k place i c own part is there ∙ within part.first part.end c from to))
 
-pub not_kept_by : (k place i c : ℕ) (own : OwnSectors) (part : Stretch) → i < length (own_segments own) → ((c : ℕ) → in_stretch part c ≡ here (in_part k own i) place c) → c / 2048 ≡ place → in_front k own i c ≡ false → (part.first ≤ c → c < part.end → ⊥)
+pub not_kept_by : (k place i c : ℕ) (own : OwnSectors) (part : Stretch) → i < length (own_segments own)
+    → ((c : ℕ) → in_stretch part c ≡ here (in_part k own i) place c) → c / 2048 ≡ place → in_front k own i c ≡ false
+    → (part.first ≤ c → c < part.end → ⊥)
     → in_front k own (i + 1) c ≡ false
 not_kept_by k place i c own part low is there none out =
     sym (front_more k own i c low) ∙ ap (λ t. t || in_part k own i c) none
@@ -146,7 +161,9 @@ kept_by_none k i c own past none = sym (sym (front_all k own i c past) ∙ none)
 
 -- The first that is given up.
 
-pub all_kept_more : (k at : ℕ) (cut : CutSectors) (first : ℕ) → ((c : ℕ) → first ≤ c → c < at → in_own k cut.kept c ≡ true) → in_own k cut.kept at ≡ true → (c : ℕ) → first ≤ c → c < at + 1 → in_own k cut.kept c ≡ true
+pub all_kept_more : (k at : ℕ) (cut : CutSectors) (first : ℕ)
+    → ((c : ℕ) → first ≤ c → c < at → in_own k cut.kept c ≡ true) → in_own k cut.kept at ≡ true → (c : ℕ) → first ≤ c
+    → c < at + 1 → in_own k cut.kept c ≡ true
 all_kept_more k at cut first far here_is c from to = ⊎_elim
     (λ same. ap (in_own k cut.kept) same ∙ here_is)
     (λ differ. let ne : c ≡ at → ⊥ = differ in far c from (omega arith))
@@ -163,10 +180,15 @@ none_rest_more k place i cut part low is kept far c =
     let parts = and_parts (in_stretch part c) (not (in_own k cut.kept c)) h in
     both_ways (in_own k cut.kept c) (not-true (in_own k cut.kept c) parts.1) (kept c parts.0))
 
-pub none_rest : (k place i : ℕ) (cut : CutSectors) → length (own_segments cut.old) ≤ i → ((c : ℕ) → here (λ d. in_front k cut.old i d && not (in_own k cut.kept d)) place c ≡ false) → NoneHere (in_rest k cut) place
+pub none_rest : (k place i : ℕ) (cut : CutSectors) → length (own_segments cut.old) ≤ i
+    → ((c : ℕ) → here (λ d. in_front k cut.old i d && not (in_own k cut.kept d)) place c ≡ false)
+    → NoneHere (in_rest k cut) place
 none_rest k place i cut past far c = sym (rest_here_all k place i cut.old (in_own k cut.kept) past c) ∙ far c
 
-pub some_rest : (k place i c : ℕ) (cut : CutSectors) (part : Stretch) → i < length (own_segments cut.old) → ((c : ℕ) → in_stretch part c ≡ here (in_part k cut.old i) place c) → IsRest k cut part c → here (in_rest k cut) place c ≡ true
+pub some_rest : (k place i c : ℕ) (cut : CutSectors) (part : Stretch) → i < length (own_segments cut.old)
+    → ((c : ℕ) → in_stretch part c ≡ here (in_part k cut.old i) place c) → IsRest k cut part c
+    → here (in_rest k cut) place c ≡ true
 some_rest k place i c cut part low is rest =
     let parts = and_parts (in_part k cut.old i c) (c / 2048 == place) (sym (is c) ∙ rest.in_part) in
-    and_from (in_rest k cut c) (c / 2048 == place) (and_from (in_own k cut.old c) (not (in_own k cut.kept c)) (part_in_own k cut.old i c low parts.0) (not_from_false (in_own k cut.kept c) rest.given_up)) parts.1
+    and_from (in_rest k cut c) (c / 2048 == place) (and_from (in_own k cut.old c) (not (in_own k cut.kept c))
+    (part_in_own k cut.old i c low parts.0) (not_from_false (in_own k cut.kept c) rest.given_up)) parts.1

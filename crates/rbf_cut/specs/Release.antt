@@ -1,5 +1,5 @@
 -- The clusters of a cut file that are given back, sector by sector of the map.
-use Rattle.std.specs.Prelude.{◌≡◌, ℕ, Bool, true, false, List, Option, Some}
+use Rattle.std.specs.Prelude.{◌≡◌, ℕ, Bool, true, false, List, Option, Some, Result, Ok, Err}
 use Rattle.rbf_model.specs.Volume.{DiskVolume, Vol}
 use Rattle.rbf_change.specs.Agrees.{KeptVolume, Agrees}
 use Rattle.rbf_drop.specs.Cleared.{MayClear, IsCleared, before}
@@ -29,3 +29,9 @@ pub record ReleaseEnds (v : DiskVolume) (old : List ℕ) (gone : ℕ → Bool) (
   pub some : ℕ
   pub given_up : gone some ≡ true
   pub still : before gone place some ≡ false
+
+-- by the answer: all of them have been given back, or a fault came
+abbrev pub AnswersRelease : {Done Fault : Type 0} → DiskVolume → List ℕ → (ℕ → Bool) → Option (List ℕ) → KeptVolume
+    → Result Done Fault → Type 0
+AnswersRelease v old gone media kept (Ok done) = IsCleared v old gone media kept
+AnswersRelease v old gone media kept (Err fault) = ReleaseEnds v old gone media kept

@@ -1,4 +1,4 @@
-ghost use Rattle.std.specs.Prelude.{◌≡◌, ℕ, List, OnOk, OnErr, IsSome};
+ghost use Rattle.std.specs.Prelude.{◌≡◌, ℕ, List, OnErr, IsSome};
 ghost use Rattle.rbf_model.specs.Volume.{DiskVolume};
 ghost use Rattle.rbf_access.specs.Cached.{IsCacheOf};
 ghost use Rattle.rbf_access.specs.Drive.{Counts};
@@ -6,9 +6,9 @@ ghost use Rattle.rbf_access.specs.Faults.{file_fault};
 ghost use Rattle.rbf_access.specs.MapMarks.{marking_sectors};
 ghost use Rattle.rbf_access.specs.Mounted.{kept};
 ghost use Rattle.rbf_drop.specs.Own.{NoneHere};
-ghost use Rattle.rbf_drop.specs.Cleared.{ClearsNext, IsStopped, MayGoOn, IsCleared};
+ghost use Rattle.rbf_drop.specs.Cleared.{AnswersClearing, MayGoOn};
 ghost use Rattle.rbf_cut.specs.Rest.{in_rest};
-ghost use Rattle.rbf_cut.specs.Release.{MayRelease, IsReleasing, ReleaseEnds};
+ghost use Rattle.rbf_cut.specs.Release.{AnswersRelease, IsReleasing, MayRelease};
 
 use crate::bits::clear_rest;
 use crate::marks::free_rest;
@@ -31,17 +31,13 @@ pub fn release_rest(
 ) -> Result<(), FileFault>
     requires may { MayRelease volume.old.ident.cluster cut.now (media d.old) (kept volume.old) }
     requires cached { IsCacheOf (media d.old) volume.old.cache }
-    ensures ok { (v : DiskVolume) (old : List ℕ)
+    ensures answer { (v : DiskVolume) (old : List ℕ)
         → IsReleasing v old volume.old.ident.cluster cut.now (media d.old) (kept volume.old)
-        → OnOk result (IsCleared v old (in_rest volume.old.ident.cluster cut.now)
-        (media d.new) (kept volume.new)) }
-    ensures fault { (v : DiskVolume) (old : List ℕ)
-        → IsReleasing v old volume.old.ident.cluster cut.now (media d.old) (kept volume.old)
-        → OnErr result (ReleaseEnds v old (in_rest volume.old.ident.cluster cut.now)
-        (media d.new) (kept volume.new)) }
+        → AnswersRelease v old (in_rest volume.old.ident.cluster cut.now)
+        (media d.new) (kept volume.new) result }
     ensures device { OnErr result (IsSome (file_fault result)) }
     ensures cached { IsCacheOf (media d.new) volume.new.cache }
-    ensures counts { Counts ⟦<dyn BlockDriver as BlockDriver>⟧ (file_fault result)
+    ensures counts { Counts BlockDriver-dyn (file_fault result)
         (marking_sectors (kept volume.old).sizes (in_rest volume.old.ident.cluster cut.now))
         d.old d.new }
 {
@@ -63,16 +59,14 @@ fn release_in(
     requires go { MayGoOn (in_rest volume.old.ident.cluster cut.now) place (media d.old)
         (kept volume.old) }
     requires cached { IsCacheOf (media d.old) volume.old.cache }
-    ensures ok { OnOk result (ClearsNext (in_rest volume.old.ident.cluster cut.now) place
-        (media d.old) (media d.new) (kept volume.old) (kept volume.new)) }
-    ensures fault { OnErr result (IsStopped (in_rest volume.old.ident.cluster cut.now) place
-        (media d.old) (media d.new) (kept volume.old) (kept volume.new)) }
+    ensures answer { AnswersClearing (in_rest volume.old.ident.cluster cut.now) place
+        (media d.old) (media d.new) (kept volume.old) (kept volume.new) result }
     ensures device { OnErr result (IsSome (file_fault result)) }
     ensures cached { IsCacheOf (media d.new) volume.new.cache }
     ensures sizes { (kept volume.new).sizes ≡ (kept volume.old).sizes }
-    ensures counts { Counts ⟦<dyn BlockDriver as BlockDriver>⟧ (file_fault result) 1 d.old d.new }
+    ensures counts { Counts BlockDriver-dyn (file_fault result) 1 d.old d.new }
     ensures none { NoneHere (in_rest volume.old.ident.cluster cut.now) place
-        → Counts ⟦<dyn BlockDriver as BlockDriver>⟧ (file_fault result) 0 d.old d.new }
+        → Counts BlockDriver-dyn (file_fault result) 0 d.old d.new }
 {
     let k = volume.ident.cluster;
     if cut.first_in(k, place).is_none() {

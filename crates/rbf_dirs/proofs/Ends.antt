@@ -37,14 +37,16 @@ kept_answer end e r is answers = subst (AnswersDeletion end) (sym is) (by_error 
     by_error (File TooManyRuns) h = h
 
 -- the drive has failed, at the sector of the entry or later
-pub stopped_answer : (v : DiskVolume) (d n : ℕ) (name : List ℕ) (media now : Option (List ℕ)) (fault : FileFault) → IsSome (file_fault {A = Unit {0}} (Err fault)) → (now ≡ media) ⊎ IsHalfDeleted v d n name media now
+pub stopped_answer : (v : DiskVolume) (d n : ℕ) (name : List ℕ) (media now : Option (List ℕ)) (fault : FileFault)
+    → IsSome (file_fault {A = Unit {0}} (Err fault)) → (now ≡ media) ⊎ IsHalfDeleted v d n name media now
     → AnswersDeletionOf v d n name media now (Err fault)
 stopped_answer v d n name media now (Device k) device left = left
 stopped_answer v d n name media now NoCluster device left = absurd (false≢true device)
 stopped_answer v d n name media now TooManyRuns device left = absurd (false≢true device)
 
 -- a deletion of a file that was found ends by a fault of the drive alone
-pub only_device : (v : DiskVolume) (d n : ℕ) (name : List ℕ) (media now : Option (List ℕ)) (fault : FileFault) → AnswersDeletionOf v d n name media now (Err fault) → IsSome (file_fault {A = Unit {0}} (Err fault))
+pub only_device : (v : DiskVolume) (d n : ℕ) (name : List ℕ) (media now : Option (List ℕ)) (fault : FileFault)
+    → AnswersDeletionOf v d n name media now (Err fault) → IsSome (file_fault {A = Unit {0}} (Err fault))
 only_device v d n name media now (Device k) answer = refl
 only_device v d n name media now NoCluster answer = absurd answer
 only_device v d n name media now TooManyRuns answer = absurd answer

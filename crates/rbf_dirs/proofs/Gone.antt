@@ -165,11 +165,14 @@ module _ (media mid : Option (List ℕ)) (d : ℕ) (name : List ℕ) (found : De
   gone_number k same = ap (λ j. put_file (put_file v.files d (Some (with_directory_entry dir place (freed_entry (directory_entry dir.contents place))))) j None n) same
       ∙ put_file_here (put_file v.files d (Some (with_directory_entry dir place (freed_entry (directory_entry dir.contents place))))) n None
 
-  others_without : (m : ℕ) (other : DiskFile) → w.files m ≡ Some other → (m ≢ n) × (put_file v.files d (Some (with_directory_entry dir place (freed_entry (directory_entry dir.contents place)))) m ≡ Some other)
+  others_without : (m : ℕ) (other : DiskFile) → w.files m ≡ Some other
+      → (m ≢ n) × (put_file v.files d (Some (with_directory_entry dir place (freed_entry (directory_entry dir.contents place)))) m ≡ Some other)
   others_without m other is = ⊎_elim
       (λ here. absurd (none-some other here.1))
       (λ there. (λ same. there.0 (same ∙ sym number), there.1))
-      (put_file_cases (put_file v.files d (Some (with_directory_entry dir place (freed_entry (directory_entry dir.contents place))))) (descriptor_field (directory_entry dir.contents place)) None m other is)
+      (put_file_cases (put_file v.files d (Some (with_directory_entry dir place
+      (freed_entry (directory_entry dir.contents place))))) (descriptor_field (directory_entry dir.contents place)) None
+      m other is)
 
   -- the file has gone
   pub gone : IsGone mid w n file
@@ -191,7 +194,8 @@ module _ (media mid : Option (List ℕ)) (d : ℕ) (name : List ℕ) (found : De
         ap (λ s. has_cluster s m other c) volume_shape
         ∙ ⊎_elim
         (λ changed.
-        let same : with_directory_entry dir place (freed_entry (directory_entry dir.contents place)) ≡ other = same_Some (with_directory_entry dir place (freed_entry (directory_entry dir.contents place))) other changed.1 in
+        let same : with_directory_entry dir place (freed_entry (directory_entry dir.contents place)) ≡ other =
+        same_Some (with_directory_entry dir place (freed_entry (directory_entry dir.contents place))) other changed.1 in
         has_cluster_is g m other dir c (sym (ap (λ (f : DiskFile). f.segments) same)) ∙ clusters_apart m c dir there.0 (ap v.files changed.0 ∙ frees.at.free.place.is) has_it)
         (λ still. clusters_apart m c other there.0 still.1 has_it)
         (put_file_cases v.files d (Some (with_directory_entry dir place (freed_entry (directory_entry dir.contents place)))) m other there.1);
@@ -207,7 +211,9 @@ module _ (media mid : Option (List ℕ)) (d : ℕ) (name : List ℕ) (found : De
       let k = descriptor_field (directory_entry dir.contents place) in
       let differ : k ≢ d = λ same. apart (sym number ∙ same) in
       let there : fewer k ≡ Some file = put_file_beside v.files d (Some (with_directory_entry dir place (freed_entry (directory_entry dir.contents place)))) k differ ∙ frees.at.free.names in
-      let his : in_file g k (fewer k) c ≡ has_cluster (shape w) n file c = in_file_at g k (fewer k) file c there ∙ ap (λ j. has_cluster g j file c) number ∙ ap (λ s. has_cluster s n file c) (sym volume_shape) in
+      let his : in_file g k (fewer k) c ≡ has_cluster (shape w) n file c =
+      in_file_at g k (fewer k) file c there ∙ ap (λ j. has_cluster g j file c) number ∙ ap (λ s. has_cluster s n file c)
+      (sym volume_shape) in
       ap (λ t. (if t then is_whole g c else v.lost c) && not (has_cluster (shape w) n file c)) his
       ∙ pick (has_cluster (shape w) n file c) (is_whole g c) (v.lost c)
       (λ h. false_from_ne_true (v.lost c) (λ lost.
@@ -329,12 +335,14 @@ module _ (media mid : Option (List ℕ)) (d : ℕ) (name : List ℕ) (found : De
       (calls_of_file media mid d name found frees f s t (moves (w media mid d name found frees) (file media mid d name found frees) (gone media mid d name found frees)))
       same is
 
-  pub deleted_on : (new : Option (List ℕ)) → ((x : DiskVolume) (f : DiskFile) → IsGone mid x found.descriptor f → IsDropped x found.descriptor f mid new) → IsDeleted u d found.descriptor name media new
+  pub deleted_on : (new : Option (List ℕ)) → ((x : DiskVolume) (f : DiskFile) → IsGone mid x found.descriptor f
+      → IsDropped x found.descriptor f mid new) → IsDeleted u d found.descriptor name media new
   deleted_on new drops =
       subst (λ x. IsDeleted x d found.descriptor name media new) same_volume
       (deleted media mid d name found frees new (drops (w media mid d name found frees) (file media mid d name found frees) (gone media mid d name found frees)))
 
-  pub half_deleted_on : (new : Option (List ℕ)) → ((x : DiskVolume) (f : DiskFile) → IsGone mid x found.descriptor f → DropEnds x found.descriptor f mid new) → IsHalfDeleted u d found.descriptor name media new
+  pub half_deleted_on : (new : Option (List ℕ)) → ((x : DiskVolume) (f : DiskFile) → IsGone mid x found.descriptor f
+      → DropEnds x found.descriptor f mid new) → IsHalfDeleted u d found.descriptor name media new
   half_deleted_on new ends =
       subst (λ x. IsHalfDeleted x d found.descriptor name media new) same_volume
       (half_deleted media mid d name found frees new (ends (w media mid d name found frees) (file media mid d name found frees) (gone media mid d name found frees)))

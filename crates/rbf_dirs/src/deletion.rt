@@ -43,8 +43,8 @@ pub fn delete(
         → OnErr result (DeletionStops on dir name.now user execute (media d.old) (media d.new)) }
     ensures refused { OnErr result (IsNone (directory_fault result) → media d.new ≡ media d.old) }
     ensures mounted { IsMounted v.new (media d.new) }
-    ensures counts { OnVolumeFile (media d.old) dir (λ on f. Counts
-        ⟦<dyn BlockDriver as BlockDriver>⟧ (directory_fault result) (deletion_total on f name.now user execute) d.old d.new) }
+    ensures counts { OnVolumeFile (media d.old) dir (λ on f. Counts BlockDriver-dyn
+        (directory_fault result) (deletion_total on f name.now user execute) d.old d.new) }
 {
     let found = find_deletable(v, d, dir, name, user, execute)?;
     delete_at(v, d, &found)?;

@@ -33,7 +33,7 @@ pub fn delete_at(
         → AnswersDeletionOf on dir found.now.descriptor name (media d.old) (media d.new) result }
     ensures mounted { IsMounted v.new (media d.new) }
     ensures counts { OnVolumeFile (media d.old) found.now.descriptor (λ on file.
-        Counts ⟦<dyn BlockDriver as BlockDriver>⟧ (file_fault result)
+        Counts BlockDriver-dyn (file_fault result)
         (file_deletion_calls on found.now.descriptor file) d.old d.new) }
 {
     free_entry(v, d, found)?;

@@ -83,7 +83,9 @@ one_before gone place c = either (gone c) (nat_lt (c / 2048) place) (c / 2048 ==
         (λ under. or_left (nat_lt q place) (q == place) under ∙ sym (lt-ltb q (place + 1) (let l = ltb-true q place under in omega arith)))
         (λ past. or_right (nat_lt q place) (q == place) (eq-eqb q place (past_is low past)) ∙ sym low)
         (cases_Bool (nat_lt q place)))
-        (λ high. ap (λ t. t || (q == place)) (false_from_ne_true (nat_lt q place) (λ under. both_ways (nat_lt q (place + 1)) high (lt-ltb q (place + 1) (let l = ltb-true q place under in omega arith))))
+        (λ high. ap (λ t. t || (q == place)) (false_from_ne_true (nat_lt q place)
+        (λ under. both_ways (nat_lt q (place + 1)) high (lt-ltb q (place + 1)
+        (let l = ltb-true q place under in omega arith))))
         ∙ false_from_ne_true (q == place) (λ is. both_ways (nat_lt q (place + 1)) high (lt-ltb q (place + 1) (let e = eqb-true q place is in omega arith))) ∙ sym high)
         (cases_Bool (nat_lt q (place + 1)))
       where
@@ -116,13 +118,15 @@ drop_begins gone kept kept_now media mid first same still = record {
 }
 
 module _ (gone : ℕ → Bool) (place : ℕ) (kept kept_now : KeptVolume) (media mid : Option (List ℕ)) (first half : DriveCounts) (far : IsDropSoFar gone place kept kept_now media mid first half) where
-  clearing : (v : DiskVolume) (old : List ℕ) → media ≡ Some old → Vol old v → MayClear v old gone → Agrees kept old → place < map_sectors (image_geometry old) → IsClearing v old (before gone place) gone place mid kept_now
+  clearing : (v : DiskVolume) (old : List ℕ) → media ≡ Some old → Vol old v → MayClear v old gone → Agrees kept old
+      → place < map_sectors (image_geometry old) → IsClearing v old (before gone place) gone place mid kept_now
   clearing v old is vol may agrees within = record { vol = vol; may = may; far = far.cleared v old is vol may agrees; fresh = λ c there. not_yet gone place c there; within = within }
 
   pub drop_goes_on : (v : DiskVolume) (old : List ℕ) → media ≡ Some old → Vol old v → MayClear v old gone → Agrees kept old → place < map_sectors (image_geometry old) → MayGoOn gone place mid kept_now
   drop_goes_on v old is vol may agrees within = record { volume = v; old = old; cleared = before gone place; is = clearing v old is vol may agrees within }
 
-  pub drop_more : (now : Option (List ℕ)) (kept_then : KeptVolume) (after : DriveCounts) → place < map_sectors kept.sizes → ClearsNext gone place mid now kept_now kept_then → kept_then.sizes ≡ kept_now.sizes
+  pub drop_more : (now : Option (List ℕ)) (kept_then : KeptVolume) (after : DriveCounts)
+      → place < map_sectors kept.sizes → ClearsNext gone place mid now kept_now kept_then → kept_then.sizes ≡ kept_now.sizes
       → ((c : ℕ) → gone c ≡ true → c < cluster_count kept.sizes) → MovesCounts None 1 half after → (NoneHere gone place → MovesCounts None 0 half after)
       → IsDropSoFar gone (place + 1) kept kept_then media now first after
   drop_more now kept_then after within next sizes in_volume counts none = record {
@@ -295,7 +299,8 @@ module _ (media : Option (List ℕ)) (n : ℕ) (segs : List (ℕ × ℕ)) (segs_
       };
       end = λ d behind. ⊎_elim
           (λ low. inr (state.marks d behind.in_map ∙ ap (λ t. is_marked (sector image) d && not t) (before_is d ∙ ap (λ t. has_it d && t) low ∙ and_true (has_it d))))
-          (λ high. inl (state.marks d behind.in_map ∙ ap (λ t. is_marked (sector image) d && not t) (before_is d ∙ ap (λ t. has_it d && t) high ∙ and_false (has_it d)) ∙ and_true (is_marked (sector image) d)))
+          (λ high. inl (state.marks d behind.in_map ∙ ap (λ t. is_marked (sector image) d && not t)
+          (before_is d ∙ ap (λ t. has_it d && t) high ∙ and_false (has_it d)) ∙ and_true (is_marked (sector image) d)))
           (cases_Bool (nat_lt (d / 2048) place));
     }
       where
@@ -339,7 +344,8 @@ on_err (Ok a) P p = tt
 on_err (Err e) P p = p
 
 -- the descriptor could not be read
-pub drop_unread : (media : Option (List ℕ)) (n : ℕ) (v : DiskVolume) (file : DiskFile) (gone : IsGone media v n file) (kv : KeptVolume) → Agrees kv gone.on.image → (mid : Option (List ℕ)) → mid ≡ media → DropEnds v n file media mid
+pub drop_unread : (media : Option (List ℕ)) (n : ℕ) (v : DiskVolume) (file : DiskFile) (gone : IsGone media v n file) (kv : KeptVolume)
+    → Agrees kv gone.on.image → (mid : Option (List ℕ)) → mid ≡ media → DropEnds v n file media mid
 drop_unread media n v file gone kv agrees mid same =
     let none : DriveCounts = record { faults = 0; last = None; calls = 0 } in
     let segs : List (ℕ × ℕ) = segments_field (sector_at media n) in
@@ -374,8 +380,12 @@ none_as k other own place P same rest none = rest (subst (λ x. NoneHere (in_own
 pub go_as : (k other : ℕ) (own : OwnSectors) (place : ℕ) (media : Option (List ℕ)) (kv : KeptVolume) → other ≡ k → MayGoOn (in_own k own) place media kv → MayGoOn (in_own other own) place media kv
 go_as k other own place media kv same go = subst (λ x. MayGoOn (in_own x own) place media kv) (sym same) go
 
-pub stopped_as : (k other : ℕ) (own : OwnSectors) (place : ℕ) (media now : Option (List ℕ)) (kv kv_now : KeptVolume) → other ≡ k → IsStopped (in_own other own) place media now kv kv_now → IsStopped (in_own k own) place media now kv kv_now
+pub stopped_as : (k other : ℕ) (own : OwnSectors) (place : ℕ) (media now : Option (List ℕ)) (kv kv_now : KeptVolume)
+    → other ≡ k → IsStopped (in_own other own) place media now kv kv_now
+    → IsStopped (in_own k own) place media now kv kv_now
 stopped_as k other own place media now kv kv_now same stop = subst (λ x. IsStopped (in_own x own) place media now kv kv_now) same stop
 
-pub next_as : (k other : ℕ) (own : OwnSectors) (place : ℕ) (media now : Option (List ℕ)) (kv kv_now : KeptVolume) → other ≡ k → ClearsNext (in_own other own) place media now kv kv_now → ClearsNext (in_own k own) place media now kv kv_now
+pub next_as : (k other : ℕ) (own : OwnSectors) (place : ℕ) (media now : Option (List ℕ)) (kv kv_now : KeptVolume)
+    → other ≡ k → ClearsNext (in_own other own) place media now kv kv_now
+    → ClearsNext (in_own k own) place media now kv kv_now
 next_as k other own place media now kv kv_now same next = subst (λ x. ClearsNext (in_own x own) place media now kv kv_now) same next

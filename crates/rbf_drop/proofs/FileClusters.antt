@@ -17,7 +17,8 @@ use Rattle.rbf_drop.specs.Own.{in_segment, in_segments, in_own}
 use Rattle.rbf_drop.proofs.Stretches.{same_tests}
 
 -- what is taken while a test passes, passes it
-place_passes : (q : ℕ × ℕ → Bool) (x : ℕ × ℕ) (ys : List (ℕ × ℕ)) (d : ℕ × ℕ) → q x ≡ true → ((k : ℕ) → k < length ys → q (get_or ys k d) ≡ true) → (j : ℕ) → j < length (x ∷ ys) → q (get_or (x ∷ ys) j d) ≡ true
+place_passes : (q : ℕ × ℕ → Bool) (x : ℕ × ℕ) (ys : List (ℕ × ℕ)) (d : ℕ × ℕ) → q x ≡ true
+    → ((k : ℕ) → k < length ys → q (get_or ys k d) ≡ true) → (j : ℕ) → j < length (x ∷ ys) → q (get_or (x ∷ ys) j d) ≡ true
 place_passes q x ys d passes later zero low = passes
 place_passes q x ys d passes later (suc j) low = later j (omega arith)
 
@@ -99,7 +100,8 @@ segments_of_sector k (x ∷ xs) s positive h = ⊎_elim
     (has_cases (segment_sectors x) (sectors_of xs) s h)
 
 -- the clusters of a file other than the root's
-pub own_is : (g : Geometry) (n : ℕ) (file : DiskFile) (c : ℕ) → 1 ≤ g.cluster → n ≢ g.root → AreSome file.segments → in_own g.cluster (record { fd = n; segs = file.segments }) c ≡ has_cluster g n file c
+pub own_is : (g : Geometry) (n : ℕ) (file : DiskFile) (c : ℕ) → 1 ≤ g.cluster → n ≢ g.root → AreSome file.segments
+    → in_own g.cluster (record { fd = n; segs = file.segments }) c ≡ has_cluster g n file c
 own_is g n file c positive other some = same_tests (in_own g.cluster (record { fd = n; segs = file.segments }) c) (has_cluster g n file c)
     (λ h. ⊎_elim
     (λ first.

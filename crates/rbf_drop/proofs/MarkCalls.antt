@@ -32,7 +32,9 @@ module _ (g : Geometry) (gone : ℕ → Bool) (in_volume : (c : ℕ) → gone c 
       (counts_then f (below (has_mark_of g gone) place) place_calls s t u far (place_moves f t u one none))
 
   -- and then a fault has ended it
-  pub moves_to_fault : place < map_sectors g → (f : Option ℕ) (s t u : DriveCounts) → MovesCounts None (below (has_mark_of g gone) place) s t → MovesCounts f 1 t u → (NoneHere gone place → MovesCounts f 0 t u)
+  pub moves_to_fault : place < map_sectors g → (f : Option ℕ) (s t u : DriveCounts)
+      → MovesCounts None (below (has_mark_of g gone) place) s t → MovesCounts f 1 t u
+      → (NoneHere gone place → MovesCounts f 0 t u)
       → MovesCounts f (marking_sectors g gone) s u
   moves_to_fault low f s t u far one none =
       counts_most f (below (has_mark_of g gone) (place + 1)) (marking_sectors g gone) s u (below_up (has_mark_of g gone) (place + 1) (map_sectors g) (omega arith)) (moves_more f s t u far one none)

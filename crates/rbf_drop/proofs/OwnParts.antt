@@ -85,7 +85,9 @@ stretch_there own i k place from to first end there order first_is end_is c =
     ∙ ap (λ s. here (in_segment k s) place c) (sym is)
 
 -- one segment more that has no cluster there
-pub none_more : (k place i : ℕ) (own : OwnSectors) (part : Stretch) → ((j c : ℕ) → j < i → here (in_part k own j) place c ≡ false) → ((c : ℕ) → in_stretch part c ≡ here (in_part k own i) place c) → part.end ≤ part.first
+pub none_more : (k place i : ℕ) (own : OwnSectors) (part : Stretch)
+    → ((j c : ℕ) → j < i → here (in_part k own j) place c ≡ false)
+    → ((c : ℕ) → in_stretch part c ≡ here (in_part k own i) place c) → part.end ≤ part.first
     → (j c : ℕ) → j < i + 1 → here (in_part k own j) place c ≡ false
 none_more k place i own part none is empty j c low = ⊎_elim
     (λ same. ap (λ m. here (in_part k own m) place c) same ∙ sym (is c) ∙ none_between part.first part.end c empty)

@@ -217,7 +217,8 @@ go_positive gone place media kept go = positive go.volume go.old go.cleared gone
 pub clears_nothing : (gone : ℕ → Bool) (place : ℕ) (media : Option (List ℕ)) (kept : KeptVolume) → NoneHere gone place → ClearsNext gone place media media kept kept
 clears_nothing gone place media kept none v old cleared state = nothing_there v old cleared gone place media kept state none
 
-pub clears_next : (gone : ℕ → Bool) (place p : ℕ) (media now : Option (List ℕ)) (kept kept_now : KeptVolume) (first bytes : List ℕ) (map : ClusterMap) → IsSectorOf kept.map.bytes place first → length bytes ≡ 256
+pub clears_next : (gone : ℕ → Bool) (place p : ℕ) (media now : Option (List ℕ)) (kept kept_now : KeptVolume) (first bytes : List ℕ) (map : ClusterMap)
+    → IsSectorOf kept.map.bytes place first → length bytes ≡ 256
     → ClearsIn place first bytes gone → p ≡ place → now ≡ with_sector media (1 + p) bytes → ClearsMarks kept.map map (here gone place) → kept_now ≡ record { sizes = kept.sizes; map = map }
     → ClearsNext gone place media now kept kept_now
 clears_next gone place p media now kept kept_now first bytes map of_map whole without same written freed is v old cleared state =
@@ -232,3 +233,8 @@ go_sound gone place p media kept first bytes of_map whole without same go =
 pub none_if : (o : Option ℕ) (P : Type 0) (Q : ℕ → Type 0) → is_some o ≡ false → MatchOption o P Q → P
 none_if None P Q none h = h
 none_if (Some c) P Q none h = absurd (false≢true (sym none))
+
+-- and one that is there
+pub some_if : (o : Option ℕ) (P : Type 0) (Q : ℕ → Type 0) → is_some o ≡ true → MatchOption o P Q → (c : ℕ) × Q c
+some_if None P Q some h = absurd (false≢true some)
+some_if (Some c) P Q some h = (c, h)

@@ -1,5 +1,5 @@
 -- Clusters that are given back: their marks are cleared on the media and in what is kept of the volume.
-use Rattle.std.specs.Prelude.{◌≡◌, ℕ, ◌*◌, ◌/◌, ◌<◌, ◌&&◌, ◌||◌, nat_lt, Bool, true, false, not, List, Option, Some}
+use Rattle.std.specs.Prelude.{◌≡◌, ℕ, ◌*◌, ◌/◌, ◌<◌, ◌&&◌, ◌||◌, nat_lt, Bool, true, false, not, List, Option, Some, Result, Ok, Err}
 use Rattle.rbf_model.specs.Geometry.{image_geometry, sector, map_sectors}
 use Rattle.rbf_model.specs.Space.{is_marked, cluster_count, Unused}
 use Rattle.rbf_model.specs.Volume.{DiskVolume, Vol}
@@ -55,6 +55,12 @@ pub record IsStopped (gone : ℕ → Bool) (place : ℕ) (media now : Option (Li
   pub some : HasHere gone place
   pub media_kept : now ≡ media
   pub volume_kept : kept_now ≡ kept
+
+-- by the answer: the marks have been cleared, or a fault came
+abbrev pub AnswersClearing : {Done Fault : Type 0} → (ℕ → Bool) → ℕ → Option (List ℕ) → Option (List ℕ) → KeptVolume
+    → KeptVolume → Result Done Fault → Type 0
+AnswersClearing gone place media now kept kept_now (Ok done) = ClearsNext gone place media now kept kept_now
+AnswersClearing gone place media now kept kept_now (Err fault) = IsStopped gone place media now kept kept_now
 
 -- the clusters of these that have their mark in a sector of the map before this one
 abbrev pub before : (ℕ → Bool) → ℕ → ℕ → Bool

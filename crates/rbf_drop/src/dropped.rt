@@ -34,7 +34,7 @@ pub fn drop_fd(volume: &mut Volume, d: &mut dyn BlockDriver, fd: u32) -> Result<
     ensures device { OnErr result (IsSome (file_fault result)) }
     ensures mounted { IsMounted volume.new (media d.new) }
     ensures counts { (v : DiskVolume) (file : DiskFile) → IsGone (media d.old) v fd file
-        → Counts ⟦<dyn BlockDriver as BlockDriver>⟧ (file_fault result)
+        → Counts BlockDriver-dyn (file_fault result)
         (1 + marking_sectors (shape v) (has_cluster (shape v) fd file)) d.old d.new }
 {
     let bytes = volume.load(d, fd)?;
@@ -67,7 +67,7 @@ pub fn drop_own(
     ensures device { OnErr result (IsSome (file_fault result)) }
     ensures mounted { IsMounted volume.new (media d.new) }
     ensures counts { (v : DiskVolume) (file : DiskFile) → IsGone (media d.old) v own.now.fd file
-        → Counts ⟦<dyn BlockDriver as BlockDriver>⟧ (file_fault result)
+        → Counts BlockDriver-dyn (file_fault result)
         (marking_sectors (shape v) (has_cluster (shape v) own.now.fd file)) d.old d.new }
 {
     let end = system_sectors(&volume.ident) - 1;

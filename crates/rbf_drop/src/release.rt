@@ -1,10 +1,10 @@
-ghost use Rattle.std.specs.Prelude.{◌≡◌, OnOk, OnErr, IsSome};
+ghost use Rattle.std.specs.Prelude.{◌≡◌, OnErr, IsSome};
 ghost use Rattle.rbf_access.specs.Cached.{IsCacheOf};
 ghost use Rattle.rbf_access.specs.Drive.{Counts};
 ghost use Rattle.rbf_access.specs.Faults.{file_fault};
 ghost use Rattle.rbf_access.specs.Mounted.{kept};
 ghost use Rattle.rbf_drop.specs.Own.{in_own, NoneHere};
-ghost use Rattle.rbf_drop.specs.Cleared.{ClearsNext, IsStopped, MayGoOn};
+ghost use Rattle.rbf_drop.specs.Cleared.{AnswersClearing, MayGoOn};
 
 use crate::bits::clear_own;
 use crate::marks::free_own;
@@ -23,16 +23,14 @@ pub fn release_in(
     requires go { MayGoOn (in_own volume.old.ident.cluster own.now) place (media d.old)
         (kept volume.old) }
     requires cached { IsCacheOf (media d.old) volume.old.cache }
-    ensures ok { OnOk result (ClearsNext (in_own volume.old.ident.cluster own.now) place
-        (media d.old) (media d.new) (kept volume.old) (kept volume.new)) }
-    ensures fault { OnErr result (IsStopped (in_own volume.old.ident.cluster own.now) place
-        (media d.old) (media d.new) (kept volume.old) (kept volume.new)) }
+    ensures answer { AnswersClearing (in_own volume.old.ident.cluster own.now) place
+        (media d.old) (media d.new) (kept volume.old) (kept volume.new) result }
     ensures device { OnErr result (IsSome (file_fault result)) }
     ensures cached { IsCacheOf (media d.new) volume.new.cache }
     ensures sizes { (kept volume.new).sizes ≡ (kept volume.old).sizes }
-    ensures counts { Counts ⟦<dyn BlockDriver as BlockDriver>⟧ (file_fault result) 1 d.old d.new }
+    ensures counts { Counts BlockDriver-dyn (file_fault result) 1 d.old d.new }
     ensures none { NoneHere (in_own volume.old.ident.cluster own.now) place
-        → Counts ⟦<dyn BlockDriver as BlockDriver>⟧ (file_fault result) 0 d.old d.new }
+        → Counts BlockDriver-dyn (file_fault result) 0 d.old d.new }
 {
     let k = volume.ident.cluster;
     if own.first_in(k, place).is_none() {

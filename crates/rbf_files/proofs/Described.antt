@@ -31,12 +31,14 @@ unfolding has_cluster
 same_cluster g n one other c same = ap (list_any (λ t. t / g.cluster == c)) (same_owned g n one other same)
 
 -- the clusters that are lost when a file has another in its place with all its clusters
-lost_of : (in_new in_old whole lost was : Bool) → (in_new ≡ true → was ≡ false) → (in_new ≡ false → (in_old ≡ false) × (lost ≡ was)) → (if in_new then false else (if in_old then whole else lost)) ≡ was
+lost_of : (in_new in_old whole lost was : Bool) → (in_new ≡ true → was ≡ false)
+    → (in_new ≡ false → (in_old ≡ false) × (lost ≡ was)) → (if in_new then false else (if in_old then whole else lost)) ≡ was
 lost_of true in_old whole lost was new other = sym (new refl)
 lost_of false true whole lost was new other = absurd (both_ways true (other refl).0 refl)
 lost_of false false whole lost was new other = (other refl).1
 
-module _ (image : List ℕ) (v : DiskVolume) (lost : ℕ → Bool) (taken : List ℕ) (vol : Vol image (with_lost v lost)) (lost_is : (c : ℕ) → lost c ≡ (v.lost c || has taken c)) (not_lost : (c : ℕ) → has taken c ≡ true → v.lost c ≡ false)
+module _ (image : List ℕ) (v : DiskVolume) (lost : ℕ → Bool) (taken : List ℕ) (vol : Vol image (with_lost v lost))
+    (lost_is : (c : ℕ) → lost c ≡ (v.lost c || has taken c)) (not_lost : (c : ℕ) → has taken c ≡ true → v.lost c ≡ false)
     (n : ℕ) (old : DiskFile) (is : v.files n ≡ Some old) (free : ℕ → Bool) (gained : Gains (image_geometry image).cluster free old.segments taken)
     (bytes : List ℕ) (whole : length bytes ≡ 256) (list : segments_field bytes ≡ with_clusters (image_geometry image).cluster old.segments taken)
     (kind : is_directory (file_from (sector image) bytes) ≡ is_directory old) (room : has_room (segments_field bytes) (size_field bytes) ≡ true)

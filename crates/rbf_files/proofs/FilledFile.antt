@@ -131,7 +131,9 @@ module _ (u : DiskVolume) (n : ℕ) (file : DiskFile) (segments : List (ℕ × �
         ap (λ k. put_at (take (length file.contents) bytes) (256 * j) (take (k - 256 * j) piece)) size_all
         ∙ sym (take_put_at bytes piece (256 * j) (length file.contents) (omega arith) (omega arith) (omega arith)) in
         subst (λ fs. Vol (put_sector now s piece) (record { ident = u.ident; files = fs; lost = u.lost; rest = u.rest }))
-        (put_twice u.files n (Some (with_contents file (take (length file.contents) bytes))) (Some (with_contents file (put_at (take (length file.contents) bytes) (256 * j) (take (length (take (length file.contents) bytes) - 256 * j) piece))))
+        (put_twice u.files n (Some (with_contents file (take (length file.contents) bytes)))
+        (Some (with_contents file (put_at (take (length file.contents) bytes) (256 * j)
+        (take (length (take (length file.contents) bytes) - 256 * j) piece))))
         ∙ ap (λ c. put_file u.files n (Some (with_contents file c))) contents)
         (overwrite_image now w laid.vol n j s (with_contents file (take (length file.contents) bytes)) piece whole over)
 

@@ -31,7 +31,8 @@ abbrev pub first_bytes : Option (List ℕ) → List (ℕ × ℕ) → List ℕ
 first_bytes media segments = segment_bytes (sector_at media) segments
 
 -- the sectors before this one have been laid over
-pub record IsFillSoFar (segments : List (ℕ × ℕ)) (size at : ℕ) (from : List ℕ) (first place : ℕ) (kept kept_now : KeptVolume) (old mid : Option (List ℕ)) (held : List Sector) (before half : DriveCounts) : Type 0 where
+pub record IsFillSoFar (segments : List (ℕ × ℕ)) (size at : ℕ) (from : List ℕ) (first place : ℕ)
+    (kept kept_now : KeptVolume) (old mid : Option (List ℕ)) (held : List Sector) (before half : DriveCounts) : Type 0 where
   pub laid : (u : DiskVolume) (n : ℕ) (file : DiskFile) → Represents old u → IsDataOf u n file segments size
       → IsLaid u n file segments old mid (laid_front (laid_bytes (first_bytes old segments) size at from) (first_bytes old segments) place)
   pub same : kept_now ≡ kept
@@ -58,14 +59,16 @@ module _ (segments : List (ℕ × ℕ)) (size at : ℕ) (from : List ℕ) (room 
         let b = e.1 in
         subst (IsLaid u n file segments old old) (sym (front_first whole size at from e.0 (omega arith) first (omega arith) (omega arith))) (laid_none u n file segments size known old on)
 
-    all_laid : (mid : Option (List ℕ)) (place : ℕ) → 256 * place ≤ 256 * length (sectors_of segments) → at + length from ≤ 256 * place → IsLaid u n file segments old mid (laid_front (laid_bytes whole size at from) whole place)
+    all_laid : (mid : Option (List ℕ)) (place : ℕ) → 256 * place ≤ 256 * length (sectors_of segments)
+        → at + length from ≤ 256 * place → IsLaid u n file segments old mid (laid_front (laid_bytes whole size at from) whole place)
         → IsLaid u n file segments old mid (laid_bytes whole size at from)
     all_laid mid place within end laid =
         let e = enough in
         let b = e.1 in
         subst (IsLaid u n file segments old mid) (front_all whole size at from e.0 (omega arith) place (omega arith) end) laid
 
-    next_laid : (mid after : Option (List ℕ)) (place lsn : ℕ) → place < length (sectors_of segments) → slice_get (sectors_of segments) place ≡ Some lsn → LaysSector size at from (256 * place) lsn mid after
+    next_laid : (mid after : Option (List ℕ)) (place lsn : ℕ) → place < length (sectors_of segments)
+        → slice_get (sectors_of segments) place ≡ Some lsn → LaysSector size at from (256 * place) lsn mid after
         → IsLaid u n file segments old mid (laid_front (laid_bytes whole size at from) whole place) → IsLaid u n file segments old after (laid_front (laid_bytes whole size at from) whole (place + 1))
     next_laid mid after place lsn low there lays laid =
         let e = enough in
@@ -80,7 +83,8 @@ module _ (segments : List (ℕ × ℕ)) (size at : ℕ) (from : List ℕ) (room 
         subst (IsLaid u n file segments old after) (front_more whole size at from e.0 (omega arith) place lays.bytes (omega arith) lays.whole each)
         (laid_then u n file segments size known old mid after bytes laid place low lays.bytes lays.whole written)
 
-  pub none_filled : (first : ℕ) (kept : KeptVolume) (held : List Sector) (before : DriveCounts) → IsCacheOf old held → first ≡ min size at / 256 → IsFillSoFar segments size at from first first kept kept old old held before before
+  pub none_filled : (first : ℕ) (kept : KeptVolume) (held : List Sector) (before : DriveCounts) → IsCacheOf old held
+      → first ≡ min size at / 256 → IsFillSoFar segments size at from first first kept kept old old held before before
   none_filled first kept held before cached is = record {
     laid = λ u n file on known. first_laid u n file on known first is;
     same = refl;
@@ -88,7 +92,9 @@ module _ (segments : List (ℕ × ℕ)) (size at : ℕ) (from : List ℕ) (room 
     moved = counts_most None 0 (2 * (first - first)) before before (omega arith) (no_calls before);
   }
 
-  module _ (first place : ℕ) (kept kept_now : KeptVolume) (mid : Option (List ℕ)) (held : List Sector) (before half : DriveCounts) (far : IsFillSoFar segments size at from first place kept kept_now old mid held before half) where
+  module _ (first place : ℕ) (kept kept_now : KeptVolume) (mid : Option (List ℕ)) (held : List Sector)
+      (before half : DriveCounts) (far : IsFillSoFar segments size at from first place kept kept_now old mid held before
+      half) where
     -- the next sector is on the drive
     pub place_on : (lsn : ℕ) → place < length (sectors_of segments) → slice_get (sectors_of segments) place ≡ Some lsn → HasData old segments size → lsn < sector_count mid
     place_on lsn low there has =
@@ -103,7 +109,8 @@ module _ (segments : List (ℕ × ℕ)) (size at : ℕ) (from : List ℕ) (room 
         let laid = next_laid has.volume has.number has.file has.on has.is mid after place lsn low there lays (far.laid has.volume has.number has.file has.on has.is) in
         (_, record { image = laid.now; is = laid.is; vol = laid.vol })
 
-    pub more_filled : (lsn : ℕ) (now_kept : KeptVolume) (after : Option (List ℕ)) (news : List Sector) (then_counts : DriveCounts) → first ≤ place → place < length (sectors_of segments) → slice_get (sectors_of segments) place ≡ Some lsn
+    pub more_filled : (lsn : ℕ) (now_kept : KeptVolume) (after : Option (List ℕ)) (news : List Sector) (then_counts : DriveCounts)
+        → first ≤ place → place < length (sectors_of segments) → slice_get (sectors_of segments) place ≡ Some lsn
         → LaysSector size at from (256 * place) lsn mid after → now_kept ≡ kept_now → IsCacheOf after news → MovesCounts None 2 half then_counts
         → IsFillSoFar segments size at from first (place + 1) kept now_kept old after news before then_counts
     more_filled lsn now_kept after news then_counts begun low there lays same cached counts = record {
@@ -114,7 +121,9 @@ module _ (segments : List (ℕ × ℕ)) (size at : ℕ) (from : List ℕ) (room 
     }
 
     -- a fault
-    pub part_filled : (after : Option (List ℕ)) → first ≡ min size at / 256 → first ≤ place → 256 * place < at + length from → after ≡ mid → (u : DiskVolume) (n : ℕ) (file : DiskFile) → Represents old u → IsDataOf u n file segments size
+    pub part_filled : (after : Option (List ℕ)) → first ≡ min size at / 256 → first ≤ place
+        → 256 * place < at + length from → after ≡ mid → (u : DiskVolume) (n : ℕ) (file : DiskFile) → Represents old u
+        → IsDataOf u n file segments size
         → IsPartLaid u n file segments old after size at from
     part_filled after is begun end same u n file on known = record {
       place = place;
@@ -123,11 +132,13 @@ module _ (segments : List (ℕ × ℕ)) (size at : ℕ) (from : List ℕ) (room 
       laid = subst (λ m. IsLaid u n file segments old m (laid_front (laid_bytes whole size at from) whole place)) (sym same) (far.laid u n file on known);
     }
 
-    pub fill_fault : (f : Option ℕ) (then_counts : DriveCounts) → first ≡ min size at / 256 → first ≤ place → 256 * place < at + length from → min size at < at + length from → MovesCounts f 2 half then_counts
+    pub fill_fault : (f : Option ℕ) (then_counts : DriveCounts) → first ≡ min size at / 256 → first ≤ place
+        → 256 * place < at + length from → min size at < at + length from → MovesCounts f 2 half then_counts
         → MovesCounts f (2 * sector_span (min size at) (at + length from)) before then_counts
     fill_fault f then_counts is begun end some counts =
         let span = spans in
-        counts_most f (2 * (place - first) + 2) (2 * sector_span (min size at) (at + length from)) before then_counts (omega arith) (counts_then f (2 * (place - first)) 2 before half then_counts far.moved counts)
+        counts_most f (2 * (place - first) + 2) (2 * sector_span (min size at) (at + length from)) before then_counts
+        (omega arith) (counts_then f (2 * (place - first)) 2 before half then_counts far.moved counts)
       where
         spans : sector_span (min size at) (at + length from) ≡ (at + length from + 255) / 256 - min size at / 256
         spans =
@@ -138,7 +149,8 @@ module _ (segments : List (ℕ × ℕ)) (size at : ℕ) (from : List ℕ) (room 
         → IsLaid u n file segments old mid (laid_bytes whole size at from)
     fill_done u n file on known within end = all_laid u n file on known mid place (omega arith) end (far.laid u n file on known)
 
-    pub fill_counts : first ≡ min size at / 256 → place ≡ (at + length from + 255) / 256 → min size at < at + length from → MovesCounts None (2 * sector_span (min size at) (at + length from)) before half
+    pub fill_counts : first ≡ min size at / 256 → place ≡ (at + length from + 255) / 256
+        → min size at < at + length from → MovesCounts None (2 * sector_span (min size at) (at + length from)) before half
     fill_counts is end some =
         let span = spans in
         counts_most None (2 * (place - first)) (2 * sector_span (min size at) (at + length from)) before half (omega arith) far.moved
@@ -149,13 +161,17 @@ module _ (segments : List (ℕ × ℕ)) (size at : ℕ) (from : List ℕ) (room 
             ap (sector_span (min size at)) (sym split) ∙ span_is (min size at) (at + length from - min size at) (omega arith) ∙ ap (λ e. (e + 255) / 256 - min size at / 256) split
 
 -- the same with the first place as it is computed
-pub first_as : (segments : List (ℕ × ℕ)) (size at : ℕ) (from : List ℕ) → at + length from ≤ 256 * length (sectors_of segments) → (old : Option (List ℕ)) (first place : ℕ) (kept : KeptVolume) (held : List Sector) (before : DriveCounts) → IsCacheOf old held
+pub first_as : (segments : List (ℕ × ℕ)) (size at : ℕ) (from : List ℕ)
+    → at + length from ≤ 256 * length (sectors_of segments)
+    → (old : Option (List ℕ)) (first place : ℕ) (kept : KeptVolume) (held : List Sector) (before : DriveCounts)
+    → IsCacheOf old held
     → first ≡ min size at / 256 → place ≡ first → IsFillSoFar segments size at from first place kept kept old old held before before
 first_as segments size at from room old first place kept held before cached is same =
     subst (λ p. IsFillSoFar segments size at from first p kept kept old old held before before) (sym same) (none_filled segments size at from room old first kept held before cached is)
 
 -- a volume stays mounted where a file has been laid over
-pub laid_mounted : (old volume : Volume) (before after : Option (List ℕ)) (u : DiskVolume) (n : ℕ) (file : DiskFile) (segments : List (ℕ × ℕ)) (size : ℕ) (bytes : List ℕ) → IsMounted old before → Represents before u
+pub laid_mounted : (old volume : Volume) (before after : Option (List ℕ)) (u : DiskVolume) (n : ℕ) (file : DiskFile) (segments : List (ℕ × ℕ)) (size : ℕ) (bytes : List ℕ)
+    → IsMounted old before → Represents before u
     → IsDataOf u n file segments size → IsLaid u n file segments before after bytes → kept volume ≡ kept old → IsCacheOf after volume.cache → IsMounted volume after
 laid_mounted old volume before after u n file segments size bytes mounted on known laid same cached =
     let both : Some on.image ≡ Some laid.image = sym on.is ∙ laid.was in

@@ -143,7 +143,8 @@ module _ (whole : List ℕ) (size at : ℕ) (from : List ℕ) (in_size : size �
       (cases_lt p (256 * j)))
 
   -- one sector more
-  pub front_more : (j : ℕ) (piece : List ℕ) → 256 * (j + 1) ≤ length whole → length piece ≡ 256 → ((q : ℕ) → q < 256 → get_or piece q 0 ≡ laid_byte size at from (256 * j + q) (get_or whole (256 * j + q) 0))
+  pub front_more : (j : ℕ) (piece : List ℕ) → 256 * (j + 1) ≤ length whole → length piece ≡ 256
+      → ((q : ℕ) → q < 256 → get_or piece q 0 ≡ laid_byte size at from (256 * j + q) (get_or whole (256 * j + q) 0))
       → put_at (laid_front target whole j) (256 * j) piece ≡ laid_front target whole (j + 1)
   front_more j piece fits size_is each =
       let all = length-front j (omega arith) in

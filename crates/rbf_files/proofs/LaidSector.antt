@@ -18,7 +18,8 @@ covered start at size from bytes covers q old low =
     covers.each q low ∙ ap (λ j. get_or from j 0) place ∙ sym (laid_in size at from (start + q) old (omega arith) (omega arith))
 
 -- zeros put over a part of a sector
-pub cleared : (first end : ℕ) (old new zeros : List ℕ) → length old ≡ 256 → first ≤ 256 → end ≤ 256 → length zeros ≡ end - first → ((q : ℕ) → q < length zeros → get_or zeros q 0 ≡ 0) → new ≡ put_at old first zeros
+pub cleared : (first end : ℕ) (old new zeros : List ℕ) → length old ≡ 256 → first ≤ 256 → end ≤ 256
+    → length zeros ≡ end - first → ((q : ℕ) → q < length zeros → get_or zeros q 0 ≡ 0) → new ≡ put_at old first zeros
     → IsCleared first end old new
 cleared first end old new zeros whole low high count none is = record {
   whole = ap length is ∙ length-put_at old zeros first fits;

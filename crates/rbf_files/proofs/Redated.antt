@@ -42,7 +42,8 @@ module _ (image : List ℕ) (v : DiskVolume) (vol : Vol image v) (n : ℕ) (file
 abbrev file_of : ℕ → ℕ → List ℕ → ℕ → List ℕ → List (ℕ × ℕ) → List ℕ → DiskFile
 file_of at ow mo li cr se co = record { attributes = at; owner = ow; modified = mo; links = li; created = cr; segments = se; contents = co }
 
-pub same_file : (a b : DiskFile) → a.attributes ≡ b.attributes → a.owner ≡ b.owner → a.modified ≡ b.modified → a.links ≡ b.links → a.created ≡ b.created → a.segments ≡ b.segments → a.contents ≡ b.contents → a ≡ b
+pub same_file : (a b : DiskFile) → a.attributes ≡ b.attributes → a.owner ≡ b.owner → a.modified ≡ b.modified
+    → a.links ≡ b.links → a.created ≡ b.created → a.segments ≡ b.segments → a.contents ≡ b.contents → a ≡ b
 same_file a b at ow mo li cr se co =
     ap (λ x. file_of x a.owner a.modified a.links a.created a.segments a.contents) at
     ∙ ap (λ x. file_of b.attributes x a.modified a.links a.created a.segments a.contents) ow

@@ -121,11 +121,14 @@ module _ (g : Geometry) (disk : ℕ → List ℕ) (u : DiskVolume) (sound : Soun
             (cluster_gained g n (with_segments old segments) (with_segments old (appended_segments segments (c * g.cluster) g.cluster)) c d positive more h);
       }
 
-  pub space_with : (free : ℕ → Bool) (segments : List (ℕ × ℕ)) (taken : List ℕ) → Gains g.cluster free segments taken → ((c : ℕ) → has taken c ≡ true → u.lost c ≡ true) → IsSpace segments → IsSpace (with_clusters g.cluster segments taken)
+  pub space_with : (free : ℕ → Bool) (segments : List (ℕ × ℕ)) (taken : List ℕ) → Gains g.cluster free segments taken
+      → ((c : ℕ) → has taken c ≡ true → u.lost c ≡ true) → IsSpace segments
+      → IsSpace (with_clusters g.cluster segments taken)
   space_with free segments [] gained lost space = space
   space_with free segments (c ∷ taken) gained lost space =
       space_with free (appended_segments segments (c * g.cluster) g.cluster) taken gained.1 (λ d h. lost d (or_right (c == d) (has taken d) h))
-      (space_more segments c space (lost c (or_left (c == c) (has taken c) (eq-eqb c c refl))) (not-true (uses g.cluster segments c) (and_parts (free c) (not (uses g.cluster segments c)) gained.0.is_free).1))
+      (space_more segments c space (lost c (or_left (c == c) (has taken c) (eq-eqb c c refl)))
+      (not-true (uses g.cluster segments c) (and_parts (free c) (not (uses g.cluster segments c)) gained.0.is_free).1))
 
   pub space_old : IsSpace old.segments
   space_old = record { within = sound.mapped.within n old is; distinct = sound.mapped.once n old is; clusters = λ c h. inr h }

@@ -38,7 +38,7 @@ pub fn fill(
     ensures device { OnErr result (IsSome (file_fault result)) }
     ensures mounted { IsMounted volume.new (media d.new) }
     ensures volume_kept { kept volume.new ≡ kept volume.old }
-    ensures counts { Counts ⟦<dyn BlockDriver as BlockDriver>⟧ (file_fault result)
+    ensures counts { Counts BlockDriver-dyn (file_fault result)
         (2 * sector_span (min size at) (at + length from.now)) d.old d.new }
 {
     let first = size.min(at) / 256;
@@ -71,7 +71,7 @@ fn fill_sector(
     ensures device { OnErr result (IsSome (file_fault result)) }
     ensures volume_kept { kept volume.new ≡ kept volume.old }
     ensures cached { IsCacheOf (media d.new) volume.new.cache }
-    ensures counts { Counts ⟦<dyn BlockDriver as BlockDriver>⟧ (file_fault result) 2 d.old d.new }
+    ensures counts { Counts BlockDriver-dyn (file_fault result) 2 d.old d.new }
 {
     if let Some(whole) = whole_sector(start, at, from) {
         return volume.store(d, lsn, &whole);

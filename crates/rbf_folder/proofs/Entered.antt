@@ -77,9 +77,12 @@ written_past contents [] at whole = absurd (omega arith)
 written_past contents (b ∷ bytes) at whole = omega (arith, length-laid contents (b ∷ bytes) at)
 
 -- a file's own sector lies in no free cluster
-own_not_free_sector : (media : Option (List ℕ)) (v : DiskVolume) → Represents media v → (d : ℕ) (dir : DiskFile) → v.files d ≡ Some dir → (s : ℕ) → has (owned_sectors d dir) s ≡ true → is_free_in v (s / cluster_size v) ≡ false
+own_not_free_sector : (media : Option (List ℕ)) (v : DiskVolume) → Represents media v → (d : ℕ) (dir : DiskFile)
+    → v.files d ≡ Some dir → (s : ℕ) → has (owned_sectors d dir) s ≡ true → is_free_in v (s / cluster_size v) ≡ false
 own_not_free_sector media v on d dir is s own = false_from_ne_true (is_free_in v (s / cluster_size v)) (λ free.
-    let facts = free_parts (image_geometry on.image) (sector on.image) v on.vol.sound (s / cluster_size v) (subst (λ h. is_free h v (s / cluster_size v) ≡ true) (shape-image on.image v on.vol) free) in
+    let facts =
+    free_parts (image_geometry on.image) (sector on.image) v on.vol.sound (s / cluster_size v)
+    (subst (λ h. is_free h v (s / cluster_size v) ≡ true) (shape-image on.image v on.vol) free) in
     both_ways (has_cluster (shape v) d dir (s / cluster_size v)) (subst (λ h. Unused h v.files (s / cluster_size v)) (sym (shape-image on.image v on.vol)) facts.2 d dir is)
     (cluster_from_owns (shape v) d dir s (owns_own (shape v) d dir s own)))
 
@@ -105,7 +108,9 @@ and_false : (a b : Bool) → (a ≡ true → b ≡ false) → (a && b) ≡ false
 and_false true b none = none refl
 and_false false b none = refl
 
-module _ (media : Option (List ℕ)) (v : DiskVolume) (on : Represents media v) (d place : ℕ) (dir : DiskFile) (dir_is : v.files d ≡ Some dir) (name : List ℕ) (attr user : ℕ) (time : TimePacket) (spot : IsNewPlace dir name user false place) where
+module _ (media : Option (List ℕ)) (v : DiskVolume) (on : Represents media v) (d place : ℕ) (dir : DiskFile)
+    (dir_is : v.files d ≡ Some dir) (name : List ℕ) (attr user : ℕ) (time : TimePacket)
+    (spot : IsNewPlace dir name user false place) where
   abbrev e : Entering
   e = folder_request d name attr user time
 
@@ -125,7 +130,8 @@ module _ (media : Option (List ℕ)) (v : DiskVolume) (on : Represents media v) 
   clusters_are = ap (λ p. clusters_needed k dir.segments (32 * (p + 1))) place_is
 
   -- no refusal but for want of space
-  passes : refusal_of v dir e ≡ (if nat_lt (free_total v) (need + entry_clusters k dir) then Some no_cluster else (if nat_lt 0 (entry_clusters k dir) && (length dir.segments == 48) then Some too_many_runs else None))
+  passes : refusal_of v dir e ≡ (if nat_lt (free_total v) (need + entry_clusters k dir) then Some no_cluster else
+      (if nat_lt 0 (entry_clusters k dir) && (length dir.segments == 48) then Some too_many_runs else None))
   passes =
       cond-false (is_dots name) _ _ spot.proper
       ∙ cond-false (not (may_change dir user false)) _ _ (ap not spot.allowed)
@@ -279,7 +285,9 @@ module _ (media : Option (List ℕ)) (v : DiskVolume) (on : Represents media v) 
           (or_cases (n == s) (has (take (sector_count (length file.contents)) (sectors_of file.segments)) s) h)
 
       -- the tree is as it was, and clusters may be lost
-      abbrev pub ends_by : (gained : List ℕ) → IsChoice k (is_free_in left) dir.segments (length (written dir.contents (32 * place) entry)) gained → (w : DiskVolume) → MayLose v w (λ c. has_cluster (shape v) n file c || has gained c) → EntryEnds v w d n name (plan n)
+      abbrev pub ends_by : (gained : List ℕ) → IsChoice k (is_free_in left) dir.segments (length (written dir.contents (32 * place) entry)) gained
+          → (w : DiskVolume) → MayLose v w (λ c. has_cluster (shape v) n file c || has gained c)
+          → EntryEnds v w d n name (plan n)
       ends_by gained choice w lose = record {
         both = record {
           old = dir;
@@ -322,7 +330,11 @@ module _ (media : Option (List ℕ)) (v : DiskVolume) (on : Represents media v) 
               (written_two ends.number ends.file ends.chosen ends.takes s h);
           descriptor = inl ends.undescribed;
           growth = λ x gains lost. absurd (both_ways (ends.left.lost x) (ungained ends.number ends.file ends.chosen ends.takes c.0 c.1 ends.left ends.lose x gains) lost);
-          entry = subst (λ p. (sector ends.now (sector_of_place (with_clusters k dir.segments c.0) p) ≡ sector ends.image (sector_of_place (with_clusters k dir.segments c.0) p)) ⊎ (StandsBehind ends.image ends.now dir (sector_of_place (with_clusters k dir.segments c.0) p) p (new_entry name ends.number) × StandsWhole v ends.left ends.now ends.number ends.file c.0)) (sym place_is)
+          entry =
+              subst (λ p. (sector ends.now (sector_of_place (with_clusters k dir.segments c.0) p) ≡ sector ends.image
+              (sector_of_place (with_clusters k dir.segments c.0) p)) ⊎
+              (StandsBehind ends.image ends.now dir (sector_of_place (with_clusters k dir.segments c.0) p) p
+              (new_entry name ends.number) × StandsWhole v ends.left ends.now ends.number ends.file c.0)) (sym place_is)
               (inl (ends.others (sector_of_place (with_clusters k dir.segments c.0) place) (entry_not_map ends.number ends.file ends.chosen ends.takes c.0 c.1 ends.image ends.was)
               (entry_away ends.number ends.file ends.chosen ends.takes c.0 c.1 (first_sector ends.file) (first_own ends.number ends.file ends.chosen ends.takes))));
           end = ends.end;
@@ -407,7 +419,8 @@ module _ (media : Option (List ℕ)) (v : DiskVolume) (on : Represents media v) 
       -- the parent's descriptor is as it was read
       d_no_map : ¬ IsMapSector (image_geometry made.image) d
       d_no_map map =
-          let same : map_sectors (image_geometry on.image) ≡ map_sectors (image_geometry made.image) = ap (λ i. map_sectors (image_geometry i)) (same_Some on.image made.image (sym on.is ∙ made.was)) in
+          let same : map_sectors (image_geometry on.image) ≡ map_sectors (image_geometry made.image) =
+          ap (λ i. map_sectors (image_geometry i)) (same_Some on.image made.image (sym on.is ∙ made.was)) in
           let past = own_after (image_geometry on.image) (sector on.image) v on.vol.sound d dir d dir_is dir_own in
           let within = map.within in
           absurd (omega arith)
@@ -434,7 +447,9 @@ module _ (media : Option (List ℕ)) (v : DiskVolume) (on : Represents media v) 
 
         stops_others : (s : ℕ) → ¬ IsMapSector (image_geometry made.now) s → s ≢ sector_of_place (with_clusters k dir.segments stops.taken) place → sector stops.now s ≡ sector made.now s
         stops_others = subst (λ i. (s : ℕ) → ¬ IsMapSector (image_geometry i) s → s ≢ sector_of_place (with_clusters k dir.segments stops.taken) place → sector stops.now s ≡ sector i s) stops_image
-            (subst (λ x. (s : ℕ) → ¬ IsMapSector (image_geometry stops.image) s → s ≢ sector_of_place (with_clusters (cluster_size x) dir.segments stops.taken) place → sector stops.now s ≡ sector stops.image s) left_is stops.others)
+            (subst (λ x. (s : ℕ) → ¬ IsMapSector (image_geometry stops.image) s → s ≢ sector_of_place
+            (with_clusters (cluster_size x) dir.segments stops.taken) place → sector stops.now s ≡ sector stops.image s)
+            left_is stops.others)
 
         abbrev entry_sector : ℕ
         entry_sector = sector_of_place (with_clusters k dir.segments stops.taken) place
@@ -479,7 +494,11 @@ module _ (media : Option (List ℕ)) (v : DiskVolume) (on : Represents media v) 
           marks = λ s h. inr its_lost;
           descriptor = inr shown_then;
           growth = λ c gains lost. shown_then;
-          entry = subst (λ p. (sector stops.now (sector_of_place (with_clusters k dir.segments stops.taken) p) ≡ sector made.image (sector_of_place (with_clusters k dir.segments stops.taken) p)) ⊎ (StandsBehind made.image stops.now dir (sector_of_place (with_clusters k dir.segments stops.taken) p) p (new_entry name n) × StandsWhole v stops.left stops.now n file stops.taken)) (sym place_is)
+          entry =
+              subst (λ p. (sector stops.now (sector_of_place (with_clusters k dir.segments stops.taken) p) ≡ sector
+              made.image (sector_of_place (with_clusters k dir.segments stops.taken) p)) ⊎
+              (StandsBehind made.image stops.now dir (sector_of_place (with_clusters k dir.segments stops.taken) p) p
+              (new_entry name n) × StandsWhole v stops.left stops.now n file stops.taken)) (sym place_is)
               (⊎_elim
               (λ still. inl (still ∙ entry_was))
               (λ behind. inr (
@@ -551,7 +570,10 @@ module _ (media : Option (List ℕ)) (v : DiskVolume) (on : Represents media v) 
         on_after = record { image = done.now; is = done.is; vol = done.vol }
 
         new_size : 32 * (place + 1) ≤ length new_dir.contents
-        new_size = subst (λ m. 32 * (place + 1) ≤ m) (sym (ap (λ (f : DiskFile). length f.contents) wrote_left.file)) (let past = written_past dir.contents entry_now (32 * place) (whole n file made.made.made made.takes) in let h : 32 * (place + 1) ≤ length (written dir.contents (32 * place) entry_now) = omega (arith, past) in h)
+        new_size =
+            subst (λ m. 32 * (place + 1) ≤ m) (sym (ap (λ (f : DiskFile). length f.contents) wrote_left.file))
+            (let past = written_past dir.contents entry_now (32 * place) (whole n file made.made.made made.takes) in let
+            h : 32 * (place + 1) ≤ length (written dir.contents (32 * place) entry_now) = omega (arith, past) in h)
 
         lsn_own : has (owned_sectors d new_dir) lsn ≡ true
         lsn_own =
@@ -584,7 +606,9 @@ module _ (media : Option (List ℕ)) (v : DiskVolume) (on : Represents media v) 
         written_others = subst (λ i. (s : ℕ) → ¬ IsMapSector (image_geometry i) s → s ≢ d → s ≢ lsn → sector done.now s ≡ sector i s) done_image done.writes.others
 
         shape_done : g1 ≡ image_geometry made.now
-        shape_done = ap geometry (written_others 0 (λ map. let low0 = map.after in absurd (omega arith)) (λ same. let past = d_after in absurd (omega arith)) (λ same. let past = lsn_after in absurd (omega arith)))
+        shape_done =
+            ap geometry (written_others 0 (λ map. let low0 = map.after in absurd (omega arith))
+            (λ same. let past = d_after in absurd (omega arith)) (λ same. let past = lsn_after in absurd (omega arith)))
 
         not_map : (s : ℕ) → map_sectors g1 < s → ¬ IsMapSector (image_geometry made.image) s
         not_map s past map =
@@ -629,7 +653,10 @@ module _ (media : Option (List ℕ)) (v : DiskVolume) (on : Represents media v) 
             both = record { old = dir; new = new_dir; file = file; is = dir_is; made = made.made.made; entry = wrote };
             volume = after_is;
           };
-          filled = subst (λ p. sector done.now (sector_of_place new_dir.segments p) ≡ put_at (sector made.image (sector_of_place new_dir.segments p)) (32 * (p % 8)) entry_now) (sym place_is) filled_at;
+          filled =
+              subst (λ p. sector done.now (sector_of_place new_dir.segments p) ≡ put_at
+              (sector made.image (sector_of_place new_dir.segments p)) (32 * (p % 8)) entry_now) (sym place_is)
+              filled_at;
           others = λ s none not_own differ away.
               written_others s (map_made s none) differ (λ same. away (same ∙ ap (sector_of_place new_dir.segments) (sym place_is)))
               ∙ made_others s none (unwritten n file made.made.made made.takes s not_own).0 (unwritten n file made.made.made made.takes s not_own).1;

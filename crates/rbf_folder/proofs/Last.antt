@@ -170,7 +170,9 @@ module _ (media : Option (List ℕ)) (v : DiskVolume) (on : Represents media v) 
             (λ h. (free_facts c (fresh c h)).0)
 
     -- what the directory gains, it may gain in the volume that was before
-    abbrev pub entered : (name : List ℕ) (new_dir : DiskFile) → WritesFile (cluster_size v) (is_free_in left) (32 * entry_place dir.contents) (new_entry name n) plan.made dir new_dir → IsEntered v d n name plan
+    abbrev pub entered : (name : List ℕ) (new_dir : DiskFile)
+        → WritesFile (cluster_size v) (is_free_in left) (32 * entry_place dir.contents) (new_entry name n) plan.made dir new_dir
+        → IsEntered v d n name plan
     entered name new_dir wrote = record {
       old = dir;
       new = new_dir;

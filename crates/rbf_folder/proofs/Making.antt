@@ -105,7 +105,8 @@ past_system media v on s free = ⊎_elim
     (λ high. let h : 1 + map_sectors (image_geometry on.image) ≤ s = high in omega arith)
     (cases_lt s (1 + map_sectors (image_geometry on.image)))
 
-no_map : (media : Option (List ℕ)) (v : DiskVolume) (on : Represents media v) (image : List ℕ) (s : ℕ) → media ≡ Some image → is_free_in v (s / cluster_size v) ≡ true → IsMapSector (image_geometry image) s → ⊥
+no_map : (media : Option (List ℕ)) (v : DiskVolume) (on : Represents media v) (image : List ℕ) (s : ℕ)
+    → media ≡ Some image → is_free_in v (s / cluster_size v) ≡ true → IsMapSector (image_geometry image) s → ⊥
 no_map media v on image s was free map =
     let same : on.image ≡ image = same_Some on.image image (sym on.is ∙ was) in
     let past = past_system media v on s free in
@@ -214,7 +215,9 @@ module _ (media : Option (List ℕ)) (v : DiskVolume) (on : Represents media v) 
   not_root : n ≢ g.root
   not_root same =
       let r = root_file g (sector on.image) v on.vol.sound in
-      let used : has_cluster g g.root r.0 (g.root / g.cluster) ≡ true = cluster_from_owns g g.root r.0 g.root (owns_own g g.root r.0 g.root (or_left (g.root == g.root) (has (sectors_of r.0.segments) g.root) (eq-eqb g.root g.root refl))) in
+      let used : has_cluster g g.root r.0 (g.root / g.cluster) ≡ true =
+      cluster_from_owns g g.root r.0 g.root (owns_own g g.root r.0 g.root
+      (or_left (g.root == g.root) (has (sectors_of r.0.segments) g.root) (eq-eqb g.root g.root refl))) in
       let there : g.root / g.cluster ≡ n / k = ap (λ s. s / g.cluster) (sym same) ∙ ap (λ x. n / x) (sym same_k) in
       both_ways (has_cluster g g.root r.0 (n / k)) ((free_facts (n / k) number_free).2 g.root r.0 r.1) (subst (λ d. has_cluster g g.root r.0 d ≡ true) there used)
 
@@ -290,251 +293,255 @@ module _ (media : Option (List ℕ)) (v : DiskVolume) (on : Represents media v) 
     left = ends.left;
     vol = ends.vol;
     lose = lose_as ends.left (subst (λ xs. MayLose v ends.left (has xs)) same ends.lose);
-    order = inl (subst (λ s. sector ends.now s ≡ sector ends.image s) (sym (first_is k first (positive_of media v on))) (ends.changes.others first (no_map media v on ends.image first ends.was (taken_free (first / k) first_taken))));
+    order =
+        inl (subst (λ s. sector ends.now s ≡ sector ends.image s) (sym (first_is k first (positive_of media v on)))
+        (ends.changes.others first (no_map media v on ends.image first ends.was (taken_free (first / k) first_taken))));
     undescribed = ends.changes.others n (no_map media v on ends.image n ends.was number_free);
     others = λ s none _. ends.changes.others s none;
     end = ends.changes.end;
   }
 
 -- the clusters have been taken
-module _ (media mid : Option (List ℕ)) (v : DiskVolume) (on : Represents media v) (parent attr owner : ℕ) (now : TimePacket) (after : List (ℕ × ℕ)) (grown : IsGrown v (file_clusters (cluster_size v) 64) media mid [] after) where
-  abbrev sectors : ℕ
-  sectors = cluster_size v
+module _ (media mid : Option (List ℕ)) (v : DiskVolume) (on : Represents media v) (parent attr owner : ℕ)
+    (now : TimePacket) (after : List (ℕ × ℕ)) (grown : IsGrown v (file_clusters (cluster_size v) 64) media mid [] after)
+  where
+    abbrev sectors : ℕ
+    sectors = cluster_size v
 
-  abbrev old : List ℕ
-  old = grown.now
+    abbrev old : List ℕ
+    old = grown.now
 
-  abbrev u : DiskVolume
-  u = with_lost v (λ d. v.lost d || has grown.taken d)
+    abbrev u : DiskVolume
+    u = with_lost v (λ d. v.lost d || has grown.taken d)
 
-  abbrev number : ℕ
-  number = n media v on parent attr owner now grown.taken grown.chosen
+    abbrev number : ℕ
+    number = n media v on parent attr owner now grown.taken grown.chosen
 
-  abbrev start : ℕ
-  start = first media v on parent attr owner now grown.taken grown.chosen
+    abbrev start : ℕ
+    start = first media v on parent attr owner now grown.taken grown.chosen
 
-  abbrev folder : DiskFile
-  folder = file media v on parent attr owner now grown.taken grown.chosen
+    abbrev folder : DiskFile
+    folder = file media v on parent attr owner now grown.taken grown.chosen
 
-  abbrev planned : ℕ → Plan
-  planned = directory_plan attr owner now parent
+    abbrev planned : ℕ → Plan
+    planned = directory_plan attr owner now parent
 
-  abbrev pub on_mid : Represents mid u
-  on_mid = record { image = old; is = grown.is; vol = grown.vol }
+    abbrev pub on_mid : Represents mid u
+    on_mid = record { image = old; is = grown.is; vol = grown.vol }
 
-  taken_lost : (c : ℕ) → has grown.taken c ≡ true → u.lost c ≡ true
-  taken_lost c h = or_right (v.lost c) (has grown.taken c) h
+    taken_lost : (c : ℕ) → has grown.taken c ≡ true → u.lost c ≡ true
+    taken_lost c h = or_right (v.lost c) (has grown.taken c) h
 
-  pub start_lost : u.lost (start / sectors) ≡ true
-  start_lost = taken_lost (start / sectors) (first_taken media v on parent attr owner now grown.taken grown.chosen)
+    pub start_lost : u.lost (start / sectors) ≡ true
+    start_lost = taken_lost (start / sectors) (first_taken media v on parent attr owner now grown.taken grown.chosen)
 
-  pub number_lost : u.lost (number / sectors) ≡ true
-  number_lost = taken_lost (number / sectors) (number_taken media v on parent attr owner now grown.taken grown.chosen)
+    pub number_lost : u.lost (number / sectors) ≡ true
+    number_lost = taken_lost (number / sectors) (number_taken media v on parent attr owner now grown.taken grown.chosen)
 
-  shape_old : image_geometry old ≡ image_geometry grown.image
-  shape_old = ap geometry (grown.changes.others 0 (λ is. let low = is.after in absurd (omega arith)))
+    shape_old : image_geometry old ≡ image_geometry grown.image
+    shape_old = ap geometry (grown.changes.others 0 (λ is. let low = is.after in absurd (omega arith)))
 
-  grown_loses : MayLose v u (has grown.taken)
-  grown_loses = record { same = refl; still = λ d was. or_left (v.lost d) (has grown.taken d) was; only = λ d is. is }
+    grown_loses : MayLose v u (has grown.taken)
+    grown_loses = record { same = refl; still = λ d was. or_left (v.lost d) (has grown.taken d) was; only = λ d is. is }
 
-  all_lost : (c : ℕ) → has_cluster (shape v) number folder c ≡ true → u.lost c ≡ true
-  all_lost c h = taken_lost c (cluster_is media v on parent attr owner now grown.taken grown.chosen c ∙ h)
+    all_lost : (c : ℕ) → has_cluster (shape v) number folder c ≡ true → u.lost c ≡ true
+    all_lost c h = taken_lost c (cluster_is media v on parent attr owner now grown.taken grown.chosen c ∙ h)
 
-  number_kept : sector old number ≡ sector grown.image number
-  number_kept = grown.changes.others number (no_map media v on grown.image number grown.was (number_free media v on parent attr owner now grown.taken grown.chosen))
+    number_kept : sector old number ≡ sector grown.image number
+    number_kept = grown.changes.others number (no_map media v on grown.image number grown.was (number_free media v on parent attr owner now grown.taken grown.chosen))
 
-  apart : start ≢ number
-  apart e =
-      let s = starts sectors start (positive_of media v on) in
-      let distinct : AreDistinct (number ∷ start ∷ s.0) = subst (λ xs. AreDistinct (number ∷ xs)) s.1 (space media v on parent attr owner now grown.taken grown.chosen).distinct in
-      distinct 0 1 0 (omega arith) (omega arith) (sym e)
+    apart : start ≢ number
+    apart e =
+        let s = starts sectors start (positive_of media v on) in
+        let distinct : AreDistinct (number ∷ start ∷ s.0) = subst (λ xs. AreDistinct (number ∷ xs)) s.1 (space media v on parent attr owner now grown.taken grown.chosen).distinct in
+        distinct 0 1 0 (omega arith) (omega arith) (sym e)
 
-  -- a fault came before its first sector was written
-  pub unlisted : (new : Option (List ℕ)) → new ≡ mid → FolderEnds v planned media new
-  unlisted new same = record {
-    image = grown.image;
-    now = old;
-    was = grown.was;
-    is = same ∙ grown.is;
-    number = number;
-    file = folder;
-    chosen = new_file media v on parent attr owner now grown.taken grown.chosen;
-    takes = takes_all media v on parent attr owner now grown.taken grown.chosen;
-    left = u;
-    vol = grown.vol;
-    lose = lose_as media v on parent attr owner now grown.taken grown.chosen u grown_loses;
-    order = inr all_lost;
-    undescribed = number_kept;
-    others = λ s none _. grown.changes.others s none;
-    end = grown.changes.end;
-  }
-
-  -- its first sector is written
-  module _ (one : List ℕ) (one_whole : length one ≡ 256) (listed : Option (List ℕ)) (listed_is : listed ≡ with_sector mid start one) where
-    abbrev image1 : List ℕ
-    image1 = image_then mid u on_mid start start_lost one one_whole
-
-    abbrev pub on_listed : Represents listed u
-    on_listed = on_then mid u on_mid start start_lost one one_whole listed listed_is
-
-    first_name : first_sector folder ≡ start
-    first_name = first_is sectors start (positive_of media v on)
-
-    shape1 : image_geometry image1 ≡ image_geometry grown.image
-    shape1 = shape_then mid u on_mid start start_lost one one_whole ∙ shape_old
-
-    others1 : (s : ℕ) → ¬ IsMapSector (image_geometry grown.image) s → s ≢ start → sector image1 s ≡ sector grown.image s
-    others1 s none differ = beside mid u on_mid start start_lost one one_whole s differ ∙ grown.changes.others s none
-
-    end1 : KeepsMapEnd grown.image image1 (λ _. false)
-    end1 c behind =
-        let in_map : c < 2048 * map_sectors (image_geometry old) = subst (λ x. c < 2048 * map_sectors x) (sym shape_old) behind.in_map in
-        marks_then mid u on_mid start start_lost one one_whole c in_map ∙ grown.changes.end c behind
-
-    -- a fault came before its descriptor was written
-    pub undescribed : (new : Option (List ℕ)) → new ≡ listed → FolderEnds v planned media new
-    undescribed new same = record {
+    -- a fault came before its first sector was written
+    pub unlisted : (new : Option (List ℕ)) → new ≡ mid → FolderEnds v planned media new
+    unlisted new same = record {
       image = grown.image;
-      now = image1;
+      now = old;
       was = grown.was;
-      is = same ∙ now_is mid u on_mid start start_lost one one_whole listed listed_is;
+      is = same ∙ grown.is;
       number = number;
       file = folder;
       chosen = new_file media v on parent attr owner now grown.taken grown.chosen;
       takes = takes_all media v on parent attr owner now grown.taken grown.chosen;
       left = u;
-      vol = vol_then mid u on_mid start start_lost one one_whole;
+      vol = grown.vol;
       lose = lose_as media v on parent attr owner now grown.taken grown.chosen u grown_loses;
       order = inr all_lost;
-      undescribed = beside mid u on_mid start start_lost one one_whole number (λ e. apart (sym e)) ∙ number_kept;
-      others = λ s none differ. others1 s none (λ e. differ (e ∙ sym first_name));
-      end = end1;
+      undescribed = number_kept;
+      others = λ s none _. grown.changes.others s none;
+      end = grown.changes.end;
     }
 
-    -- its descriptor is written
-    module _ (bytes : List ℕ) (whole : length bytes ≡ 256) (fd : Fd) (read : IsReadAs fd bytes) (rest : IsNewList bytes)
-        (fd_is : fd ≡ record { attr = 128 + attr % 128; owner = owner; modified = minute_of now; links = 1; size = 64; created = day_of now; segs = run_of sectors start })
-        (one_is : one ≡ extended (new_listing number parent) 256) (parent_low : parent < 16777216) (new : Option (List ℕ)) (new_is : new ≡ with_sector listed number bytes) where
-      abbrev image2 : List ℕ
-      image2 = image_then listed u on_listed number number_lost bytes whole
+    -- its first sector is written
+    module _ (one : List ℕ) (one_whole : length one ≡ 256) (listed : Option (List ℕ)) (listed_is : listed ≡ with_sector mid start one) where
+      abbrev image1 : List ℕ
+      image1 = image_then mid u on_mid start start_lost one one_whole
 
-      number_here : sector image2 number ≡ bytes
-      number_here = here listed u on_listed number number_lost bytes whole
+      abbrev pub on_listed : Represents listed u
+      on_listed = on_then mid u on_mid start start_lost one one_whole listed listed_is
 
-      start_here : sector image2 start ≡ extended (new_listing number parent) 256
-      start_here = beside listed u on_listed number number_lost bytes whole start apart ∙ here mid u on_mid start start_lost one one_whole ∙ one_is
+      first_name : first_sector folder ≡ start
+      first_name = first_is sectors start (positive_of media v on)
 
-      contents_are : take 64 (segment_bytes (sector image2) (run_of sectors start)) ≡ new_listing number parent
-      contents_are =
-          let s = starts sectors start (positive_of media v on) in
-          ap (λ xs. take 64 (flat_map (sector image2) xs)) s.1
-          ∙ ap (λ b. take 64 (b ++ flat_map (sector image2) s.0)) start_here
-          ∙ sector_front number parent (flat_map (sector image2) s.0)
+      shape1 : image_geometry image1 ≡ image_geometry grown.image
+      shape1 = shape_then mid u on_mid start start_lost one one_whole ∙ shape_old
 
-      segments_are : segments_field bytes ≡ run_of sectors start
-      segments_are = read.segments_are ∙ ap (λ (f : Fd). f.segs) fd_is
+      others1 : (s : ℕ) → ¬ IsMapSector (image_geometry grown.image) s → s ≢ start → sector image1 s ≡ sector grown.image s
+      others1 s none differ = beside mid u on_mid start start_lost one one_whole s differ ∙ grown.changes.others s none
 
-      size_is : size_field bytes ≡ 64
-      size_is = read.size_is ∙ ap (λ (f : Fd). f.size) fd_is
+      end1 : KeepsMapEnd grown.image image1 (λ _. false)
+      end1 c behind =
+          let in_map : c < 2048 * map_sectors (image_geometry old) = subst (λ x. c < 2048 * map_sectors x) (sym shape_old) behind.in_map in
+          marks_then mid u on_mid start start_lost one one_whole c in_map ∙ grown.changes.end c behind
 
-      shown : file_at (sector image2) number ≡ folder
-      shown =
-          ap (file_from (sector image2)) number_here
-          ∙ same_file (file_from (sector image2) bytes) folder
-          (read.attributes_are ∙ ap (λ (f : Fd). f.attr) fd_is) (read.owner_is ∙ ap (λ (f : Fd). f.owner) fd_is) (read.modified_is ∙ ap (λ (f : Fd). f.modified) fd_is)
-          (read.links_are ∙ ap (λ (f : Fd). f.links) fd_is) (read.created_is ∙ ap (λ (f : Fd). f.created) fd_is) segments_are
-          (ap₂ (λ n xs. take n (segment_bytes (sector image2) xs)) size_is segments_are ∙ contents_are)
-
-      shape2 : image_geometry image2 ≡ image_geometry grown.image
-      shape2 = shape_then listed u on_listed number number_lost bytes whole ∙ shape1
-
-      abbrev w : DiskVolume
-      w = with_lost v (λ d. v.lost d || has_cluster (shape v) number folder d)
-
-      w_is : u ≡ w
-      w_is = lost_same media v on parent attr owner now grown.taken grown.chosen
-
-      vol2 : Vol image2 w
-      vol2 = subst (Vol image2) w_is (vol_then listed u on_listed number number_lost bytes whole)
-
-      shape_v : shape v ≡ image_geometry image2
-      shape_v = shape-image image2 w vol2
-
-      total_is : (image_geometry image2).total ≡ (image_geometry on.image).total
-      total_is = ap (λ (s : Geometry). s.total) (sym shape_v ∙ shape-image on.image v on.vol)
-
-      list_then : segments_field (sector image2 number) ≡ run_of sectors start
-      list_then = ap segments_field number_here ∙ segments_are
-
-      ready : IsReady (image_disk image2) w parent number
-      ready = record {
-        number = record {
-          after = let past = (placed listed u on_listed number number_lost bytes whole).0 in omega arith;
-          below = subst (λ s. number < s.total) (sym (shape_then listed u on_listed number number_lost bytes whole)) (placed listed u on_listed number number_lost bytes whole).1;
-        };
-        within = subst (LieWithin (image_geometry image2)) (sym list_then)
-            (All-cons (λ s. is_within (image_geometry image2) s ≡ true) (start, new_sectors sectors) []
-            (and_from (nat_le 1 start) (nat_le (start + new_sectors sectors) (image_geometry image2).total)
-            (le-leb 1 start (let past = (placed mid u on_mid start start_lost one one_whole).0 in omega arith))
-            (le-leb (start + new_sectors sectors) (image_geometry image2).total (let end = run_end media v on parent attr owner now grown.taken grown.chosen in let total = total_is in omega arith)))
-            (All-nil (λ s. is_within (image_geometry image2) s ≡ true)));
-        distinct = subst (λ f. AreDistinct (owned_sectors number f)) (sym shown) (space media v on parent attr owner now grown.taken grown.chosen).distinct;
-        room =
-            let s = starts sectors start (positive_of media v on) in
-            let counted : length (sectors_of (segments_field (sector image2 number))) ≡ suc (length s.0) = ap (λ xs. length (sectors_of xs)) list_then ∙ ap length s.1 in
-            let sized : size_field (sector image2 number) ≡ 64 = ap size_field number_here ∙ size_is in
-            le-leb (size_field (sector image2 number)) (256 * length (sectors_of (segments_field (sector image2 number)))) (omega arith);
-        clusters = λ x has_it.
-            or_right (v.lost x) (has_cluster (shape v) number folder x)
-            (subst (λ s. has_cluster s number folder x ≡ true) (sym shape_v) (subst (λ f. has_cluster (image_geometry image2) number f x ≡ true) shown has_it));
-        made = λ directory. subst (λ (f : DiskFile). IsNewDirectory f.contents number parent) (sym shown)
-            (new_directory_is number parent (let few = number_few media v on parent attr owner now grown.taken grown.chosen in omega arith) parent_low);
-      }
-
-      -- the clusters that were gained are those of its descriptor on the media
-      pub marks_made : marking_sectors (shape v) (is_gained sectors [] after) ≡ marking_sectors (shape v) (has_cluster (shape v) number (file_at (sector_at new) number))
-      marks_made = ap (marking_sectors (shape v)) (fun_ext gained_is)
-        where
-          shown_new : file_at (sector_at new) number ≡ folder
-          shown_new = ap (λ m. file_at (sector_at m) number) (now_is listed u on_listed number number_lost bytes whole new new_is) ∙ shown
-
-          only_new : (t : Bool) → (t && not false) ≡ t
-          only_new true = refl
-          only_new false = refl
-
-          gained_is : (c : ℕ) → is_gained sectors [] after c ≡ has_cluster (shape v) number (file_at (sector_at new) number) c
-          gained_is c =
-              only_new (uses sectors after c)
-              ∙ ap (λ xs. uses sectors xs c) grown.segments
-              ∙ uses_with sectors [] grown.taken c (positive_of media v on)
-              ∙ cluster_is media v on parent attr owner now grown.taken grown.chosen c
-              ∙ ap (λ f. has_cluster (shape v) number f c) (sym shown_new)
-
-      pub is_made : IsFolderMade v parent number (planned number) media new
-      is_made = record {
+      -- a fault came before its descriptor was written
+      pub undescribed : (new : Option (List ℕ)) → new ≡ listed → FolderEnds v planned media new
+      undescribed new same = record {
         image = grown.image;
-        now = image2;
+        now = image1;
         was = grown.was;
-        is = now_is listed u on_listed number number_lost bytes whole new new_is;
-        left = w;
-        vol = vol2;
-        made = record {
-          file = folder;
-          made = new_file media v on parent attr owner now grown.taken grown.chosen;
-          shown = shown;
-          rest = subst IsNewList (sym number_here) rest;
-          volume = refl;
-        };
+        is = same ∙ now_is mid u on_mid start start_lost one one_whole listed listed_is;
+        number = number;
+        file = folder;
+        chosen = new_file media v on parent attr owner now grown.taken grown.chosen;
         takes = takes_all media v on parent attr owner now grown.taken grown.chosen;
-        ready = ready;
-        writes = record {
-          first_is = ap (sector image2) first_name ∙ start_here;
-          others = λ s none differ other. beside listed u on_listed number number_lost bytes whole s differ ∙ others1 s none (λ e. other (e ∙ sym first_name));
-          end = λ c behind.
-              let in_map : c < 2048 * map_sectors (image_geometry image1) = subst (λ x. c < 2048 * map_sectors x) (sym shape1) behind.in_map in
-              marks_then listed u on_listed number number_lost bytes whole c in_map ∙ end1 c behind;
-        };
+        left = u;
+        vol = vol_then mid u on_mid start start_lost one one_whole;
+        lose = lose_as media v on parent attr owner now grown.taken grown.chosen u grown_loses;
+        order = inr all_lost;
+        undescribed = beside mid u on_mid start start_lost one one_whole number (λ e. apart (sym e)) ∙ number_kept;
+        others = λ s none differ. others1 s none (λ e. differ (e ∙ sym first_name));
+        end = end1;
       }
+
+      -- its descriptor is written
+      module _ (bytes : List ℕ) (whole : length bytes ≡ 256) (fd : Fd) (read : IsReadAs fd bytes) (rest : IsNewList bytes)
+          (fd_is : fd ≡ record { attr = 128 + attr % 128; owner = owner; modified = minute_of now; links = 1; size = 64; created = day_of now; segs = run_of sectors start })
+          (one_is : one ≡ extended (new_listing number parent) 256) (parent_low : parent < 16777216) (new : Option (List ℕ)) (new_is : new ≡ with_sector listed number bytes) where
+        abbrev image2 : List ℕ
+        image2 = image_then listed u on_listed number number_lost bytes whole
+
+        number_here : sector image2 number ≡ bytes
+        number_here = here listed u on_listed number number_lost bytes whole
+
+        start_here : sector image2 start ≡ extended (new_listing number parent) 256
+        start_here = beside listed u on_listed number number_lost bytes whole start apart ∙ here mid u on_mid start start_lost one one_whole ∙ one_is
+
+        contents_are : take 64 (segment_bytes (sector image2) (run_of sectors start)) ≡ new_listing number parent
+        contents_are =
+            let s = starts sectors start (positive_of media v on) in
+            ap (λ xs. take 64 (flat_map (sector image2) xs)) s.1
+            ∙ ap (λ b. take 64 (b ++ flat_map (sector image2) s.0)) start_here
+            ∙ sector_front number parent (flat_map (sector image2) s.0)
+
+        segments_are : segments_field bytes ≡ run_of sectors start
+        segments_are = read.segments_are ∙ ap (λ (f : Fd). f.segs) fd_is
+
+        size_is : size_field bytes ≡ 64
+        size_is = read.size_is ∙ ap (λ (f : Fd). f.size) fd_is
+
+        shown : file_at (sector image2) number ≡ folder
+        shown =
+            ap (file_from (sector image2)) number_here
+            ∙ same_file (file_from (sector image2) bytes) folder
+            (read.attributes_are ∙ ap (λ (f : Fd). f.attr) fd_is) (read.owner_is ∙ ap (λ (f : Fd). f.owner) fd_is) (read.modified_is ∙ ap (λ (f : Fd). f.modified) fd_is)
+            (read.links_are ∙ ap (λ (f : Fd). f.links) fd_is) (read.created_is ∙ ap (λ (f : Fd). f.created) fd_is) segments_are
+            (ap₂ (λ n xs. take n (segment_bytes (sector image2) xs)) size_is segments_are ∙ contents_are)
+
+        shape2 : image_geometry image2 ≡ image_geometry grown.image
+        shape2 = shape_then listed u on_listed number number_lost bytes whole ∙ shape1
+
+        abbrev w : DiskVolume
+        w = with_lost v (λ d. v.lost d || has_cluster (shape v) number folder d)
+
+        w_is : u ≡ w
+        w_is = lost_same media v on parent attr owner now grown.taken grown.chosen
+
+        vol2 : Vol image2 w
+        vol2 = subst (Vol image2) w_is (vol_then listed u on_listed number number_lost bytes whole)
+
+        shape_v : shape v ≡ image_geometry image2
+        shape_v = shape-image image2 w vol2
+
+        total_is : (image_geometry image2).total ≡ (image_geometry on.image).total
+        total_is = ap (λ (s : Geometry). s.total) (sym shape_v ∙ shape-image on.image v on.vol)
+
+        list_then : segments_field (sector image2 number) ≡ run_of sectors start
+        list_then = ap segments_field number_here ∙ segments_are
+
+        ready : IsReady (image_disk image2) w parent number
+        ready = record {
+          number = record {
+            after = let past = (placed listed u on_listed number number_lost bytes whole).0 in omega arith;
+            below = subst (λ s. number < s.total) (sym (shape_then listed u on_listed number number_lost bytes whole)) (placed listed u on_listed number number_lost bytes whole).1;
+          };
+          within = subst (LieWithin (image_geometry image2)) (sym list_then)
+              (All-cons (λ s. is_within (image_geometry image2) s ≡ true) (start, new_sectors sectors) []
+              (and_from (nat_le 1 start) (nat_le (start + new_sectors sectors) (image_geometry image2).total)
+              (le-leb 1 start (let past = (placed mid u on_mid start start_lost one one_whole).0 in omega arith))
+              (le-leb (start + new_sectors sectors) (image_geometry image2).total (let end = run_end media v on parent attr owner now grown.taken grown.chosen in let total = total_is in omega arith)))
+              (All-nil (λ s. is_within (image_geometry image2) s ≡ true)));
+          distinct = subst (λ f. AreDistinct (owned_sectors number f)) (sym shown) (space media v on parent attr owner now grown.taken grown.chosen).distinct;
+          room =
+              let s = starts sectors start (positive_of media v on) in
+              let counted : length (sectors_of (segments_field (sector image2 number))) ≡ suc (length s.0) = ap (λ xs. length (sectors_of xs)) list_then ∙ ap length s.1 in
+              let sized : size_field (sector image2 number) ≡ 64 = ap size_field number_here ∙ size_is in
+              le-leb (size_field (sector image2 number)) (256 * length (sectors_of (segments_field (sector image2 number)))) (omega arith);
+          clusters = λ x has_it.
+              or_right (v.lost x) (has_cluster (shape v) number folder x)
+              (subst (λ s. has_cluster s number folder x ≡ true) (sym shape_v) (subst (λ f. has_cluster (image_geometry image2) number f x ≡ true) shown has_it));
+          made = λ directory. subst (λ (f : DiskFile). IsNewDirectory f.contents number parent) (sym shown)
+              (new_directory_is number parent (let few = number_few media v on parent attr owner now grown.taken grown.chosen in omega arith) parent_low);
+        }
+
+        -- the clusters that were gained are those of its descriptor on the media
+        pub marks_made : marking_sectors (shape v) (is_gained sectors [] after) ≡ marking_sectors (shape v) (has_cluster (shape v) number (file_at (sector_at new) number))
+        marks_made = ap (marking_sectors (shape v)) (fun_ext gained_is)
+          where
+            shown_new : file_at (sector_at new) number ≡ folder
+            shown_new = ap (λ m. file_at (sector_at m) number) (now_is listed u on_listed number number_lost bytes whole new new_is) ∙ shown
+
+            only_new : (t : Bool) → (t && not false) ≡ t
+            only_new true = refl
+            only_new false = refl
+
+            gained_is : (c : ℕ) → is_gained sectors [] after c ≡ has_cluster (shape v) number (file_at (sector_at new) number) c
+            gained_is c =
+                only_new (uses sectors after c)
+                ∙ ap (λ xs. uses sectors xs c) grown.segments
+                ∙ uses_with sectors [] grown.taken c (positive_of media v on)
+                ∙ cluster_is media v on parent attr owner now grown.taken grown.chosen c
+                ∙ ap (λ f. has_cluster (shape v) number f c) (sym shown_new)
+
+        pub is_made : IsFolderMade v parent number (planned number) media new
+        is_made = record {
+          image = grown.image;
+          now = image2;
+          was = grown.was;
+          is = now_is listed u on_listed number number_lost bytes whole new new_is;
+          left = w;
+          vol = vol2;
+          made = record {
+            file = folder;
+            made = new_file media v on parent attr owner now grown.taken grown.chosen;
+            shown = shown;
+            rest = subst IsNewList (sym number_here) rest;
+            volume = refl;
+          };
+          takes = takes_all media v on parent attr owner now grown.taken grown.chosen;
+          ready = ready;
+          writes = record {
+            first_is = ap (sector image2) first_name ∙ start_here;
+            others = λ s none differ other. beside listed u on_listed number number_lost bytes whole s differ ∙ others1 s none (λ e. other (e ∙ sym first_name));
+            end = λ c behind.
+                let in_map : c < 2048 * map_sectors (image_geometry image1) = subst (λ x. c < 2048 * map_sectors x) (sym shape1) behind.in_map in
+                marks_then listed u on_listed number number_lost bytes whole c in_map ∙ end1 c behind;
+          };
+        }
 
 -- What the call answers.
 
@@ -569,7 +576,9 @@ taken_or media mid new v parent plan after m grows made = record {
   ends = tt;
 }
 
-pub folder_fault : (media mid new : Option (List ℕ)) (v : DiskVolume) (parent : ℕ) (plan : ℕ → Plan) (after : List (ℕ × ℕ)) (e : FileFault) (r : Result ℕ FileFault) → r ≡ Err e → IsSome (file_fault {A = Unit {0}} (Err e))
+pub folder_fault : (media mid new : Option (List ℕ)) (v : DiskVolume) (parent : ℕ) (plan : ℕ
+    → Plan) (after : List (ℕ × ℕ)) (e : FileFault) (r : Result ℕ FileFault) → r ≡ Err e
+    → IsSome (file_fault {A = Unit {0}} (Err e))
     → Grows v (need v) [] media mid (Ok after) → FolderEnds v plan media new → MakesFolder v parent plan media new r
 folder_fault media mid new v parent plan after e r is device grows ends = subst (MakesFolder v parent plan media new) (sym is) (by_fault e device)
   where
@@ -613,15 +622,26 @@ kept_size volume media v mounted on =
     let agrees = agrees_on volume media v mounted on in
     ap (λ (s : Geometry). s.cluster) (agrees.sizes_are ∙ sym (shape-image on.image v on.vol))
 
-pub empty_grows : (v : DiskVolume) (media mid : Option (List ℕ)) (segments : List (ℕ × ℕ)) (k count : ℕ) (r : Result (List (ℕ × ℕ)) FileFault) → segments ≡ [] → count ≡ file_clusters k 64 → k ≡ cluster_size v
+pub empty_grows : (v : DiskVolume) (media mid : Option (List ℕ)) (segments : List (ℕ × ℕ)) (k count : ℕ) (r : Result (List (ℕ × ℕ)) FileFault)
+    → segments ≡ [] → count ≡ file_clusters k 64 → k ≡ cluster_size v
     → Grows v count segments media mid r → Grows v (need v) [] media mid r
 empty_grows v media mid segments k count r none counted same grows =
     subst (λ xs. Grows v (need v) xs media mid r) none (subst (λ c. Grows v c segments media mid r) (counted ∙ ap (λ x. file_clusters x 64) same) grows)
 
-pub fd_as : (fd : Fd) (attr owner : ℕ) (now : TimePacket) (k size m begins : ℕ) (segs : List (ℕ × ℕ)) → fd ≡ record { attr = 128 + attr % 128; owner = owner; modified = minute_of now; links = 1; size = 64; created = day_of now; segs = segs } → segs ≡ run_of k m → k ≡ size → m ≡ begins
+pub fd_as : (fd : Fd) (attr owner : ℕ) (now : TimePacket) (k size m begins : ℕ) (segs : List (ℕ × ℕ))
+    → fd ≡ record { attr = 128 + attr % 128; owner = owner; modified = minute_of now; links = 1; size = 64; created = day_of now; segs = segs }
+    → segs ≡ run_of k m → k ≡ size → m ≡ begins
     → fd ≡ record { attr = 128 + attr % 128; owner = owner; modified = minute_of now; links = 1; size = 64; created = day_of now; segs = run_of size begins }
 fd_as fd attr owner now k size m begins segs is list same place =
-    is ∙ ap (λ xs. record { attr = 128 + attr % 128; owner = owner; modified = minute_of now; links = 1; size = 64; created = day_of now; segs = xs }) (list ∙ ap (λ x. run_of x m) same ∙ ap (run_of size) place)
+    is ∙ ap (λ xs. record {
+      attr = 128 + attr % 128;
+      owner = owner;
+      modified = minute_of now;
+      links = 1;
+      size = 64;
+      created = day_of now;
+      segs = xs;
+    }) (list ∙ ap (λ x. run_of x m) same ∙ ap (run_of size) place)
 
 -- the code stores at the places that it read from the list
 module _ (media mid : Option (List ℕ)) (v : DiskVolume) (on : Represents media v) (parent attr owner : ℕ) (now : TimePacket) (after : List (ℕ × ℕ)) (grown : IsGrown v (need v) media mid [] after)
@@ -646,30 +666,46 @@ module _ (media mid : Option (List ℕ)) (v : DiskVolume) (on : Represents media
     w0 = with_lost v (λ d. v.lost d || has grown.taken d)
 
     pub f_on_drive : f < sector_count mid
-    f_on_drive = subst (λ x. x < sector_count mid) (sym f_is) (on_drive mid w0 (on_mid media mid v on parent attr owner now after grown) (first media v on parent attr owner now grown.taken grown.chosen) (start_lost media mid v on parent attr owner now after grown) one one_whole)
+    f_on_drive =
+        subst (λ x. x < sector_count mid) (sym f_is) (on_drive mid w0
+        (on_mid media mid v on parent attr owner now after grown)
+        (first media v on parent attr owner now grown.taken grown.chosen)
+        (start_lost media mid v on parent attr owner now after grown) one one_whole)
 
     module _ (listed : Option (List ℕ)) (written : listed ≡ with_sector mid f one) where
       listed_is : listed ≡ with_sector mid (first media v on parent attr owner now grown.taken grown.chosen) one
       listed_is = written ∙ ap (λ s. with_sector mid s one) f_is
 
       pub listed_stored : IsStored mid listed w0 w0
-      listed_stored = stored mid w0 (on_mid media mid v on parent attr owner now after grown) (first media v on parent attr owner now grown.taken grown.chosen) (start_lost media mid v on parent attr owner now after grown) one one_whole listed listed_is
+      listed_stored =
+          stored mid w0 (on_mid media mid v on parent attr owner now after grown)
+          (first media v on parent attr owner now grown.taken grown.chosen)
+          (start_lost media mid v on parent attr owner now after grown) one one_whole listed listed_is
 
       pub ends_undescribed : (new : Option (List ℕ)) → new ≡ listed → FolderEnds v (directory_plan attr owner now parent) media new
       ends_undescribed new same = undescribed media mid v on parent attr owner now after grown one one_whole listed listed_is new same
 
       module _ (bytes : List ℕ) (whole : length bytes ≡ 256) where
         pub m_on_drive : m < sector_count listed
-        m_on_drive = subst (λ x. x < sector_count listed) (sym m_is) (on_drive listed w0 (on_listed media mid v on parent attr owner now after grown one one_whole listed listed_is) (n media v on parent attr owner now grown.taken grown.chosen) (number_lost media mid v on parent attr owner now after grown) bytes whole)
+        m_on_drive =
+            subst (λ x. x < sector_count listed) (sym m_is) (on_drive listed w0
+            (on_listed media mid v on parent attr owner now after grown one one_whole listed listed_is)
+            (n media v on parent attr owner now grown.taken grown.chosen)
+            (number_lost media mid v on parent attr owner now after grown) bytes whole)
 
         module _ (new : Option (List ℕ)) (new_written : new ≡ with_sector listed m bytes) where
           new_is : new ≡ with_sector listed (n media v on parent attr owner now grown.taken grown.chosen) bytes
           new_is = new_written ∙ ap (λ s. with_sector listed s bytes) m_is
 
           pub described_stored : IsStored listed new w0 w0
-          described_stored = stored listed w0 (on_listed media mid v on parent attr owner now after grown one one_whole listed listed_is) (n media v on parent attr owner now grown.taken grown.chosen) (number_lost media mid v on parent attr owner now after grown) bytes whole new new_is
+          described_stored =
+              stored listed w0 (on_listed media mid v on parent attr owner now after grown one one_whole listed
+              listed_is) (n media v on parent attr owner now grown.taken grown.chosen)
+              (number_lost media mid v on parent attr owner now after grown) bytes whole new new_is
 
-          pub made_as : (fd : Fd) (read : IsReadAs fd bytes) (rest : IsNewList bytes) (k : ℕ) (segs : List (ℕ × ℕ)) → fd ≡ record { attr = 128 + attr % 128; owner = owner; modified = minute_of now; links = 1; size = 64; created = day_of now; segs = segs } → segs ≡ run_of k f → k ≡ cluster_size v
+          pub made_as : (fd : Fd) (read : IsReadAs fd bytes) (rest : IsNewList bytes) (k : ℕ) (segs : List (ℕ × ℕ))
+              → fd ≡ record { attr = 128 + attr % 128; owner = owner; modified = minute_of now; links = 1; size = 64; created = day_of now; segs = segs }
+              → segs ≡ run_of k f → k ≡ cluster_size v
               → parent < 16777216 → IsFolderMade v parent m (directory_plan attr owner now parent m) media new
           made_as fd read rest k segs fd_is list same low =
               subst (λ x. IsFolderMade v parent x (directory_plan attr owner now parent x) media new) (sym m_is)
@@ -677,7 +713,9 @@ module _ (media mid : Option (List ℕ)) (v : DiskVolume) (on : Represents media
               (fd_as fd attr owner now k (cluster_size v) f (first media v on parent attr owner now grown.taken grown.chosen) segs fd_is list same f_is)
               (one_is ∙ ap (λ x. extended (new_listing x parent) 256) m_is) low new new_is)
 
-          pub marks_as : (fd : Fd) (read : IsReadAs fd bytes) (rest : IsNewList bytes) (k : ℕ) (segs : List (ℕ × ℕ)) → fd ≡ record { attr = 128 + attr % 128; owner = owner; modified = minute_of now; links = 1; size = 64; created = day_of now; segs = segs } → segs ≡ run_of k f → k ≡ cluster_size v
+          pub marks_as : (fd : Fd) (read : IsReadAs fd bytes) (rest : IsNewList bytes) (k : ℕ) (segs : List (ℕ × ℕ))
+              → fd ≡ record { attr = 128 + attr % 128; owner = owner; modified = minute_of now; links = 1; size = 64; created = day_of now; segs = segs }
+              → segs ≡ run_of k f → k ≡ cluster_size v
               → parent < 16777216 → marking_sectors (shape v) (is_gained (cluster_size v) [] after) ≡ marking_sectors (shape v) (has_cluster (shape v) m (file_at (sector_at new) m))
           marks_as fd read rest k segs fd_is list same low =
               subst (λ x. marking_sectors (shape v) (is_gained (cluster_size v) [] after) ≡ marking_sectors (shape v) (has_cluster (shape v) x (file_at (sector_at new) x))) (sym m_is)

@@ -41,7 +41,7 @@ pub fn create_folder(
     ensures refused { OnErr result (IsNone (file_fault result) → media d.new ≡ media d.old) }
     ensures mounted { IsMounted volume.new (media d.new) }
     ensures counts { (v : DiskVolume) → Represents (media d.old) v
-        → Counts ⟦<dyn BlockDriver as BlockDriver>⟧ (file_fault result)
+        → Counts BlockDriver-dyn (file_fault result)
         (folder_calls v (media d.new) result) d.old d.new }
 {
     let k = volume.ident.cluster;

@@ -47,7 +47,7 @@ pub fn make_dir(
         (folder_request dir name.now attr user now) (media d.old) (media d.new) result) }
     ensures mounted { IsMounted v.new (media d.new) }
     ensures counts { OnVolumeFile (media d.old) dir (λ on file.
-        Counts ⟦<dyn BlockDriver as BlockDriver>⟧ (directory_fault result)
+        Counts BlockDriver-dyn (directory_fault result)
         (place_calls file name.now user false
         + entering_calls on file (folder_calls on (media d.new) result) result) d.old d.new) }
 {
@@ -79,7 +79,7 @@ pub fn make_dir_at(
         (media d.old) (media d.new) (widened result)) }
     ensures mounted { IsMounted v.new (media d.new) }
     ensures counts { OnVolumeFile (media d.old) found.now.dir.number (λ on file.
-        Counts ⟦<dyn BlockDriver as BlockDriver>⟧ (file_fault result)
+        Counts BlockDriver-dyn (file_fault result)
         (entering_calls on file (folder_calls on (media d.new) result) (widened result))
         d.old d.new) }
 {

@@ -121,7 +121,8 @@ length-with k segments [] = omega arith
 length-with k segments (c ∷ taken) = omega (arith, length-with k (appended_segments segments (c * k) k) taken, length-more k segments c)
 
 -- the sectors that were there stay in their places
-pub kept_place : (k : ℕ) (segments : List (ℕ × ℕ)) (taken : List ℕ) (j : ℕ) → j < length (sectors_of segments) → get_or (sectors_of (with_clusters k segments taken)) j 0 ≡ get_or (sectors_of segments) j 0
+pub kept_place : (k : ℕ) (segments : List (ℕ × ℕ)) (taken : List ℕ) (j : ℕ) → j < length (sectors_of segments)
+    → get_or (sectors_of (with_clusters k segments taken)) j 0 ≡ get_or (sectors_of segments) j 0
 kept_place k segments [] j low = refl
 kept_place k segments (c ∷ taken) j low =
     kept_place k (appended_segments segments (c * k) k) taken j (let more = length-more k segments c in omega arith)

@@ -255,7 +255,9 @@ one_back k segments first i c written old now new is before one = record {
       (λ differ.
       let other : (c == d) ≡ false = false_from_ne_true (c == d) (λ h. differ (eqb-true c d h)) in
       one.others d (λ e. differ (sym e)) ∙ before.marks d
-      ∙ sym (ap (λ t. if (t && not (is_written written d)) then 0 else mark old.bytes d) (all ∙ ap (λ t. has (clusters_from k segments first i) d || t) other ∙ or_false (has (clusters_from k segments first i) d))))
+      ∙ sym (ap (λ t. if (t && not (is_written written d)) then 0 else mark old.bytes d)
+      (all ∙ ap (λ t. has (clusters_from k segments first i) d || t) other ∙ or_false
+      (has (clusters_from k segments first i) d))))
       (cases_eq c d);
 }
   where
@@ -276,7 +278,8 @@ sizes_same k old new same sizes = record {
   sectors = subst (λ w. w * k ≤ 524280) (sym same.whole) sizes.sectors;
 }
 
-pub places_same : (k : ℕ) (old new : ClusterMap) (before after : List (ℕ × ℕ)) (first count : ℕ) → SameMap old new → after ≡ before → ArePlaces k old before first count → ArePlaces k new after first count
+pub places_same : (k : ℕ) (old new : ClusterMap) (before after : List (ℕ × ℕ)) (first count : ℕ) → SameMap old new
+    → after ≡ before → ArePlaces k old before first count → ArePlaces k new after first count
 places_same k old new before after first count same list places = subst (λ xs. ArePlaces k new xs first count) (sym list) (record {
   within = places.within;
   fits = places.fits;

@@ -44,7 +44,9 @@ agrees_on volume media v mounted on =
     subst (λ i. Agrees (kept volume) i) same mounted.agrees
 
 -- it stays mounted where the marks of its map are the same
-pub mounted_same : (volume : Volume) (media : Option (List ℕ)) (new : ClusterMap) (other : Volume) → IsMounted volume media → SameMap volume.map new → kept other ≡ record { sizes = (kept volume).sizes; map = new } → IsCacheOf media other.cache → IsMounted other media
+pub mounted_same : (volume : Volume) (media : Option (List ℕ)) (new : ClusterMap) (other : Volume)
+    → IsMounted volume media → SameMap volume.map new → kept other ≡ record { sizes = (kept volume).sizes; map = new }
+    → IsCacheOf media other.cache → IsMounted other media
 mounted_same volume media new other mounted same is cached =
     let agrees = mounted.agrees in
     let sizes = same.bytes in
@@ -228,7 +230,8 @@ module _ (volume : Volume) (image : List ℕ) (v : DiskVolume) (vol : Vol image 
       pub wanted_all : AreWanted k after first count (λ p. true) (map_sectors (shape v))
       wanted_all i low = (in_map_sectors i low, refl)
 
-      pub wanted_gained : ((c : ℕ) → uses (cluster_size v) before c ≡ true → is_free_in v c ≡ false) → AreWanted k after first count (has_mark_of (shape v) (is_gained (cluster_size v) before after)) (map_sectors (shape v))
+      pub wanted_gained : ((c : ℕ) → uses (cluster_size v) before c ≡ true → is_free_in v c ≡ false)
+          → AreWanted k after first count (has_mark_of (shape v) (is_gained (cluster_size v) before after)) (map_sectors (shape v))
       wanted_gained apart i low =
           let c = cluster_of_place i in
           let there = places.in_map i low in
@@ -262,7 +265,9 @@ module _ (volume : Volume) (image : List ℕ) (v : DiskVolume) (vol : Vol image 
             let free = free_is volume.map c (subst (λ (f : ℕ → Bool). f c ≡ true) (sym free_is_clear) (taken_free c h)) in
             let whole = free.whole in let are = agrees.map.whole_are in let behind = past.not_whole in absurd (omega arith)) in
             on.marked.marks c bits
-            ∙ ap (λ t. if is_written written c then t else is_marked (sector image) c) (ahead.marks c bits ∙ ap (λ t. is_marked (sector image) c || t) (new_is c ∙ not_taken) ∙ or_none (is_marked (sector image) c))
+            ∙ ap (λ t. if is_written written c then t else is_marked (sector image) c)
+            (ahead.marks c bits ∙ ap (λ t. is_marked (sector image) c || t) (new_is c ∙ not_taken) ∙ or_none
+            (is_marked (sector image) c))
             ∙ either (is_written written c) (is_marked (sector image) c);
       }
         where
@@ -285,7 +290,9 @@ module _ (volume : Volume) (image : List ℕ) (v : DiskVolume) (vol : Vol image 
       agrees_with map2 clusters whole bytes marks =
           let there : (clusters_are : map2.clusters ≡ cluster_count g) × (whole_are : map2.whole ≡ g.total / g.cluster) × (length map2.bytes ≡ 256 * map_sectors g) =
           (clusters ∙ ahead.clusters_are, whole ∙ ahead.whole_are, bytes ∙ ahead.sectors) in
-          let moved = subst (λ h. (clusters_are : map2.clusters ≡ cluster_count h) × (whole_are : map2.whole ≡ h.total / h.cluster) × (length map2.bytes ≡ 256 * map_sectors h)) (sym same_shape) there in
+          let moved =
+          subst (λ h. (clusters_are : map2.clusters ≡ cluster_count h) × (whole_are : map2.whole ≡ h.total / h.cluster)
+          × (length map2.bytes ≡ 256 * map_sectors h)) (sym same_shape) there in
           record {
             sizes_are = agrees.sizes_are ∙ sym same_shape;
             map = record { clusters_are = moved.0; whole_are = moved.1; sectors = moved.2; marks = λ c low. marks c (omega arith) };
@@ -345,7 +352,9 @@ module _ (volume : Volume) (image : List ℕ) (v : DiskVolume) (vol : Vol image 
         changes = changes;
       }
 
-      pub back_agrees : (map2 : ClusterMap) (first : ℕ) → clusters_from k after first count ≡ taken → IsGivenBack k after first count written map1 map2 → Agrees (record { sizes = (kept volume).sizes; map = map2 }) now
+      pub back_agrees : (map2 : ClusterMap) (first : ℕ) → clusters_from k after first count ≡ taken
+          → IsGivenBack k after first count written map1 map2
+          → Agrees (record { sizes = (kept volume).sizes; map = map2 }) now
       back_agrees map2 first those back = agrees_with map2 back.clusters back.whole back.bytes (λ c low. on.marked.marks c low ∙ sym (back_mark c low))
         where
           and_none : (t : Bool) → (t && false) ≡ false
@@ -372,7 +381,8 @@ module _ (volume : Volume) (image : List ℕ) (v : DiskVolume) (vol : Vol image 
               (cases_Bool (is_written written c))
 
 -- how many calls write wanted marks, of which none has been written
-pub wanted_calls : (f : Option ℕ) (count : ℕ) (wanted : ℕ → Bool) (written : List Bool) (n : ℕ) (s t : DriveCounts) → MovesCounts f (min count (unwritten wanted written n)) s t → MovesCounts f (min count (below wanted n)) s t
+pub wanted_calls : (f : Option ℕ) (count : ℕ) (wanted : ℕ → Bool) (written : List Bool) (n : ℕ) (s t : DriveCounts)
+    → MovesCounts f (min count (unwritten wanted written n)) s t → MovesCounts f (min count (below wanted n)) s t
 wanted_calls f count wanted written n s t calls =
     let few = below_of (λ p. wanted p && not (slice_index_or written p false)) wanted n (λ p low h. (and_parts (wanted p) (not (slice_index_or written p false)) h).0) in
     counts_most f (min count (unwritten wanted written n)) (min count (below wanted n)) s t (omega arith) calls
@@ -389,7 +399,9 @@ pub at_most_wanted : (f : Option ℕ) (count n : ℕ) (s t : DriveCounts) → Mo
 at_most_wanted f count n s t calls = counts_most f (min count n) n s t (omega arith) calls
 
 -- a volume is mounted that agrees with the media
-pub mounted_where : (volume : Volume) (media : Option (List ℕ)) (v : DiskVolume) (image : List ℕ) (kv : KeptVolume) → media ≡ Some image → Vol image v → Agrees kv image → kept volume ≡ kv → IsCacheOf media volume.cache → IsMounted volume media
+pub mounted_where : (volume : Volume) (media : Option (List ℕ)) (v : DiskVolume) (image : List ℕ) (kv : KeptVolume)
+    → media ≡ Some image → Vol image v → Agrees kv image → kept volume ≡ kv → IsCacheOf media volume.cache
+    → IsMounted volume media
 mounted_where volume media v image kv is vol agrees same cached =
     record { content = v; on = record { image = image; is = is; vol = vol }; agrees = subst (λ x. Agrees x image) (sym same) agrees; cached = cached }
 

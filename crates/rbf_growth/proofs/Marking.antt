@@ -56,7 +56,10 @@ and_none : (t : Bool) → (t && false) ≡ false
 and_none true = refl
 and_none false = refl
 
-module _ (v : DiskVolume) (old now : List ℕ) (kept : KeptVolume) (written : List Bool) (ahead : IsAhead v old kept) (marked : IsMarkedTo v old now kept.map written) (n : ℕ) (room : n < length written) (fresh : (c : ℕ) → c / 2048 ≡ n → is_written written c ≡ false) (within : 1 + n ≤ map_sectors (image_geometry old)) (bytes : List ℕ) (of_map : IsSectorOf kept.map.bytes n bytes) where
+module _ (v : DiskVolume) (old now : List ℕ) (kept : KeptVolume) (written : List Bool) (ahead : IsAhead v old kept)
+    (marked : IsMarkedTo v old now kept.map written) (n : ℕ) (room : n < length written)
+    (fresh : (c : ℕ) → c / 2048 ≡ n → is_written written c ≡ false) (within : 1 + n ≤ map_sectors (image_geometry old))
+    (bytes : List ℕ) (of_map : IsSectorOf kept.map.bytes n bytes) where
   abbrev g : Geometry
   g = image_geometry now
 
@@ -160,7 +163,8 @@ pub mark_within : (v : DiskVolume) (old : List ℕ) (kept : KeptVolume) (cluster
 mark_within v old kept cluster ahead low =
     let whole = ahead.whole_are in
     let positive = cluster_positive (image_geometry old).cluster ahead.vol.sound.shape.header.clusters in
-    let most : (cluster + 1) * (image_geometry old).cluster ≤ ((image_geometry old).total / (image_geometry old).cluster) * (image_geometry old).cluster = mul-le-mul_right (image_geometry old).cluster (omega arith) in
+    let most : (cluster + 1) * (image_geometry old).cluster ≤ ((image_geometry old).total / (image_geometry old).cluster) * (image_geometry old).cluster =
+    mul-le-mul_right (image_geometry old).cluster (omega arith) in
     let begins : ((image_geometry old).total / (image_geometry old).cluster) * (image_geometry old).cluster ≤ (image_geometry old).total = omega arith in
     let there = mark_sector (image_geometry old) ahead.vol.sound.shape cluster (omega arith) in
     omega arith
@@ -181,7 +185,8 @@ write_on v old before after kept written now_written cluster n place room not_ye
     }
 
 -- and the drive has that sector
-pub sector_on : (kept : KeptVolume) (media : Option (List ℕ)) (written : List Bool) (cluster n : ℕ) → n ≡ cluster / 2048 → cluster < kept.map.whole → IsMarking kept media written → 1 + n < sector_count media
+pub sector_on : (kept : KeptVolume) (media : Option (List ℕ)) (written : List Bool) (cluster n : ℕ) → n ≡ cluster / 2048
+    → cluster < kept.map.whole → IsMarking kept media written → 1 + n < sector_count media
 sector_on kept media written cluster n place low marking =
     let on = marking.on in
     let on_now : Represents media (with_lost marking.volume (λ c. marking.volume.lost c || (is_new_mark marking.volume kept.map c && is_written written c))) =

@@ -33,7 +33,8 @@ still_left : (wanted : ℕ → Bool) (written : List Bool) (q : ℕ) → wanted 
 still_left wanted written q is not_there = and_from (wanted q) (not (slice_index_or written q false)) is (ap not not_there)
 
 -- one that is written is left no more
-left_after : (wanted : ℕ → Bool) (n : ℕ) (written now_written : List Bool) (c : ℕ) → c / 2048 < n → wanted (c / 2048) ≡ true → is_written now_written c ≡ true → now_written ≡ set written (c / 2048) true
+left_after : (wanted : ℕ → Bool) (n : ℕ) (written now_written : List Bool) (c : ℕ) → c / 2048 < n
+    → wanted (c / 2048) ≡ true → is_written now_written c ≡ true → now_written ≡ set written (c / 2048) true
     → cost written c + unwritten wanted now_written n ≤ unwritten wanted written n
 left_after wanted n written now_written c low is there news = ⊎_elim
     (λ was.
@@ -44,7 +45,10 @@ left_after wanted n written now_written c low is there news = ⊎_elim
     omega arith)
     (λ fresh.
     let one : cost written c ≡ 1 = ap (λ t. if t then 0 else 1) fresh in
-    let fewer = below_one (is_left wanted now_written) (is_left wanted written) (c / 2048) n low (is_written_left wanted now_written (c / 2048) there) (still_left wanted written (c / 2048) is fresh) (kept fresh) in
+    let fewer =
+    below_one (is_left wanted now_written) (is_left wanted written) (c / 2048) n low
+    (is_written_left wanted now_written (c / 2048) there) (still_left wanted written (c / 2048) is fresh)
+    (kept fresh) in
     omega arith)
     (cases_Bool (is_written written c))
   where
@@ -78,7 +82,9 @@ cost_most written c = least (is_written written c)
     least false = omega arith
 
 -- those of the places before this one have been written
-pub record IsMarkedSoFar (k : ℕ) (segments : List (ℕ × ℕ)) (first i : ℕ) (kept kept_now : KeptVolume) (media now : Option (List ℕ)) (written written_now : List Bool) (held : List Sector) (before after : DriveCounts) : Type 0 where
+pub record IsMarkedSoFar (k : ℕ) (segments : List (ℕ × ℕ)) (first i : ℕ) (kept kept_now : KeptVolume)
+    (media now : Option (List ℕ)) (written written_now : List Bool) (held : List Sector) (before after : DriveCounts) : Type
+    0 where
   pub on : (v : DiskVolume) (old : List ℕ) → IsMarkedOn v old media kept written → IsMarkedOn v old now kept written_now
   pub all : AllWritten (clusters_from k segments first i) written_now
   pub same : kept_now ≡ kept
@@ -97,7 +103,9 @@ none_marked k segments first kept media written held before cached = record {
   left = λ wanted n are. omega arith;
 }
 
-module _ (k : ℕ) (segments : List (ℕ × ℕ)) (first i : ℕ) (kept mid_kept : KeptVolume) (media mid : Option (List ℕ)) (written mid_written : List Bool) (mid_held : List Sector) (before half : DriveCounts) (far : IsMarkedSoFar k segments first i kept mid_kept media mid written mid_written mid_held before half) where
+module _ (k : ℕ) (segments : List (ℕ × ℕ)) (first i : ℕ) (kept mid_kept : KeptVolume) (media mid : Option (List ℕ))
+    (written mid_written : List Bool) (mid_held : List Sector) (before half : DriveCounts)
+    (far : IsMarkedSoFar k segments first i kept mid_kept media mid written mid_written mid_held before half) where
   pub still_marking : IsMarking kept media written → IsMarking mid_kept mid mid_written
   still_marking marking = subst (λ kv. IsMarking kv mid mid_written) (sym far.same) (record { volume = marking.volume; old = marking.old; on = far.on marking.volume marking.old marking.on })
 
@@ -126,7 +134,10 @@ module _ (k : ℕ) (segments : List (ℕ × ℕ)) (first i : ℕ) (kept mid_kept
         (or_cases (has (clusters_from k segments first i) d) (c == d) (sym (ap (λ xs. has xs d) more ∙ has_more (clusters_from k segments first i) c d) ∙ h));
     same = same ∙ far.same;
     cached = cached;
-    moved = counts_most None (i + cost mid_written c) (i + 1) before after (let most = cost_most mid_written c in omega arith) (counts_then None i (cost mid_written c) before half after far.moved counts);
+    moved =
+        counts_most None (i + cost mid_written c) (i + 1) before after
+        (let most = cost_most mid_written c in omega arith)
+        (counts_then None i (cost mid_written c) before half after far.moved counts);
     left = λ wanted n are.
         let his = are i (omega arith) in
         let earlier = far.left wanted n (λ j low. are j (omega arith)) in

@@ -37,9 +37,8 @@ pub fn grow(
     ensures refused { OnErr result (IsNone (file_fault result) → media d.new ≡ media d.old) }
     ensures refused_calls { OnErr result (NoFault result → drive_calls d.new ≡ drive_calls d.old) }
     ensures mounted { IsMounted volume.new (media d.new) }
-    ensures counts { Counts ⟦<dyn BlockDriver as BlockDriver>⟧
-        (file_fault result) count d.old d.new }
-    ensures marks { OnVolume (media d.old) (λ v. Counts ⟦<dyn BlockDriver as BlockDriver>⟧
+    ensures counts { Counts BlockDriver-dyn (file_fault result) count d.old d.new }
+    ensures marks { OnVolume (media d.old) (λ v. Counts BlockDriver-dyn
         (file_fault result) (growth_calls v count segs.now result) d.old d.new) }
 {
     let k = volume.ident.cluster;

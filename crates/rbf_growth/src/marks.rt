@@ -32,9 +32,8 @@ pub fn write_marks(
     ensures volume_kept { kept volume.new ≡ kept volume.old }
     ensures cached { IsCacheOf (media d.new) volume.new.cache }
     ensures counts { (wanted : ℕ → Bool) (n : ℕ)
-        → AreWanted volume.old.ident.cluster segs.now first count wanted n
-        → Counts ⟦<dyn BlockDriver as BlockDriver>⟧ (file_fault result)
-        (min count (unwritten wanted written.old n)) d.old d.new }
+        → AreWanted volume.old.ident.cluster segs.now first count wanted n → Counts BlockDriver-dyn
+        (file_fault result) (min count (unwritten wanted written.old n)) d.old d.new }
 {
     let k = volume.ident.cluster;
     for i in 0..count {
@@ -60,7 +59,7 @@ fn write_mark(
     ensures device { OnErr result (IsSome (file_fault result)) }
     ensures volume_kept { kept volume.new ≡ kept volume.old }
     ensures cached { IsCacheOf (media d.new) volume.new.cache }
-    ensures counts { Counts ⟦<dyn BlockDriver as BlockDriver>⟧ (file_fault result)
+    ensures counts { Counts BlockDriver-dyn (file_fault result)
         (if is_written written.old cluster then 0 else 1) d.old d.new }
 {
     let place = cluster / 2048;
@@ -84,7 +83,7 @@ fn write_map_sector(volume: &mut Volume, d: &mut dyn BlockDriver, n: u16) -> Res
     ensures device { OnErr result (IsSome (file_fault result)) }
     ensures volume_kept { kept volume.new ≡ kept volume.old }
     ensures cached { IsCacheOf (media d.new) volume.new.cache }
-    ensures counts { Counts ⟦<dyn BlockDriver as BlockDriver>⟧ (file_fault result) 1 d.old d.new }
+    ensures counts { Counts BlockDriver-dyn (file_fault result) 1 d.old d.new }
 {
     let mut bytes = [0; 256];
     volume.map.sector(n, &mut bytes);

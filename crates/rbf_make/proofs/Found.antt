@@ -22,7 +22,9 @@ module _ (m0 m1 : Option (List ℕ)) (same : m1 ≡ m0) (d : ℕ) (name : List �
   })
 
   -- what holds of each file of its directory's number, for its user, holds of those of the one where it was looked for
-  pub asked : (P : Option (List ℕ) → ℕ → ℕ → Bool → DiskVolume → DiskFile → Type 0) → ((v : DiskVolume) (file : DiskFile) → Represents m1 v → v.files found.dir.number ≡ Some file → P m1 found.dir.number found.user found.execute v file)
+  pub asked : (P : Option (List ℕ) → ℕ → ℕ → Bool → DiskVolume → DiskFile → Type 0)
+      → ((v : DiskVolume) (file : DiskFile) → Represents m1 v → v.files found.dir.number ≡ Some file
+      → P m1 found.dir.number found.user found.execute v file)
       → (v : DiskVolume) (file : DiskFile) → Represents m0 v → v.files d ≡ Some file → P m0 d user execute v file
   asked P holds v file on there =
       subst (λ m. P m d user execute v file) same

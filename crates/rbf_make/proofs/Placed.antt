@@ -24,7 +24,9 @@ use Rattle.rbf_walk.specs.declared.error.DirError.TheVariants.{File}
 use Rattle.rbf_make.specs.Places.{IsRefused, IsNewPlace, AnswersPlace, place_calls}
 
 -- a fault of the drive
-pub fault_placed : (A : Type 0) (dir : DiskFile) (name : List ℕ) (user : ℕ) (execute : Bool) → is_dots name ≡ false → (fault : FileFault) (r : Result ℕ DirError) → r ≡ Err (File fault) → IsSome (file_fault {A = A} (Err fault)) → AnswersPlace dir name user execute r
+pub fault_placed : (A : Type 0) (dir : DiskFile) (name : List ℕ) (user : ℕ) (execute : Bool) → is_dots name ≡ false
+    → (fault : FileFault) (r : Result ℕ DirError) → r ≡ Err (File fault) → IsSome (file_fault {A = A} (Err fault))
+    → AnswersPlace dir name user execute r
 fault_placed A dir name user execute proper fault r is device = subst (AnswersPlace dir name user execute) (sym is) (by_fault fault device)
   where
     by_fault : (f : FileFault) → IsSome (file_fault {A = A} (Err f)) → AnswersPlace dir name user execute (Err (File f))
@@ -32,7 +34,9 @@ fault_placed A dir name user execute proper fault r is device = subst (AnswersPl
     by_fault NoCluster some = absurd (false≢true some)
     by_fault TooManyRuns some = absurd (false≢true some)
 
-module _ (media : Option (List ℕ)) (dir : ℕ) (fd : Fd) (known : OnFile media dir (λ file. IsFdOf file fd)) (name : List ℕ) (user : ℕ) (execute : Bool) (dots : Bool) (is_dots_is : dots ≡ is_dots name) (named : IsName name) (proper : dots ≡ false)
+module _ (media : Option (List ℕ)) (dir : ℕ) (fd : Fd) (known : OnFile media dir (λ file. IsFdOf file fd))
+    (name : List ℕ) (user : ℕ) (execute : Bool) (dots : Bool) (is_dots_is : dots ≡ is_dots name) (named : IsName name)
+    (proper : dots ≡ false)
     (test : Bool) (tested : (file : DiskFile) → IsFdOf file fd → test ≡ may_change file user execute) (v : DiskVolume) (file : DiskFile) (on : Represents media v) (is : v.files dir ≡ Some file) where
   none_dots : is_dots name ≡ false
   none_dots = sym is_dots_is ∙ proper
@@ -81,7 +85,8 @@ module _ (dir : DiskFile) (name : List ℕ) (user : ℕ) (execute : Bool) (prope
       either true = omega arith
       either false = omega arith
 
-  pub all_looks : may_change dir user execute ≡ true → (most : ℕ) (mid : DriveCounts) → MovesCounts None 1 s mid → MovesCounts f most mid t → t.calls ≤ mid.calls + sectors → MovesCounts f (place_calls dir name user execute) s t
+  pub all_looks : may_change dir user execute ≡ true → (most : ℕ) (mid : DriveCounts) → MovesCounts None 1 s mid
+      → MovesCounts f most mid t → t.calls ≤ mid.calls + sectors → MovesCounts f (place_calls dir name user execute) s t
   all_looks allowed most mid one other few =
       subst (λ n. MovesCounts f n s t)
       (sym (calls_are ∙ cond-true (may_change dir user execute) (1 + sectors) 1 allowed))

@@ -54,7 +54,7 @@ pub fn find_place(
     ensures mounted { IsMounted v.new (media d.new) }
     ensures media_kept { media d.new ≡ media d.old }
     ensures volume_kept { kept v.new ≡ kept v.old }
-    ensures counts { OnFile (media d.old) dir (λ file. Counts ⟦<dyn BlockDriver as BlockDriver>⟧
+    ensures counts { OnFile (media d.old) dir (λ file. Counts BlockDriver-dyn
         (directory_fault result) (place_calls file name.now user execute) d.old d.new) }
 {
     if is_dots(name) {

@@ -25,7 +25,8 @@ beside_begins k cluster sectors place = record { count = omega arith }
 
 module _ (k cluster : ℕ) (sectors : List ℕ) (place next : ℕ) (far : IsBesideSoFar k cluster sectors place next) (behind : place ≤ next) where
   -- what is left begins with the next sector
-  left_is : (s : ℕ) → slice_get sectors next ≡ Some s → take_while (λ t. t / k == cluster) (drop next sectors) ≡ cond (s / k == cluster) (s ∷ take_while (λ t. t / k == cluster) (drop (next + 1) sectors)) []
+  left_is : (s : ℕ) → slice_get sectors next ≡ Some s → take_while (λ t. t / k == cluster) (drop next sectors) ≡ cond
+      (s / k == cluster) (s ∷ take_while (λ t. t / k == cluster) (drop (next + 1) sectors)) []
   left_is s got =
       ap (take_while (λ t. t / k == cluster)) (drop_more sectors next 0 (slice_get_within sectors next s got) ∙ ap (λ t. t ∷ drop (next + 1) sectors) (get_or_from_slice_get sectors next s 0 got))
       ∙ take_while-cons (λ t. t / k == cluster) s (drop (next + 1) sectors)
@@ -54,7 +55,8 @@ module _ (k cluster : ℕ) (sectors : List ℕ) (place next : ℕ) (far : IsBesi
       omega arith
 
 -- the cluster is that of the sector before the place
-pub beside_is : (k n cluster divisor before : ℕ) (sectors : List ℕ) (place end : ℕ) → divisor ≡ k → cluster ≡ before / divisor → before ≡ get_or (n ∷ sectors) place 0 → end ≡ place + in_one k cluster sectors place
+pub beside_is : (k n cluster divisor before : ℕ) (sectors : List ℕ) (place end : ℕ) → divisor ≡ k
+    → cluster ≡ before / divisor → before ≡ get_or (n ∷ sectors) place 0 → end ≡ place + in_one k cluster sectors place
     → end ≡ place + sectors_beside k n sectors place
 beside_is k n cluster divisor before sectors place end same quotient is counted =
     counted ∙ ap (λ c. place + in_one k c sectors place) (quotient ∙ ap (λ d. before / d) same ∙ ap (λ b. b / k) is)
@@ -68,7 +70,8 @@ needed_is size count is =
     omega arith
 
 -- what is kept of the segments
-pub kept_is : (k n size needed end : ℕ) (segments new : List (ℕ × ℕ)) → needed ≡ sector_count size → end ≡ needed + sectors_beside k n (sectors_of segments) needed → new ≡ shortened_segments end segments
+pub kept_is : (k n size needed end : ℕ) (segments new : List (ℕ × ℕ)) → needed ≡ sector_count size
+    → end ≡ needed + sectors_beside k n (sectors_of segments) needed → new ≡ shortened_segments end segments
     → new ≡ shortened_segments (kept_sectors k n segments size) segments
 kept_is k n size needed end segments new counted ends is =
     is ∙ ap (λ m. shortened_segments m segments) (ends ∙ ap (λ c. c + sectors_beside k n (sectors_of segments) c) counted)

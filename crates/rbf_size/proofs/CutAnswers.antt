@@ -64,7 +64,8 @@ not_one true b h = absurd (false≢true h)
 not_one false b h = refl
 
 -- a file has the sectors that a lesser size needs
-pub cut_room : (media : Option (List ℕ)) (loaded : Loaded) (size : ℕ) → IsLoaded media loaded.number loaded → HasDataFile media loaded.number → size < loaded.file.size → sector_count size ≤ length (sectors_of loaded.file.segs)
+pub cut_room : (media : Option (List ℕ)) (loaded : Loaded) (size : ℕ) → IsLoaded media loaded.number loaded
+    → HasDataFile media loaded.number → size < loaded.file.size → sector_count size ≤ length (sectors_of loaded.file.segs)
 cut_room media loaded size is_loaded has shorter =
     let fd = is_loaded.says has.content has.file has.on has.is in
     let room = room_for media has.content has.on loaded.number has.file has.is in
@@ -73,7 +74,9 @@ cut_room media loaded size is_loaded has shorter =
     omega arith
 
 -- where all its sectors are kept, its segments are
-pub cut_same : (media : Option (List ℕ)) (loaded : Loaded) (m : ℕ) (segs : List (ℕ × ℕ)) → IsLoaded media loaded.number loaded → segs ≡ shortened_segments m loaded.file.segs → length (sectors_of segs) ≡ length (sectors_of loaded.file.segs)
+pub cut_same : (media : Option (List ℕ)) (loaded : Loaded) (m : ℕ) (segs : List (ℕ × ℕ))
+    → IsLoaded media loaded.number loaded → segs ≡ shortened_segments m loaded.file.segs
+    → length (sectors_of segs) ≡ length (sectors_of loaded.file.segs)
     → segs ≡ loaded.file.segs
 cut_same media loaded m segs is_loaded segs_are same =
     let some : AreSome loaded.file.segs = subst AreSome is_loaded.list_is (fields_some loaded.descriptor) in
@@ -82,8 +85,12 @@ cut_same media loaded m segs is_loaded segs_are same =
     let taken = length-take m (sectors_of loaded.file.segs) in
     segs_are ∙ shortened_whole m loaded.file.segs some.some (omega arith)
 
-module _ (media mid : Option (List ℕ)) (loaded : Loaded) (size : ℕ) (now : TimePacket) (is_loaded : IsLoaded media loaded.number loaded) (has_file : HasDataFile media loaded.number) (volume half : Volume) (mounted : IsMounted volume media)
-    (volume_kept : kept half ≡ kept volume) (shorter : size < loaded.file.size) (segs : List (ℕ × ℕ)) (segs_are : segs ≡ shortened_segments (kept_sectors volume.ident.cluster loaded.number loaded.file.segs size) loaded.file.segs)
+module _ (media mid : Option (List ℕ)) (loaded : Loaded) (size : ℕ) (now : TimePacket)
+    (is_loaded : IsLoaded media loaded.number loaded) (has_file : HasDataFile media loaded.number) (volume half : Volume)
+    (mounted : IsMounted volume media)
+    (volume_kept : kept half ≡ kept volume) (shorter : size < loaded.file.size) (segs : List (ℕ × ℕ))
+    (segs_are : segs ≡ shortened_segments (kept_sectors volume.ident.cluster loaded.number loaded.file.segs size)
+    loaded.file.segs)
     (stored : IsStored loaded segs size now media mid) (v : DiskVolume) (old : DiskFile) (on : Represents media v) (is : v.files loaded.number ≡ Some old) where
   abbrev n : ℕ
   n = loaded.number
@@ -186,7 +193,9 @@ module _ (media mid : Option (List ℕ)) (loaded : Loaded) (size : ℕ) (now : T
       ∙ ap (λ s. marking_sectors s (in_rest half.ident.cluster sectors)) (agrees.sizes_are ∙ sym shaped)
       ∙ ap (marking_sectors (shape v)) (gone_is ∙ fun_ext (λ c. rest c ∙ sym (ap (λ h. has_cluster h n old c && not (has_cluster h n new c)) shaped)))
 
-  pub cut_calls : (f : Option ℕ) (s t u : DriveCounts) → MovesCounts None 1 s t → MovesCounts f (marking_sectors (kept half).sizes (in_rest half.ident.cluster sectors)) t u → MovesCounts f (1 + giving_calls v old sizing) s u
+  pub cut_calls : (f : Option ℕ) (s t u : DriveCounts) → MovesCounts None 1 s t
+      → MovesCounts f (marking_sectors (kept half).sizes (in_rest half.ident.cluster sectors)) t u
+      → MovesCounts f (1 + giving_calls v old sizing) s u
   cut_calls f s t u one more =
       subst (λ x. MovesCounts f (1 + x) s u) same_sectors (counts_then f 1 (marking_sectors (kept half).sizes (in_rest half.ident.cluster sectors)) s t u one more)
 
@@ -208,7 +217,9 @@ module _ (media mid : Option (List ℕ)) (loaded : Loaded) (size : ℕ) (now : T
 
     list_then : KeepsListEnd (sector image n) (sector clear.now n)
     list_then =
-        let here : sector clear.now n ≡ bytes = clear.others n (λ there. let low = subst (λ h. IsMapSector h n) shape_kept there in let past = behind in let high = low.within in absurd (omega arith)) ∙ here_put image v on.vol n old is bytes stored.says.whole in
+        let here : sector clear.now n ≡ bytes =
+        clear.others n (λ there. let low = subst (λ h. IsMapSector h n) shape_kept there in let past = behind in let
+        high = low.within in absurd (omega arith)) ∙ here_put image v on.vol n old is bytes stored.says.whole in
         let was : loaded.descriptor ≡ sector image n = is_loaded.bytes_are ∙ ap (λ m. sector_at m n) on.is in
         subst (λ b. KeepsListEnd (sector image n) b) (sym here) (subst (λ b. KeepsListEnd b bytes) was stored.says.end)
 
@@ -284,7 +295,9 @@ module _ (media mid : Option (List ℕ)) (loaded : Loaded) (size : ℕ) (now : T
     lose = record {
       same = refl;
       still = λ c h.
-          let parts = and_parts (lessened.lost c) (not (has_cluster g n old c && not (has_cluster g n new c))) (lost_then image v on.vol n old new is not_directory bytes stored.says.whole list_is inside c ∙ h) in
+          let parts =
+          and_parts (lessened.lost c) (not (has_cluster g n old c && not (has_cluster g n new c)))
+          (lost_then image v on.vol n old new is not_directory bytes stored.says.whole list_is inside c ∙ h) in
           and_from (lessened.lost c) (not (before gone place c)) parts.0
           (ap (λ t. not (t && nat_lt (c / 2048) place)) (rest c) ∙ not_one (has_cluster g n old c && not (has_cluster g n new c)) (nat_lt (c / 2048) place) parts.1);
       only = λ c h.

@@ -21,7 +21,8 @@ use Rattle.rbf_cut.specs.declared.rest.CutSectors.{CutSectors}
 use Rattle.rbf_cut.specs.Rest.{in_rest}
 
 -- a file that has new segments, all in clusters that it had: the whole clusters that it gave up are lost
-module _ (image : List ℕ) (v : DiskVolume) (vol : Vol image v) (n : ℕ) (old new : DiskFile) (is : v.files n ≡ Some old) (not_directory : is_directory old ≡ false) (bytes : List ℕ) (whole : length bytes ≡ 256)
+module _ (image : List ℕ) (v : DiskVolume) (vol : Vol image v) (n : ℕ) (old new : DiskFile) (is : v.files n ≡ Some old)
+    (not_directory : is_directory old ≡ false) (bytes : List ℕ) (whole : length bytes ≡ 256)
     (list : segments_field bytes ≡ new.segments) (new_in_old : (c : ℕ) → has_cluster (image_geometry image) n new c ≡ true → has_cluster (image_geometry image) n old c ≡ true) where
   abbrev g : Geometry
   g = image_geometry image
@@ -66,7 +67,8 @@ module _ (image : List ℕ) (v : DiskVolume) (vol : Vol image v) (n : ℕ) (old 
   lost_then c = ap (λ t. t && not (gone c)) (lost_is c)
       ∙ cases (has_cluster g n new c) (has_cluster g n old c) (is_whole g c) (v.lost c) (λ h. lost_apart c (new_in_old c h)) (λ h. lost_apart c h)
     where
-      cases : (in_new in_old whole_one lost : Bool) → (in_new ≡ true → lost ≡ false) → (in_old ≡ true → lost ≡ false) → ((if in_new then false else (if in_old then whole_one else lost)) && not (in_old && not in_new)) ≡ lost
+      cases : (in_new in_old whole_one lost : Bool) → (in_new ≡ true → lost ≡ false) → (in_old ≡ true → lost ≡ false)
+          → ((if in_new then false else (if in_old then whole_one else lost)) && not (in_old && not in_new)) ≡ lost
       cases true in_old whole_one lost apart other = sym (apart refl)
       cases false true true lost apart other = sym (other refl)
       cases false true false lost apart other = sym (other refl)

@@ -41,8 +41,14 @@ within_shortened g m (run ∷ runs) all = ⊎_elim
     (within_shortened g (m - run.1) runs (All-tail (λ s. is_within g s ≡ true) run runs all))))
     (cases_Bool (m == 0))
 
-module _ (image : List ℕ) (v : DiskVolume) (vol : Vol image v) (n : ℕ) (old : DiskFile) (is : v.files n ≡ Some old) (not_directory : is_directory old ≡ false) (k size : ℕ) (minute : List ℕ) (shorter : size < length old.contents)
-    (fd : Fd) (says : IsFdOf old fd) (bytes : List ℕ) (whole : length bytes ≡ 256) (fields : HasFields (record fd { size = size; modified = minute; segs = shortened_segments (kept_count k n old size) old.segments }) bytes)
+module _ (image : List ℕ) (v : DiskVolume) (vol : Vol image v) (n : ℕ) (old : DiskFile) (is : v.files n ≡ Some old)
+    (not_directory : is_directory old ≡ false) (k size : ℕ) (minute : List ℕ) (shorter : size < length old.contents)
+    (fd : Fd) (says : IsFdOf old fd) (bytes : List ℕ) (whole : length bytes ≡ 256)
+    (fields : HasFields (record fd {
+      size = size;
+      modified = minute;
+      segs = shortened_segments (kept_count k n old size) old.segments;
+    }) bytes)
     (list : segments_field bytes ≡ shortened_segments (kept_count k n old size) old.segments) where
   abbrev g : Geometry
   g = image_geometry image

@@ -34,7 +34,8 @@ pub refused_later : (r : Result (Unit {0}) FileFault) (a b c : ℕ) → b ≤ a 
 refused_later (Ok done) a b c one refused = tt
 refused_later (Err fault) a b c one refused = λ none. let same = refused none in omega arith
 
-module _ (before mid : Option (List ℕ)) (n m size : ℕ) (now : TimePacket) (same : mid ≡ before) (number : m ≡ n) (v : DiskVolume) (file : DiskFile) (on : Represents before v) (is : v.files n ≡ Some file) where
+module _ (before mid : Option (List ℕ)) (n m size : ℕ) (now : TimePacket) (same : mid ≡ before) (number : m ≡ n)
+    (v : DiskVolume) (file : DiskFile) (on : Represents before v) (is : v.files n ≡ Some file) where
   pub cut_answers : (after : Option (List ℕ)) (result : Result (Unit {0}) FileFault)
       → ((w : DiskVolume) (f : DiskFile) → Represents mid w → w.files m ≡ Some f → AnswersSize w f (record { number = m; size = size; now = now }) mid after result)
       → AnswersSize v file (record { number = n; size = size; now = now }) before after result
@@ -53,7 +54,8 @@ module _ (before mid : Option (List ℕ)) (n m size : ℕ) (now : TimePacket) (s
   cut_counts marks f s t u shorter one calls =
       let there : v.files m ≡ Some file = subst (λ i. v.files i ≡ Some file) (sym number) is in
       let cut : MovesCounts f (1 + giving_calls v file sizing) t u =
-      subst (λ i. MovesCounts f (1 + giving_calls v file (record { number = i; size = size; now = now })) t u) number (calls v file (record { image = on.image; is = same ∙ on.is; vol = on.vol }) there) in
+      subst (λ i. MovesCounts f (1 + giving_calls v file (record { number = i; size = size; now = now })) t u) number
+      (calls v file (record { image = on.image; is = same ∙ on.is; vol = on.vol }) there) in
       let long : nat_lt (length file.contents) size ≡ false = false_from_ne_true (nat_lt (length file.contents) size) (λ h. let low = ltb-true (length file.contents) size h in absurd (omega arith)) in
       let all : size_calls v file marks sizing ≡ 2 + giving_calls v file sizing =
       cond-false (nat_lt (length file.contents) size) (1 + laying_calls v file marks size size) (if nat_lt size (length file.contents) then 2 + giving_calls v file sizing else 1) long
@@ -74,4 +76,5 @@ module _ (before mid : Option (List ℕ)) (n m size : ℕ) (now : TimePacket) (s
       → (marks : ℕ) → AreMarked v file n after result marks → MovesCounts f (size_calls v file marks sizing) s u
   longer_counts after result f s t u longer one calls marks are =
       let most : max size (length file.contents) ≡ size = omega arith in
-      subst (λ z. MovesCounts f (size_calls v file marks (record { number = n; size = z; now = now })) s u) most (sized_calls before mid n m size now same number after result f s t u v file on is longer one calls marks are)
+      subst (λ z. MovesCounts f (size_calls v file marks (record { number = n; size = z; now = now })) s u) most
+      (sized_calls before mid n m size now same number after result f s t u v file on is longer one calls marks are)

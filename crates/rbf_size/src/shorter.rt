@@ -1,12 +1,10 @@
-ghost use Rattle.std.specs.Prelude.{◌≡◌, ℕ, List, Option, ◌+◌, ◌<◌, length, OnOk, OnErr, IsSome};
-ghost use Rattle.os9_outer.specs.Drive.{sector_count};
-ghost use Rattle.rbf_model.specs.Fields.{segments_field};
-ghost use Rattle.rbf_model.specs.Segments.{sectors_of};
+ghost use Rattle.std.specs.Prelude.{◌≡◌, ◌+◌, ◌<◌, OnOk, OnErr, IsSome};
 ghost use Rattle.rbf_access.specs.Cached.{IsCacheOf};
 ghost use Rattle.rbf_access.specs.Drive.{Counts};
 ghost use Rattle.rbf_access.specs.Faults.{file_fault};
-ghost use Rattle.rbf_access.specs.Mounted.{IsMounted, IsSound, kept};
+ghost use Rattle.rbf_access.specs.Mounted.{IsMounted, kept};
 ghost use Rattle.rbf_write.specs.Files.{HasDataFile, IsLoaded, OnVolumeFile};
+ghost use Rattle.rbf_write.specs.Finished.{MayFinish};
 ghost use Rattle.rbf_write.specs.Sizes.{AnswersSize, giving_calls};
 ghost use Rattle.rbf_size.specs.Kept.{IsStored};
 
@@ -45,7 +43,7 @@ pub fn cut(
     ensures device { OnErr result (IsSome (file_fault result)) }
     ensures mounted { IsMounted volume.new (media d.new) }
     ensures counts { OnVolumeFile (media d.old) loaded.now.number (λ v file.
-        Counts ⟦<dyn BlockDriver as BlockDriver>⟧ (file_fault result) (1 + giving_calls v file
+        Counts BlockDriver-dyn (file_fault result) (1 + giving_calls v file
         (record { number = loaded.now.number; size = size; now = now })) d.old d.new) }
 {
     let segs = kept_segments(volume.ident.cluster, loaded, size);
@@ -73,20 +71,16 @@ fn store_cut(
     size: u32,
     now: TimePacket,
 ) -> Result<(), FileFault>
-    requires number { loaded.now.number < sector_count (media d.old) }
-    requires list { segments_field loaded.now.descriptor ≡ loaded.now.file.segs }
-    requires same { length (sectors_of segs.now) ≡ length (sectors_of loaded.now.file.segs)
-        → segs.now ≡ loaded.now.file.segs }
+    requires may { MayFinish (media d.old) loaded.now segs.now
+        (IsStored loaded.now segs.now size now (media d.old)) }
     requires cached { IsCacheOf (media d.old) volume.old.cache }
-    requires sound { (after : Option (List ℕ))
-        → IsStored loaded.now segs.now size now (media d.old) after → IsSound after }
     ensures stored { OnOk result
         (IsStored loaded.now segs.now size now (media d.old) (media d.new)) }
     ensures media_kept { OnErr result (media d.new ≡ media d.old) }
     ensures device { OnErr result (IsSome (file_fault result)) }
     ensures volume_kept { kept volume.new ≡ kept volume.old }
     ensures cached { IsCacheOf (media d.new) volume.new.cache }
-    ensures counts { Counts ⟦<dyn BlockDriver as BlockDriver>⟧ (file_fault result) 1 d.old d.new }
+    ensures counts { Counts BlockDriver-dyn (file_fault result) 1 d.old d.new }
 {
     let file = Fd {
         size,

@@ -39,7 +39,7 @@ pub fn set_size(
         → drive_calls d.new ≤ drive_calls d.old + 1) }
     ensures mounted { IsMounted volume.new (media d.new) }
     ensures counts { OnMarked (media d.old) (media d.new) fd result (λ v file marks.
-        Counts ⟦<dyn BlockDriver as BlockDriver>⟧ (file_fault result) (size_calls v file marks
+        Counts BlockDriver-dyn (file_fault result) (size_calls v file marks
         (record { number = fd; size = size; now = now })) d.old d.new) }
 {
     let loaded = load_file(volume, d, fd)?;

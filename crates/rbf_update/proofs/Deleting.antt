@@ -125,7 +125,8 @@ module _ (media : Option (List ℕ)) (dir : ℕ) (has : HasFile media dir) (fd :
           arrives_on media dir n user execute name has
           (found_walked media dir has fd known user execute name by_fd by_fields has.content has.on now same answer searched open_to place n found)
 
-      found_end : (v : DiskVolume) (file : DiskFile) → Represents media v → v.files dir ≡ Some file → deletion_end v.files file name user execute ≡ (if may_delete (v.files n) user then arrives n else not_allowed)
+      found_end : (v : DiskVolume) (file : DiskFile) → Represents media v → v.files dir ≡ Some file
+          → deletion_end v.files file name user execute ≡ (if may_delete (v.files n) user then arrives n else not_allowed)
       found_end v file on is =
           cond-true (may_change file user execute) (deletion_of v.files user (look_up file.contents name)) not_allowed (sym (tested file (known v file on is)) ∙ passes)
           ∙ ap (deletion_of v.files user) (at v file on is).names
@@ -142,7 +143,8 @@ module _ (media : Option (List ℕ)) (dir : ℕ) (has : HasFile media dir) (fd :
         pub deleted_end : may ≡ true → (v : DiskVolume) (file : DiskFile) → Represents media v → v.files dir ≡ Some file → deletion_end v.files file name user execute ≡ arrives n
         deleted_end goes v file on is = found_end v file on is ∙ cond-true (may_delete (v.files n) user) (arrives n) not_allowed (sym (may_is v on) ∙ goes)
 
-        pub may_be_freed : may ≡ true → (lsn : ℕ) → slice_get (sectors_of fd.segs) (place / 8) ≡ Some lsn → IsDeletable media dir name (record { place = place; lsn = lsn; descriptor = n; file = target })
+        pub may_be_freed : may ≡ true → (lsn : ℕ) → slice_get (sectors_of fd.segs) (place / 8) ≡ Some lsn
+            → IsDeletable media dir name (record { place = place; lsn = lsn; descriptor = n; file = target })
         may_be_freed goes lsn there_is =
             let v = has.content in
             let found_here = at v has.file has.on has.is in
@@ -150,7 +152,10 @@ module _ (media : Option (List ℕ)) (dir : ℕ) (has : HasFile media dir) (fd :
             let changes = and_parts (may_search has.file user execute) (file_permits has.file user 2) (sym (tested has.file fields) ∙ passes) in
             let directory = (and_parts (is_directory has.file) (file_permits has.file user (if execute then 4 else 1)) changes.0).0 in
             let there = file_in media n names_file v has.on in
-            let plain = not_true (is_directory names_file.file) (and_parts (not (is_directory names_file.file)) (file_permits names_file.file user 2) (sym (asked names_file.file (read v names_file.file has.on there)) ∙ goes)).0 in
+            let plain =
+            not_true (is_directory names_file.file) (and_parts (not (is_directory names_file.file))
+            (file_permits names_file.file user 2) (sym (asked names_file.file (read v names_file.file has.on there))
+            ∙ goes)).0 in
             let named : v.files (descriptor_field (directory_entry has.file.contents place)) ≡ Some names_file.file = ap v.files (sym found_here.descriptor_is) ∙ there in
             record {
               free = record {
@@ -217,7 +222,8 @@ file_still media now n same has = subst (λ m. HasFile m n) (sym same) has
 pub read_before : (media now : Option (List ℕ)) (n : ℕ) (fd : Fd) → now ≡ media → OnFile now n (λ file. IsFdOf file fd) → OnFile media n (λ file. IsFdOf file fd)
 read_before media now n fd same read = subst (λ m. OnFile m n (λ file. IsFdOf file fd)) same read
 
-pub read_here : (media now : Option (List ℕ)) (n : ℕ) (fd : Fd) (v : DiskVolume) (file : DiskFile) (fact : DiskFile → Type 0) → now ≡ media → Represents media v → v.files n ≡ Some file → IsFdOf file fd → OnFd now fd fact → fact file
+pub read_here : (media now : Option (List ℕ)) (n : ℕ) (fd : Fd) (v : DiskVolume) (file : DiskFile) (fact : DiskFile
+    → Type 0) → now ≡ media → Represents media v → v.files n ≡ Some file → IsFdOf file fd → OnFd now fd fact → fact file
 read_here media now n fd v file fact same on is known read = read v n file (record { image = on.image; is = same ∙ on.is; vol = on.vol }) is known
 
 pub same_answer : (end : WalkEnd) (e : DirError) (r : Result ℕ DirError) → r ≡ Err e → AnswersWalk end (Err e) → AnswersWalk end r
@@ -276,7 +282,8 @@ entry_on_drive media mid d name found at same =
 pub all_calls : (end : WalkEnd) (k : ℕ) → end ≡ arrives k → (f : Option ℕ) (n : ℕ) (s t u : DriveCounts) → MovesCounts None n s t → MovesCounts f 2 t u → MovesCounts f (n + calls_on end (λ i. 2)) s u
 all_calls end k is f n s t u one other = subst (λ e. MovesCounts f (n + calls_on e (λ i. 2)) s u) (sym is) (counts_then f n 2 s t u one other)
 
-pub same_calls : (A B : Type 0) (n : ℕ) (e : DirError) (r : Result A DirError) (s t : DriveCounts) → r ≡ Err e → MovesCounts (directory_fault {A = B} (Err e)) n s t → MovesCounts (directory_fault r) n s t
+pub same_calls : (A B : Type 0) (n : ℕ) (e : DirError) (r : Result A DirError) (s t : DriveCounts) → r ≡ Err e
+    → MovesCounts (directory_fault {A = B} (Err e)) n s t → MovesCounts (directory_fault r) n s t
 same_calls A B n e r s t is moved = subst (λ f. MovesCounts f n s t) (sym (ap directory_fault is ∙ same e)) moved
   where
     same : (x : DirError) → directory_fault {A = A} (Err x) ≡ directory_fault {A = B} (Err x)
@@ -288,5 +295,6 @@ same_calls A B n e r s t is moved = subst (λ f. MovesCounts f n s t) (sym (ap d
     same (File NoCluster) = refl
     same (File TooManyRuns) = refl
 
-pub fewer_calls : (A B : Type 0) (n more : ℕ) (e : DirError) (r : Result A DirError) (s t : DriveCounts) → r ≡ Err e → MovesCounts (directory_fault {A = B} (Err e)) n s t → MovesCounts (directory_fault r) (n + more) s t
+pub fewer_calls : (A B : Type 0) (n more : ℕ) (e : DirError) (r : Result A DirError) (s t : DriveCounts) → r ≡ Err e
+    → MovesCounts (directory_fault {A = B} (Err e)) n s t → MovesCounts (directory_fault r) (n + more) s t
 fewer_calls A B n more e r s t is moved = same_calls A B (n + more) e r s t is (counts_most (directory_fault {A = B} (Err e)) n (n + more) s t (omega arith) moved)

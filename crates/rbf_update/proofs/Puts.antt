@@ -103,13 +103,17 @@ module _ (media : Option (List ℕ)) (d i : ℕ) (place : IsPlace media d i) whe
       after = place.after;
       within = place.within;
       whole = whole;
-      contents = contents_of_entry (image_geometry image) (sector image) place.content place.on.vol.sound d (i / 8) lsn (i % 8) i place.dir bytes at_sector (omega arith) (omega arith) whole place.within;
+      contents =
+          contents_of_entry (image_geometry image) (sector image) place.content place.on.vol.sound d (i / 8) lsn (i % 8)
+          i place.dir bytes at_sector (omega arith) (omega arith) whole place.within;
     }
 
     abbrev pub with_bytes : Option DiskFile → ℕ → DiskVolume
     with_bytes file n = with_file (image_geometry image) (with_file_in_place place.content d (with_directory_entry place.dir i bytes)) n file
 
-    stored_as : (now : Option (List ℕ)) (file : Option DiskFile) (n : ℕ) → now ≡ with_sector media lsn (put_at (sector_at media lsn) (32 * (i % 8)) bytes) → Vol (put_sector image lsn news) (with_bytes file n)
+    stored_as : (now : Option (List ℕ)) (file : Option DiskFile) (n : ℕ)
+        → now ≡ with_sector media lsn (put_at (sector_at media lsn) (32 * (i % 8)) bytes)
+        → Vol (put_sector image lsn news) (with_bytes file n)
         → IsStored media now place.content (with_bytes file n)
     stored_as now file n is vol = record {
       on = place.on;
@@ -164,7 +168,9 @@ module _ (media now : Option (List ℕ)) (d i : ℕ) (entry : List ℕ) (may : M
         new = with_directory_entry may.place.dir i entry;
         is = may.place.is;
         written = entry_write media d i may.place entry whole time;
-        volume = ap (λ g. with_file g (with_file_in_place may.place.content d (with_directory_entry may.place.dir i entry)) (descriptor_field entry) (Some (file_at (sector may.place.on.image) (descriptor_field entry))))
+        volume =
+            ap (λ g. with_file g (with_file_in_place may.place.content d (with_directory_entry may.place.dir i entry))
+            (descriptor_field entry) (Some (file_at (sector may.place.on.image) (descriptor_field entry))))
             (sym (shape-image may.place.on.image may.place.content may.place.on.vol));
       })
 
@@ -217,7 +223,9 @@ module _ (media now : Option (List ℕ)) (d i : ℕ) (may : MayFree media d i) (
   pub free_stored : IsStored media now may.place.content without
   free_stored =
       stored_as media d i may.place (freed_entry old_entry) freed_whole now None number is_freed
-      (leave_image may.place.on.image may.place.content may.place.on.vol d may.place.dir (i / 8) (lsn media d i may.place) (news media d i may.place (freed_entry old_entry) freed_whole) i (freed_entry old_entry) number may.file
+      (leave_image may.place.on.image may.place.content may.place.on.vol d may.place.dir (i / 8)
+      (lsn media d i may.place) (news media d i may.place (freed_entry old_entry) freed_whole) i (freed_entry old_entry)
+      number may.file
       (news_whole media d i may.place (freed_entry old_entry) freed_whole)
       (record {
         puts = puts media d i may.place (freed_entry old_entry) freed_whole;
@@ -231,7 +239,10 @@ module _ (media now : Option (List ℕ)) (d i : ℕ) (may : MayFree media d i) (
   free_changes = record {
     old = may.place.dir;
     is = may.place.is;
-    volume = ap (λ g. with_file g (with_file_in_place may.place.content d (with_directory_entry may.place.dir i (freed_entry old_entry))) number None) (sym (shape-image may.place.on.image may.place.content may.place.on.vol));
+    volume =
+        ap (λ g. with_file g (with_file_in_place may.place.content d
+        (with_directory_entry may.place.dir i (freed_entry old_entry))) number None)
+        (sym (shape-image may.place.on.image may.place.content may.place.on.vol));
   }
 
 -- the sector of that entry is one of the volume's
@@ -252,7 +263,8 @@ entry_lsn dir fd known i lsn there =
     sym (get_or_from_slice_get (sectors_of fd.segs) (i / 8) lsn 0 there) ∙ ap (λ s. get_or (sectors_of s) (i / 8) 0) known.segments_are
 
 -- what is written then
-pub piece_written : (media mid now : Option (List ℕ)) (lsn at : ℕ) (read bytes piece : List ℕ) → read ≡ sector_at media lsn → mid ≡ media → bytes ≡ put_at read at piece → now ≡ with_sector mid lsn bytes
+pub piece_written : (media mid now : Option (List ℕ)) (lsn at : ℕ) (read bytes piece : List ℕ)
+    → read ≡ sector_at media lsn → mid ≡ media → bytes ≡ put_at read at piece → now ≡ with_sector mid lsn bytes
     → now ≡ with_piece media lsn at piece
 piece_written media mid now lsn at read bytes piece here same put is =
     is ∙ ap (λ m. with_sector m lsn bytes) same ∙ ap (with_sector media lsn) (put ∙ ap (λ b. put_at b at piece) here)

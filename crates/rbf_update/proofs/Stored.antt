@@ -16,7 +16,8 @@ use Rattle.rbf_access.specs.Mounted.{kept, Represents, IsMounted, IsSound}
 use Rattle.rbf_walk.proofs.Stepping.{same_content}
 use Rattle.rbf_update.specs.Becomes.{RepresentsOne, Becomes}
 
-module _ (image : List ℕ) (v : DiskVolume) (vol : Vol image v) (s : ℕ) (bytes : List ℕ) (whole : length bytes ≡ 256) (past : map_sectors (image_geometry image) < s) (below : s < (image_geometry image).total) where
+module _ (image : List ℕ) (v : DiskVolume) (vol : Vol image v) (s : ℕ) (bytes : List ℕ) (whole : length bytes ≡ 256)
+    (past : map_sectors (image_geometry image) < s) (below : s < (image_geometry image).total) where
   fits : 256 * (s + 1) ≤ length image
   fits =
       let more : 256 * (s + 1) ≤ 256 * (image_geometry image).total = mul-le-mul_left 256 (omega arith) in

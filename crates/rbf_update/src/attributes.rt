@@ -40,7 +40,7 @@ pub fn set_fd_attr(
     ensures device { OnErr result (IsSome (file_fault result)) }
     ensures mounted { IsMounted v.new (media d.new) }
     ensures volume_kept { kept v.new ≡ kept v.old }
-    ensures counts { Counts ⟦<dyn BlockDriver as BlockDriver>⟧ (file_fault result) 2 d.old d.new }
+    ensures counts { Counts BlockDriver-dyn (file_fault result) 2 d.old d.new }
 {
     let mut bytes = v.load(d, fd)?;
     put_attributes(&mut bytes, attr, now);
@@ -73,7 +73,7 @@ pub fn set_attr(
     ensures media_kept { OnErr result (media d.new ≡ media d.old) }
     ensures mounted { IsMounted v.new (media d.new) }
     ensures volume_kept { kept v.new ≡ kept v.old }
-    ensures counts { OnFile (media d.old) fd (λ file. Counts ⟦<dyn BlockDriver as BlockDriver>⟧
+    ensures counts { OnFile (media d.old) fd (λ file. Counts BlockDriver-dyn
         (directory_fault result) (attribute_calls file user) d.old d.new) }
 {
     let mut bytes = v.load(d, fd)?;

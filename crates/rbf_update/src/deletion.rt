@@ -47,16 +47,15 @@ pub fn delete_name(
     requires mounted { IsMounted v.old (media d.old) }
     requires file { HasFile (media d.old) dir }
     ensures answer { OnVolumeFile (media d.old) dir (λ on file. AnswersWalk
-        (deletion_end on.files file name.now user execute)
-        (descriptor_found result)) }
+        (deletion_end on.files file name.now user execute) (descriptor_found result)) }
     ensures ok { OnOk result (Becomes (media d.old) (media d.new) (λ old new.
         FreesName old new dir name.now)) }
     ensures written { IfOk result (FreesOn (media d.old) (media d.new) dir name.now) }
     ensures media_kept { OnErr result (media d.new ≡ media d.old) }
     ensures mounted { IsMounted v.new (media d.new) }
     ensures volume_kept { kept v.new ≡ kept v.old }
-    ensures counts { OnVolumeFile (media d.old) dir (λ on f. Counts
-        ⟦<dyn BlockDriver as BlockDriver>⟧ (directory_fault result) (freeing_calls on f name.now user execute) d.old d.new) }
+    ensures counts { OnVolumeFile (media d.old) dir (λ on f. Counts BlockDriver-dyn
+        (directory_fault result) (freeing_calls on f name.now user execute) d.old d.new) }
 {
     let found = find_deletable(v, d, dir, name, user, execute)?;
     free_entry(v, d, &found)?;
@@ -84,13 +83,12 @@ pub fn find_deletable(
     requires mounted { IsMounted v.old (media d.old) }
     requires file { HasFile (media d.old) dir }
     ensures answer { OnVolumeFile (media d.old) dir (λ on file. AnswersWalk
-        (deletion_end on.files file name.now user execute)
-        (descriptor_found result)) }
+        (deletion_end on.files file name.now user execute) (descriptor_found result)) }
     ensures ok { IfOk result (IsDeletable (media d.old) dir name.now) }
     ensures mounted { IsMounted v.new (media d.new) }
     ensures media_kept { media d.new ≡ media d.old }
     ensures volume_kept { kept v.new ≡ kept v.old }
-    ensures counts { OnFile (media d.old) dir (λ file. Counts ⟦<dyn BlockDriver as BlockDriver>⟧
+    ensures counts { OnFile (media d.old) dir (λ file. Counts BlockDriver-dyn
         (directory_fault result) (deletion_calls file name.now user execute) d.old d.new) }
 {
     let fd = v.fd(d, dir)?;

@@ -33,7 +33,7 @@ pub fn free_entry(
     ensures device { OnErr result (IsSome (file_fault result)) }
     ensures volume_kept { kept v.new ≡ kept v.old }
     ensures cached { IsCacheOf (media d.new) v.new.cache }
-    ensures counts { Counts ⟦<dyn BlockDriver as BlockDriver>⟧ (file_fault result) 2 d.old d.new }
+    ensures counts { Counts BlockDriver-dyn (file_fault result) 2 d.old d.new }
 {
     let mut bytes = v.load(d, found.lsn)?;
     put_bytes(&mut bytes, 32 * (found.place % 8) as usize, &[0]);

@@ -31,7 +31,9 @@ in_sector whole sector place r is low =
     let there : 256 * place + 32 * r ≡ 32 * (8 * place + r) = omega arith in
     ap (λ b. take 32 (drop (32 * r) b)) is ∙ piece_of_piece whole 256 32 place r (omega arith) ∙ ap (λ n. take 32 (drop n whole)) there
 
-module _ (test : List ℕ → Bool) (whole sector : List ℕ) (place entries count : ℕ) (is : sector ≡ take 256 (drop (256 * place) whole)) (counted : count ≡ min 8 (entries - 8 * place)) (more : 8 * place < entries) where
+module _ (test : List ℕ → Bool) (whole sector : List ℕ) (place entries count : ℕ)
+    (is : sector ≡ take 256 (drop (256 * place) whole)) (counted : count ≡ min 8 (entries - 8 * place))
+    (more : 8 * place < entries) where
   passes_so : (k : ℕ) (b : Bool) → 8 * place ≤ k → k < 8 * place + 8 → test (directory_entry sector (k - 8 * place)) ≡ b → test (directory_entry whole k) ≡ b
   passes_so k b low high passes =
       let there : 8 * place + (k - 8 * place) ≡ k = omega arith in
@@ -85,7 +87,8 @@ free_more whole sector place entries count None now is counted more none same ot
         (first_more (λ entry. not (is_used entry)) whole sector place entries count is counted more (at - 8 * place) (min (8 * (place + 1)) entries) (omega arith) none h.1)
 
 -- the sectors before a place have been searched
-pub record IsSearchedTo (name whole : List ℕ) (entries place : ℕ) (free : Option ℕ) (media media_now : Option (List ℕ)) (volume volume_now : KeptVolume) (held : List Sector) (before now : DriveCounts) : Type 0 where
+pub record IsSearchedTo (name whole : List ℕ) (entries place : ℕ) (free : Option ℕ) (media media_now : Option (List ℕ))
+    (volume volume_now : KeptVolume) (held : List Sector) (before now : DriveCounts) : Type 0 where
   pub absent : NonePasses (entry_has_name name) whole (min (8 * place) entries)
   pub free_is : IsFirstFree whole (min (8 * place) entries) free
   pub same_media : media_now ≡ media
@@ -93,7 +96,8 @@ pub record IsSearchedTo (name whole : List ℕ) (entries place : ℕ) (free : Op
   pub cached : IsCacheOf media_now held
   pub moved : MovesCounts None place before now
 
-pub none_searched : (name whole : List ℕ) (entries : ℕ) (free : Option ℕ) (media : Option (List ℕ)) (volume : KeptVolume) (held : List Sector) (before : DriveCounts) → free ≡ None → IsCacheOf media held
+pub none_searched : (name whole : List ℕ) (entries : ℕ) (free : Option ℕ) (media : Option (List ℕ)) (volume : KeptVolume) (held : List Sector) (before : DriveCounts)
+    → free ≡ None → IsCacheOf media held
     → IsSearchedTo name whole entries 0 free media media volume volume held before before
 none_searched name whole entries free media volume held before none cached = record {
   absent = λ k low. absurd (omega arith);
@@ -139,7 +143,9 @@ module _ (media : Option (List ℕ)) (fd : Fd) (v : DiskVolume) (n : ℕ) (file 
       (names ∙ ap descriptor_field (in_sector (segment_bytes (sector_at media) fd.segs) sector place i there low ∙ entry_same (8 * place + i) (omega (arith, entry_total))))
 
   free_in : (o : Option ℕ) → IsFirstFree (segment_bytes (sector_at media) fd.segs) (fd.size / 32) o → IsFirstFree file.contents (length file.contents / 32) o
-  free_in None none = none_in (λ entry. not (is_used entry)) (length file.contents / 32) (omega arith) (subst (NonePasses (λ entry. not (is_used entry)) (segment_bytes (sector_at media) fd.segs)) entry_total none)
+  free_in None none =
+      none_in (λ entry. not (is_used entry)) (length file.contents / 32) (omega arith)
+      (subst (NonePasses (λ entry. not (is_used entry)) (segment_bytes (sector_at media) fd.segs)) entry_total none)
   free_in (Some i) first = first_in (λ entry. not (is_used entry)) i first
 
   pub absent_on : (name : List ℕ) (count free_at : ℕ) (free : Option ℕ) → count ≡ fd.size / 32 → NonePasses (entry_has_name name) (segment_bytes (sector_at media) fd.segs) count

@@ -80,7 +80,9 @@ module _ (media : Option (List ℕ)) (dir : ℕ) (has : HasFile media dir) (fd :
     fields = known has.content has.file has.on has.is;
   }
 
-  module _ (user : ℕ) (execute : Bool) (name : List ℕ) (test : Bool) (tested : (file : DiskFile) → IsFdOf file fd → test ≡ may_search file user execute) (v : DiskVolume) (on : Represents media v) where
+  module _ (user : ℕ) (execute : Bool) (name : List ℕ) (test : Bool)
+      (tested : (file : DiskFile) → IsFdOf file fd → test ≡ may_search file user execute) (v : DiskVolume)
+      (on : Represents media v) where
     is : v.files dir ≡ Some has.file
     is = file_in media dir has v on
 
@@ -129,11 +131,15 @@ pub arrives_on : (media : Option (List ℕ)) (dir n user : ℕ) (execute : Bool)
     → step (has.content.files dir) user execute name ≡ arrives n → HasFile media n
 arrives_on media dir n user execute name has leads =
     let vol = has.on.vol in
-    let w = some_of (has.content.files n) (walk_file (image_geometry has.on.image) has.content.files vol.sound.tree user execute dir n (name ∷ []) (ap is_some has.is) (ap (λ e. go_on e (λ m. arrives m)) leads)) in
+    let w =
+    some_of (has.content.files n) (walk_file (image_geometry has.on.image) has.content.files vol.sound.tree user execute
+    dir n (name ∷ []) (ap is_some has.is) (ap (λ e. go_on e (λ m. arrives m)) leads)) in
     record { content = has.content; on = has.on; file = w.0; is = w.1 }
 
 -- a walk that has gone along the first names
-pub record IsWalkedTo (media : Option (List ℕ)) (user : ℕ) (execute : Bool) (from : ℕ) (names : List (List ℕ)) (at i : ℕ) (media_now : Option (List ℕ)) (volume volume_now : KeptVolume) (held : List Sector) (before now : DriveCounts) : Type 0 where
+pub record IsWalkedTo (media : Option (List ℕ)) (user : ℕ) (execute : Bool) (from : ℕ) (names : List (List ℕ))
+    (at i : ℕ) (media_now : Option (List ℕ)) (volume volume_now : KeptVolume) (held : List Sector)
+    (before now : DriveCounts) : Type 0 where
   pub file : HasFile media at
   pub same_media : media_now ≡ media
   pub same_volume : volume_now ≡ volume
@@ -142,7 +148,8 @@ pub record IsWalkedTo (media : Option (List ℕ)) (user : ℕ) (execute : Bool) 
   pub called : (v : DiskVolume) → Represents media v
       → (k : ℕ) × MovesCounts None k before now × (k + walk_calls v.files user execute at (drop i names) ≤ walk_calls v.files user execute from names)
 
-pub not_begun : (media : Option (List ℕ)) (user : ℕ) (execute : Bool) (from : ℕ) (names : List (List ℕ)) (volume : KeptVolume) (held : List Sector) (before : DriveCounts) → HasFile media from → IsCacheOf media held
+pub not_begun : (media : Option (List ℕ)) (user : ℕ) (execute : Bool) (from : ℕ) (names : List (List ℕ)) (volume : KeptVolume) (held : List Sector) (before : DriveCounts)
+    → HasFile media from → IsCacheOf media held
     → IsWalkedTo media user execute from names from 0 media volume volume held before before
 not_begun media user execute from names volume held before has cached = record {
   file = has;
@@ -164,7 +171,8 @@ stops_walked end next (File NoCluster) ends = ends
 stops_walked end next (File TooManyRuns) ends = ends
 
 module _ (media : Option (List ℕ)) (user : ℕ) (execute : Bool) (from : ℕ) (names : List (List ℕ)) (at i : ℕ) (mid : Option (List ℕ)) (volume half : KeptVolume) (before then_counts : DriveCounts)
-    (held : List Sector) (so_far : IsWalkedTo media user execute from names at i mid volume half held before then_counts) (name : List ℕ) (low : i < length names) (item : name ≡ get_or names i name) where
+    (held : List Sector) (so_far : IsWalkedTo media user execute from names at i mid volume half held before
+    then_counts) (name : List ℕ) (low : i < length names) (item : name ≡ get_or names i name) where
   more : drop i names ≡ name ∷ drop (i + 1) names
   more =
       let next : suc i ≡ i + 1 = omega arith in
@@ -174,7 +182,8 @@ module _ (media : Option (List ℕ)) (user : ℕ) (execute : Bool) (from : ℕ) 
     walk_is : walk v.files user execute from names ≡ go_on (step (v.files at) user execute name) (λ n. walk v.files user execute n (drop (i + 1) names))
     walk_is = so_far.rest v on ∙ ap (walk v.files user execute at) more
 
-    calls_are : walk_calls v.files user execute at (drop i names) ≡ step_calls (v.files at) user execute name + calls_on (step (v.files at) user execute name) (λ n. walk_calls v.files user execute n (drop (i + 1) names))
+    calls_are : walk_calls v.files user execute at (drop i names) ≡ step_calls (v.files at) user execute name + calls_on
+        (step (v.files at) user execute name) (λ n. walk_calls v.files user execute n (drop (i + 1) names))
     calls_are = ap (walk_calls v.files user execute at) more
 
   pub stopped_walked : (e : DirError) (r : Result ℕ DirError) → r ≡ Err e → ((v : DiskVolume) → Represents mid v → AnswersWalk (step (v.files at) user execute name) (Err e))
@@ -191,7 +200,9 @@ module _ (media : Option (List ℕ)) (user : ℕ) (execute : Bool) (from : ℕ) 
       let w = so_far.called v on in
       let enough = w.2 in
       let all = calls_are v on in
-      let here = counts_then (directory_fault {A = ℕ} (Err e)) w.0 (step_calls (v.files at) user execute name) before then_counts now w.1 (moved v (represents_still media mid v so_far.same_media on)) in
+      let here =
+      counts_then (directory_fault {A = ℕ} (Err e)) w.0 (step_calls (v.files at) user execute name) before then_counts
+      now w.1 (moved v (represents_still media mid v so_far.same_media on)) in
       subst (λ f. MovesCounts f (walk_calls v.files user execute from names) before now) (sym (ap directory_fault is))
       (counts_most (directory_fault {A = ℕ} (Err e)) (w.0 + step_calls (v.files at) user execute name) (walk_calls v.files user execute from names) before now (omega arith) here)
 

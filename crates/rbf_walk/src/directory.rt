@@ -42,7 +42,7 @@ pub fn search(
     ensures mounted { IsMounted v.new (media d.new) }
     ensures media_kept { media d.new ≡ media d.old }
     ensures volume_kept { kept v.new ≡ kept v.old }
-    ensures counts { Counts ⟦<dyn BlockDriver as BlockDriver>⟧
+    ensures counts { Counts BlockDriver-dyn
         (file_fault result) (sector_count dir.now.size) d.old d.new }
     ensures read { OnFd (media d.old) dir.now (λ file.
         drive_calls d.new ≤ drive_calls d.old + sectors_searched file.contents name.now) }

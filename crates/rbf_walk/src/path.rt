@@ -35,7 +35,7 @@ pub fn walk(
     ensures mounted { IsMounted v.new (media d.new) }
     ensures media_kept { media d.new ≡ media d.old }
     ensures volume_kept { kept v.new ≡ kept v.old }
-    ensures counts { OnVolume (media d.old) (λ on. Counts ⟦<dyn BlockDriver as BlockDriver>⟧
+    ensures counts { OnVolume (media d.old) (λ on. Counts BlockDriver-dyn
         (directory_fault result) (walk_calls on.files user execute from names.now) d.old d.new) }
 {
     let mut at = from;
@@ -62,7 +62,7 @@ fn step(
     ensures mounted { IsMounted v.new (media d.new) }
     ensures media_kept { media d.new ≡ media d.old }
     ensures volume_kept { kept v.new ≡ kept v.old }
-    ensures counts { OnVolume (media d.old) (λ on. Counts ⟦<dyn BlockDriver as BlockDriver>⟧
+    ensures counts { OnVolume (media d.old) (λ on. Counts BlockDriver-dyn
         (directory_fault result) (step_calls (on.files dir) user execute name.now) d.old d.new) }
 {
     let fd = v.fd(d, dir)?;

@@ -60,7 +60,8 @@ same_end one other same = record {
 }
 
 -- the media has one file of a number
-file_of_volume : (media : Option (List ℕ)) (v w : DiskVolume) → Represents media v → Represents media w → (n : ℕ) (one other : DiskFile) → v.files n ≡ Some one → w.files n ≡ Some other → other.segments ≡ one.segments
+file_of_volume : (media : Option (List ℕ)) (v w : DiskVolume) → Represents media v → Represents media w
+    → (n : ℕ) (one other : DiskFile) → v.files n ≡ Some one → w.files n ≡ Some other → other.segments ≡ one.segments
 file_of_volume media v w first second n one other is at =
     let images : Some first.image ≡ Some second.image = sym first.is ∙ second.is in
     let image : first.image ≡ second.image = cc in
@@ -94,7 +95,9 @@ tidy_of before after image mid now n segments end was is changes map_same beside
 -- and where a fault came before the descriptor was written
 pub stop_of : (before after : Option (List ℕ)) (image mid now : List ℕ) (n : ℕ) (segments : List (ℕ × ℕ)) (end : ℕ) → before ≡ Some image → after ≡ Some now → ChangesMap image mid
     → ((s : ℕ) → s ≤ map_sectors (image_geometry image) → sector now s ≡ sector mid s) → ((s : ℕ) → has (sectors_of segments) s ≡ false → sector now s ≡ sector mid s)
-    → KeepsBytesFrom end segments image now → sector now n ≡ sector image n → ((s : ℕ) → ¬ IsMapSector (image_geometry image) s → (sector now s ≡ sector image s) ⊎ AllAreMarked now segments) → IsTidyStop before after n segments end
+    → KeepsBytesFrom end segments image now → sector now n ≡ sector image n
+    → ((s : ℕ) → ¬ IsMapSector (image_geometry image) s → (sector now s ≡ sector image s) ⊎ AllAreMarked now segments)
+    → IsTidyStop before after n segments end
 stop_of before after image mid now n segments end was is changes map_same beside behind here marks = record {
   image = image;
   now = now;
@@ -180,7 +183,8 @@ module _ (before : Option (List ℕ)) (v : DiskVolume) (on : Represents before v
   map_kept : (image now : List ℕ) → before ≡ Some image → ChangesMap image now → (taken : List ℕ) → Gains k (is_free_in v) old.segments taken
       → segment_bytes (sector now) (with_clusters k old.segments taken) ≡ segment_bytes (sector image) (with_clusters k old.segments taken)
   map_kept image now was changes taken gained =
-      same_bytes (sector now) (sector image) (sectors_of (with_clusters k old.segments taken)) (λ s h. changes.others s (λ map. let past = past_map s h in let low = map.within in absurd (omega arith)))
+      same_bytes (sector now) (sector image) (sectors_of (with_clusters k old.segments taken))
+      (λ s h. changes.others s (λ map. let past = past_map s h in let low = map.within in absurd (omega arith)))
     where
       past_map : (s : ℕ) → has (sectors_of (with_clusters k old.segments taken)) s ≡ true → map_sectors (image_geometry image) < s
       past_map s h = ⊎_elim
@@ -205,7 +209,9 @@ module _ (before : Option (List ℕ)) (v : DiskVolume) (on : Represents before v
   }
 
   -- the clusters have been taken
-  module _ (count : ℕ) (counted : count ≡ clusters_needed k old.segments end) (mid : Option (List ℕ)) (longer : List (ℕ × ℕ)) (grown : IsGrown v count before mid old.segments longer) (not_directory : is_directory old ≡ false) where
+  module _ (count : ℕ) (counted : count ≡ clusters_needed k old.segments end) (mid : Option (List ℕ))
+      (longer : List (ℕ × ℕ)) (grown : IsGrown v count before mid old.segments longer)
+      (not_directory : is_directory old ≡ false) where
     abbrev taken : List ℕ
     taken = grown.taken
 
@@ -318,10 +324,15 @@ module _ (before : Option (List ℕ)) (v : DiskVolume) (on : Represents before v
           (has_cases (sectors_of old.segments) known.more s (subst (λ xs. has xs s ≡ true) (ap sectors_of (sym grown.segments) ∙ known.sectors_are) h))
 
       stop_laid : KeptBehind → IsTidyStop before after n segments end
-      stop_laid keeps = stop_of before after grown.image grown.now laid.now n segments end grown.was laid.is grown.changes (λ s low. beside s (map_apart s low)) (λ s out. beside_segments s out) (behind_laid keeps) here (λ s not_map_sector. inr all_marked)
+      stop_laid keeps =
+          stop_of before after grown.image grown.now laid.now n segments end grown.was laid.is grown.changes
+          (λ s low. beside s (map_apart s low)) (λ s out. beside_segments s out) (behind_laid keeps) here
+          (λ s not_map_sector. inr all_marked)
 
       -- and then a fault
-      pub laid_ends : KeptBehind → (so_far : ℕ) → IsFront size laying.at laying.bytes so_far → take size bytes ≡ put_at old.contents laying.at (take so_far laying.bytes) → LayingEnds v old laying before after
+      pub laid_ends : KeptBehind → (so_far : ℕ) → IsFront size laying.at laying.bytes so_far
+          → take size bytes ≡ put_at old.contents laying.at (take so_far laying.bytes)
+          → LayingEnds v old laying before after
       laid_ends keeps so_far front contents = record {
         count = so_far;
         front = front;
@@ -415,7 +426,9 @@ module _ (before : Option (List ℕ)) (v : DiskVolume) (on : Represents before v
           ∙ sym (grown.segments ∙ ap (with_clusters k old.segments) none_taken)
 
       -- the descriptor is written
-      module _ (loaded : Loaded) (says : IsFdOf old loaded.file) (descriptor : loaded.descriptor ≡ sector_at before n) (new : List ℕ) (resized : IsResized loaded longer end laying.now new) (later : size < end) (last : Option (List ℕ))
+      module _ (loaded : Loaded) (says : IsFdOf old loaded.file) (descriptor : loaded.descriptor ≡ sector_at before n)
+          (new : List ℕ) (resized : IsResized loaded longer end laying.now new) (later : size < end)
+          (last : Option (List ℕ))
           (written : last ≡ with_sector after n new) where
         abbrev now : List ℕ
         now = laid.now
@@ -475,7 +488,9 @@ module _ (before : Option (List ℕ)) (v : DiskVolume) (on : Represents before v
 
         pub list_longer : (w : DiskVolume) (f : DiskFile) → Represents last w → w.files n ≡ Some f → f.segments ≡ longer
         list_longer w f there at =
-            file_of_volume last (replaced v n (Some (laid_file old laying segments))) w (record { image = put_sector now n new; is = last_is; vol = vol_last }) there n (laid_file old laying segments) f
+            file_of_volume last (replaced v n (Some (laid_file old laying segments))) w
+            (record { image = put_sector now n new; is = last_is; vol = vol_last }) there n
+            (laid_file old laying segments) f
             (put_here v.files n (Some (laid_file old laying segments))) at
             ∙ sym grown.segments
 
@@ -489,11 +504,16 @@ module _ (before : Option (List ℕ)) (v : DiskVolume) (on : Represents before v
             (subst (λ b. KeepsListEnd b new) was resized.end)
 
         map_low : (s : ℕ) → s ≤ map_sectors (image_geometry grown.image) → s ≢ n
-        map_low s low same = let past = own_after (image_geometry grown.image) (sector grown.image) v (at_image grown.image grown.was).sound n old n is (or_left (n == n) (has (sectors_of old.segments) n) (eq-eqb n n refl)) in absurd (omega arith)
+        map_low s low same =
+            let past = own_after (image_geometry grown.image) (sector grown.image) v
+            (at_image grown.image grown.was).sound n old n is
+            (or_left (n == n) (has (sectors_of old.segments) n) (eq-eqb n n refl)) in absurd (omega arith)
 
         last_bytes : segment_bytes (sector (put_sector now n new)) segments ≡ segment_bytes (sector now) segments
         last_bytes = same_bytes (sector (put_sector now n new)) (sector now) (sectors_of segments)
-            (λ s h. beside_last s (λ same. both_ways (has (sectors_of segments) s) (subst (λ m. has (sectors_of segments) m ≡ false) (sym same) (subst (λ xs. has (sectors_of xs) n ≡ false) grown.segments apart)) h))
+            (λ s h. beside_last s (λ same. both_ways (has (sectors_of segments) s)
+            (subst (λ m. has (sectors_of segments) m ≡ false) (sym same)
+            (subst (λ xs. has (sectors_of xs) n ≡ false) grown.segments apart)) h))
 
         pub done_longer : laying_needs v old laying ≤ free_total v → IsLaidOver v old laying before last
         done_longer enough = record {

@@ -31,7 +31,8 @@ use Rattle.rbf_write.proofs.Contents.{put_none, length-extended}
 use Rattle.rbf_write.proofs.Laid.{same_volume, no_clusters}
 use Rattle.rbf_write.proofs.Whole.{nothing_changed}
 
-pub tidy_size : (before after : Option (List ℕ)) (n : ℕ) (segments : List (ℕ × ℕ)) (size : ℕ) (gone : ℕ → Bool) → ((c : ℕ) → gone c ≡ false) → IsTidyChange before after n segments size → IsTidySize before after n segments size gone
+pub tidy_size : (before after : Option (List ℕ)) (n : ℕ) (segments : List (ℕ × ℕ)) (size : ℕ) (gone : ℕ → Bool)
+    → ((c : ℕ) → gone c ≡ false) → IsTidyChange before after n segments size → IsTidySize before after n segments size gone
 tidy_size before after n segments size gone none_gone tidy = record {
   image = tidy.image;
   now = tidy.now;
@@ -81,7 +82,10 @@ module _ (before : Option (List ℕ)) (v : DiskVolume) (old : DiskFile) (on : Re
           changed = stays same;
           volume = ap (λ fs. record { ident = v.ident; files = fs; lost = v.lost; rest = v.rest }) (sym (put_same_file v.files n old is));
         };
-        tidy = tidy_size before after n (zeroed_segments old sizing old.segments) sizing.size (giving_up v old sizing) (none_given_up (omega arith)) (nothing_changed before after v on kept n (zeroed_segments old sizing old.segments) sizing.size);
+        tidy =
+            tidy_size before after n (zeroed_segments old sizing old.segments) sizing.size (giving_up v old sizing)
+            (none_given_up (omega arith)) (nothing_changed before after v on kept n
+            (zeroed_segments old sizing old.segments) sizing.size);
         same = λ stays_so. kept;
       }
 
@@ -121,7 +125,9 @@ module _ (before : Option (List ℕ)) (v : DiskVolume) (old : DiskFile) (on : Re
     file_is segments =
         let dated : (if length (laid_contents old.contents laying) == length old.contents then old.modified else minute_of sizing.now) ≡ minute_of sizing.now =
         cond-false (length (laid_contents old.contents laying) == length old.contents) old.modified (minute_of sizing.now)
-        (false_from_ne_true (length (laid_contents old.contents laying) == length old.contents) (λ h. let same = eqb-true (length (laid_contents old.contents laying)) (length old.contents) h in let size = size_is in absurd (omega arith))) in
+        (false_from_ne_true (length (laid_contents old.contents laying) == length old.contents)
+        (λ h. let same = eqb-true (length (laid_contents old.contents laying)) (length old.contents) h in let
+        size = size_is in absurd (omega arith))) in
         ap (λ m. record old { contents = laid_contents old.contents laying; segments = segments; modified = m }) dated
         ∙ ap (λ c. record old { contents = c; segments = segments; modified = minute_of sizing.now }) contents_are
 
@@ -187,7 +193,8 @@ module _ (before mid : Option (List ℕ)) (n m size : ℕ) (now : TimePacket) (s
       (subst (λ i. AnswersLaying v file (record { number = i; at = size; bytes = []; now = now }) before after result) number
       (subst (λ b. AnswersLaying v file (record { number = m; at = size; bytes = []; now = now }) b after result) same laid)))
 
-  pub sized_calls : (after : Option (List ℕ)) (result : Result (Unit {0}) FileFault) (f : Option ℕ) (s t u : DriveCounts) (v : DiskVolume) (file : DiskFile) → Represents before v → v.files n ≡ Some file → length file.contents < size
+  pub sized_calls : (after : Option (List ℕ)) (result : Result (Unit {0}) FileFault) (f : Option ℕ) (s t u : DriveCounts) (v : DiskVolume) (file : DiskFile)
+      → Represents before v → v.files n ≡ Some file → length file.contents < size
       → MovesCounts None 1 s t
       → ((w : DiskVolume) (g : DiskFile) → Represents mid w → w.files m ≡ Some g → (marks : ℕ) → AreMarked w g m after result marks → MovesCounts f (laying_calls w g marks size (size + 0)) t u)
       → (marks : ℕ) → AreMarked v file n after result marks → MovesCounts f (size_calls v file marks (record { number = n; size = max size (length file.contents); now = now })) s u
@@ -200,8 +207,12 @@ module _ (before mid : Option (List ℕ)) (n m size : ℕ) (now : TimePacket) (s
       let most : size ≡ max size (length file.contents) = omega arith in
       let sizing : Sizing = record { number = n; size = size; now = now } in
       let all : size_calls v file marks sizing ≡ 1 + laying_calls v file marks size size =
-      cond-true (nat_lt (length file.contents) size) (1 + laying_calls v file marks size size) (if nat_lt size (length file.contents) then 2 + giving_calls v file sizing else 1) (lt-ltb (length file.contents) size longer) in
-      subst (λ z. MovesCounts f (size_calls v file marks (record { number = n; size = z; now = now })) s u) most (subst (λ c. MovesCounts f c s u) (sym all) (counts_then f 1 (laying_calls v file marks size size) s t u one laid))
+      cond-true (nat_lt (length file.contents) size) (1 + laying_calls v file marks size size)
+      (if nat_lt size (length file.contents) then 2 + giving_calls v file sizing else 1)
+      (lt-ltb (length file.contents) size longer) in
+      subst (λ z. MovesCounts f (size_calls v file marks (record { number = n; size = z; now = now })) s u) most
+      (subst (λ c. MovesCounts f c s u) (sym all) (counts_then f 1 (laying_calls v file marks size size) s t u one
+      laid))
 
 -- where the size stays, one call has been made at most
 pub stays_calls : (v : DiskVolume) (file : DiskFile) (marks : ℕ) (sizing : Sizing) → 1 ≤ size_calls v file marks sizing

@@ -80,7 +80,8 @@ few_segments descriptor =
     omega (arith, length-prefix_len has_sectors pairs, prefix_len-le-length has_sectors pairs, length-map-range_with_len (segment_field descriptor) 0 48)
 
 -- the clusters of a file are not free
-pub own_not_free : (media : Option (List ℕ)) (v : DiskVolume) → (on : Represents media v) → (n : ℕ) (old : DiskFile) → v.files n ≡ Some old → (c : ℕ) → uses (cluster_size v) old.segments c ≡ true → is_free_in v c ≡ false
+pub own_not_free : (media : Option (List ℕ)) (v : DiskVolume) → (on : Represents media v) → (n : ℕ) (old : DiskFile)
+    → v.files n ≡ Some old → (c : ℕ) → uses (cluster_size v) old.segments c ≡ true → is_free_in v c ≡ false
 own_not_free media v on n old is c used =
     let g = image_geometry on.image in
     let same : shape v ≡ g = shape-image on.image v on.vol in
@@ -101,11 +102,13 @@ free_few volume image v vol agrees =
     omega arith
 
 -- where the call has failed the number is that of all sectors of the map
-pub all_marks : (v : DiskVolume) (file : DiskFile) (n : ℕ) (after : Option (List ℕ)) (r : Result (Unit {0}) FileFault) (fault : FileFault) → r ≡ Err fault → (marks : ℕ) → AreMarked v file n after r marks → marks ≡ map_sectors (shape v)
+pub all_marks : (v : DiskVolume) (file : DiskFile) (n : ℕ) (after : Option (List ℕ)) (r : Result (Unit {0}) FileFault) (fault : FileFault)
+    → r ≡ Err fault → (marks : ℕ) → AreMarked v file n after r marks → marks ≡ map_sectors (shape v)
 all_marks v file n after r fault is marks are = subst (λ x. AreMarked v file n after x marks) is are
 
 -- a fault of the drive is what the call answers
-pub answers_fault : (v : DiskVolume) (old : DiskFile) (laying : Laying) (before after : Option (List ℕ)) (fault : FileFault) → IsSome (file_fault {A = Unit {0}} (Err fault)) → LayingEnds v old laying before after
+pub answers_fault : (v : DiskVolume) (old : DiskFile) (laying : Laying) (before after : Option (List ℕ)) (fault : FileFault)
+    → IsSome (file_fault {A = Unit {0}} (Err fault)) → LayingEnds v old laying before after
     → AnswersLaying v old laying before after (Err fault)
 answers_fault v old laying before after (Device n) is ends = ends
 answers_fault v old laying before after NoCluster is ends = absurd (both_ways false refl is)
@@ -127,7 +130,9 @@ growth_fault v old laying count before after TooManyRuns needs counted on is gro
       media_kept = refused refl;
     }
 
-module _ (before : Option (List ℕ)) (loaded : Loaded) (at : ℕ) (from : List ℕ) (now : TimePacket) (is_loaded : IsLoaded before loaded.number loaded) (has : HasDataFile before loaded.number) (volume : Volume) (mounted : IsMounted volume before) where
+module _ (before : Option (List ℕ)) (loaded : Loaded) (at : ℕ) (from : List ℕ) (now : TimePacket)
+    (is_loaded : IsLoaded before loaded.number loaded) (has : HasDataFile before loaded.number) (volume : Volume)
+    (mounted : IsMounted volume before) where
   abbrev n : ℕ
   n = loaded.number
 
@@ -138,12 +143,15 @@ module _ (before : Option (List ℕ)) (loaded : Loaded) (at : ℕ) (from : List 
   end = at + length from
 
   -- more clusters are needed than any volume has
-  pub past_answers : IsPastVolumes volume.ident.cluster loaded.file.segs end → (v : DiskVolume) (old : DiskFile) → Represents before v → v.files n ≡ Some old → AnswersLaying v old laying before before (Err NoCluster)
+  pub past_answers : IsPastVolumes volume.ident.cluster loaded.file.segs end → (v : DiskVolume) (old : DiskFile)
+      → Represents before v → v.files n ≡ Some old → AnswersLaying v old laying before before (Err NoCluster)
   past_answers past v old on is =
       let agrees = agrees_on volume before v mounted on in
       let fd = is_loaded.says v old on is in
       let needs : laying_needs v old laying ≡ clusters_needed volume.ident.cluster loaded.file.segs end =
-      needs_is before v on laying old is ∙ ap (λ k. clusters_needed k old.segments end) (sym (k_is volume on.image v on.vol agrees)) ∙ ap (λ xs. clusters_needed volume.ident.cluster xs end) (sym fd.segments_are) in
+      needs_is before v on laying old is ∙ ap (λ k. clusters_needed k old.segments end)
+      (sym (k_is volume on.image v on.vol agrees)) ∙ ap (λ xs. clusters_needed volume.ident.cluster xs end)
+      (sym fd.segments_are) in
       let few = free_few volume on.image v on.vol agrees in
       record {
         few = ⊎_elim (λ low. low)
@@ -166,13 +174,18 @@ module _ (before : Option (List ℕ)) (loaded : Loaded) (at : ℕ) (from : List 
       fd = is_loaded.says v old on is
 
       pub count_on : count ≡ clusters_needed (cluster_size v) old.segments end
-      count_on = counted.count_is ∙ ap (λ k. clusters_needed k loaded.file.segs end) (k_is volume on.image v on.vol (agrees_on volume before v mounted on)) ∙ ap (λ xs. clusters_needed (cluster_size v) xs end) fd.segments_are
+      count_on =
+          counted.count_is ∙ ap (λ k. clusters_needed k loaded.file.segs end)
+          (k_is volume on.image v on.vol (agrees_on volume before v mounted on)) ∙ ap
+          (λ xs. clusters_needed (cluster_size v) xs end) fd.segments_are
 
       needs_on : count ≡ laying_needs v old laying
       needs_on = count_on ∙ sym (needs_is before v on laying old is)
 
       -- the growth was refused, or a fault has ended it
-      pub growth_answers : (after : Option (List ℕ)) (fault : FileFault) → Grows v count loaded.file.segs before after (Err fault) → (IsNone (file_fault {A = List (ℕ × ℕ)} (Err fault)) → after ≡ before)
+      pub growth_answers : (after : Option (List ℕ)) (fault : FileFault)
+          → Grows v count loaded.file.segs before after (Err fault)
+          → (IsNone (file_fault {A = List (ℕ × ℕ)} (Err fault)) → after ≡ before)
           → AnswersLaying v old laying before after (Err fault)
       growth_answers after fault grows refused =
           growth_fault v old laying count before after fault needs_on count_on on is (subst (λ xs. Grows v count xs before after (Err fault)) fd.segments_are grows) refused
@@ -185,7 +198,8 @@ module _ (before : Option (List ℕ)) (loaded : Loaded) (at : ℕ) (from : List 
       calls_are marks = ap (λ m. min m marks + 2 * sector_span (min loaded.file.size at) end + last_calls) count_on
           ∙ ap (λ s. min (clusters_needed (cluster_size v) old.segments end) marks + 2 * sector_span (min s at) end + (if nat_lt s end then 1 else 0)) fd.size_is
 
-      pub calls_growth : (marks : ℕ) → marks ≡ map_sectors (shape v) → (f : Option ℕ) (s t : DriveCounts) → MovesCounts f (min count (map_sectors (shape v))) s t → MovesCounts f (laying_calls v old marks at end) s t
+      pub calls_growth : (marks : ℕ) → marks ≡ map_sectors (shape v) → (f : Option ℕ) (s t : DriveCounts)
+          → MovesCounts f (min count (map_sectors (shape v))) s t → MovesCounts f (laying_calls v old marks at end) s t
       calls_growth marks all_marks f s t one =
           let all = calls_are marks in counts_most f (min count (map_sectors (shape v))) (laying_calls v old marks at end) s t (omega arith) one
 
@@ -200,19 +214,27 @@ module _ (before : Option (List ℕ)) (loaded : Loaded) (at : ℕ) (from : List 
           let sectors = marked.calls_made in
           counts_within None count (min count marks) s t (omega arith) one
 
-      pub calls_fill : (longer : List (ℕ × ℕ)) (marks : ℕ) → marking_sectors (shape v) (is_gained (cluster_size v) loaded.file.segs longer) ≤ marks → (f : Option ℕ) (s t u : DriveCounts) → MovesCounts None count s t
-          → MovesCounts None (growth_calls v count loaded.file.segs (Ok longer)) s t → MovesCounts f (2 * sector_span (min loaded.file.size at) end) t u → MovesCounts f (laying_calls v old marks at end) s u
+      pub calls_fill : (longer : List (ℕ × ℕ)) (marks : ℕ)
+          → marking_sectors (shape v) (is_gained (cluster_size v) loaded.file.segs longer) ≤ marks
+          → (f : Option ℕ) (s t u : DriveCounts) → MovesCounts None count s t
+          → MovesCounts None (growth_calls v count loaded.file.segs (Ok longer)) s t
+          → MovesCounts f (2 * sector_span (min loaded.file.size at) end) t u
+          → MovesCounts f (laying_calls v old marks at end) s u
       calls_fill longer marks enough f s t u one marked other =
           let all = calls_are marks in
           let span = 2 * sector_span (min loaded.file.size at) end in
           counts_most f (min count marks + span) (laying_calls v old marks at end) s u (omega arith) (counts_then f (min count marks) span s t u (grown_calls longer marks enough s t one marked) other)
 
-      pub calls_finish : (longer : List (ℕ × ℕ)) (marks : ℕ) → marking_sectors (shape v) (is_gained (cluster_size v) loaded.file.segs longer) ≤ marks → (f : Option ℕ) (s t u w : DriveCounts) → MovesCounts None count s t
+      pub calls_finish : (longer : List (ℕ × ℕ)) (marks : ℕ)
+          → marking_sectors (shape v) (is_gained (cluster_size v) loaded.file.segs longer) ≤ marks
+          → (f : Option ℕ) (s t u w : DriveCounts) → MovesCounts None count s t
           → MovesCounts None (growth_calls v count loaded.file.segs (Ok longer)) s t → MovesCounts None (2 * sector_span (min loaded.file.size at) end) t u → MovesCounts f last_calls u w
           → MovesCounts f (laying_calls v old marks at end) s w
       calls_finish longer marks enough f s t u w one marked other last =
           let span = 2 * sector_span (min loaded.file.size at) end in
-          subst (λ m. MovesCounts f m s w) (calls_are marks) (counts_then f (min count marks + span) last_calls s u w (counts_then None (min count marks) span s t u (grown_calls longer marks enough s t one marked) other) last)
+          subst (λ m. MovesCounts f m s w) (calls_are marks)
+          (counts_then f (min count marks + span) last_calls s u w
+          (counts_then None (min count marks) span s t u (grown_calls longer marks enough s t one marked) other) last)
 
     -- the clusters have been taken
     module _ (mid : Option (List ℕ)) (longer : List (ℕ × ℕ)) (grows : (v : DiskVolume) → Represents before v → Grows v count loaded.file.segs before mid (Ok longer)) where
@@ -245,7 +267,9 @@ module _ (before : Option (List ℕ)) (loaded : Loaded) (at : ℕ) (from : List 
         same_then same =
             let taken = grown.taken in
             let k = cluster_size v in
-            let positive : 1 ≤ k = subst (λ (g : Geometry). 1 ≤ g.cluster) (sym (shape-image on.image v on.vol)) (cluster_positive (image_geometry on.image).cluster on.vol.sound.shape.header.clusters) in
+            let positive : 1 ≤ k =
+            subst (λ (g : Geometry). 1 ≤ g.cluster) (sym (shape-image on.image v on.vol))
+            (cluster_positive (image_geometry on.image).cluster on.vol.sound.shape.header.clusters) in
             let more : length (sectors_of longer) ≡ length (sectors_of old.segments) + length taken * k = ap (λ xs. length (sectors_of xs)) grown.segments ∙ length-with k old.segments taken in
             let was : length (sectors_of loaded.file.segs) ≡ length (sectors_of old.segments) = ap (λ xs. length (sectors_of xs)) says.segments_are in
             let least : length taken * 1 ≤ length taken * k = mul-le-mul_left (length taken) positive in
@@ -256,7 +280,14 @@ module _ (before : Option (List ℕ)) (loaded : Loaded) (at : ℕ) (from : List 
       may_lay some =
           let f = file_of before n has has.content has.on in
           record {
-            held = record { volume = volume_then has.content has.file has.on has.is; on = on_then has.content has.file has.on has.is; number = n; file = has.file; is = known_then has.content has.file has.on has.is };
+            held =
+                record {
+                  volume = volume_then has.content has.file has.on has.is;
+                  on = on_then has.content has.file has.on has.is;
+                  number = n;
+                  file = has.file;
+                  is = known_then has.content has.file has.on has.is;
+                };
             room = room_then has.content has.file has.on has.is;
             some = some;
             fits = counted.fits;
@@ -276,7 +307,8 @@ module _ (before : Option (List ℕ)) (loaded : Loaded) (at : ℕ) (from : List 
           (subst (λ s. IsPartLaid (volume_then v old on is) n old longer mid after s at from) (says v old on is).size_is part))
 
       -- all sectors have been written
-      module _ (after : Option (List ℕ)) (fills : (u : DiskVolume) (m : ℕ) (file : DiskFile) → Represents mid u → IsDataOf u m file longer loaded.file.size → Fills u m file longer loaded.file.size at from mid after (Ok tt)) where
+      module _ (after : Option (List ℕ)) (fills : (u : DiskVolume) (m : ℕ) (file : DiskFile) → Represents mid u
+          → IsDataOf u m file longer loaded.file.size → Fills u m file longer loaded.file.size at from mid after (Ok tt)) where
         laid_then : (v : DiskVolume) (old : DiskFile) (on : Represents before v) (is : v.files n ≡ Some old)
             → IsLaid (volume_then v old on is) n old longer mid after (laid_bytes (segment_bytes (sector_at mid) longer) (length old.contents) at from)
         laid_then v old on is =
@@ -297,13 +329,17 @@ module _ (before : Option (List ℕ)) (loaded : Loaded) (at : ℕ) (from : List 
             (all_ends before v on laying old is count (count_on v old on is) mid longer (grown v old on is) (not_directory v old on is) after (laid_then v old on is)
             (subst (λ s. s < end) (says v old on is).size_is later)))
 
-        pub done_answers : (last : Option (List ℕ)) → IsFinished loaded longer end now after last → (v : DiskVolume) (old : DiskFile) → Represents before v → v.files n ≡ Some old → IsLaidOver v old laying before last
+        pub done_answers : (last : Option (List ℕ)) → IsFinished loaded longer end now after last
+            → (v : DiskVolume) (old : DiskFile) → Represents before v → v.files n ≡ Some old
+            → IsLaidOver v old laying before last
         done_answers last (stays inside same) v old on is =
             subst (λ m. IsLaidOver v old laying before m) (sym same)
             (done_inside before v on laying old is count (count_on v old on is) mid longer (grown v old on is) (not_directory v old on is) after (laid_then v old on is) (enough v old on is)
             (subst (λ s. end ≤ s) (says v old on is).size_is inside))
         done_answers last (resized {bytes = new} later is_new written) v old on is =
-            done_longer before v on laying old is count (count_on v old on is) mid longer (grown v old on is) (not_directory v old on is) after (laid_then v old on is) loaded (says v old on is) is_loaded.bytes_are new is_new
+            done_longer before v on laying old is count (count_on v old on is) mid longer (grown v old on is)
+            (not_directory v old on is) after (laid_then v old on is) loaded (says v old on is) is_loaded.bytes_are new
+            is_new
             (subst (λ s. s < end) (says v old on is).size_is later) last written (enough v old on is)
 
         -- the file that is there then has these segments
@@ -313,7 +349,9 @@ module _ (before : Option (List ℕ)) (loaded : Loaded) (at : ℕ) (from : List 
             list_inside before v on laying old is count (count_on v old on is) mid longer (grown v old on is) (not_directory v old on is) after (laid_then v old on is)
             (subst (λ s. end ≤ s) (says v old on is).size_is inside) w new (subst (λ m. Represents m w) same there) at
         list_then last (resized {bytes = bytes} later is_new written) v old on is w new there at =
-            list_longer before v on laying old is count (count_on v old on is) mid longer (grown v old on is) (not_directory v old on is) after (laid_then v old on is) loaded (says v old on is) is_loaded.bytes_are bytes is_new
+            list_longer before v on laying old is count (count_on v old on is) mid longer (grown v old on is)
+            (not_directory v old on is) after (laid_then v old on is) loaded (says v old on is) is_loaded.bytes_are
+            bytes is_new
             (subst (λ s. s < end) (says v old on is).size_is later) last written w new there at
 
         -- the file that it has made
@@ -328,17 +366,22 @@ module _ (before : Option (List ℕ)) (loaded : Loaded) (at : ℕ) (from : List 
             let m = file_made last v old (done_answers last finished v old on is) in
             let list = list_then last finished v old on is m.0 m.1 m.2 m.3 in
             let counted : marks ≡ marking_sectors (shape v) (is_gained (cluster_size v) loaded.file.segs longer) =
-            are m.0 m.1 m.2 m.3 ∙ ap (λ xs. marking_sectors (shape v) (is_gained (cluster_size v) old.segments xs)) list ∙ ap (λ xs. marking_sectors (shape v) (is_gained (cluster_size v) xs longer)) (sym (says v old on is).segments_are) in
+            are m.0 m.1 m.2 m.3 ∙ ap (λ xs. marking_sectors (shape v) (is_gained (cluster_size v) old.segments xs)) list
+            ∙ ap (λ xs. marking_sectors (shape v) (is_gained (cluster_size v) xs longer))
+            (sym (says v old on is).segments_are) in
             omega arith
 
-        pub done_mounted : (last : Option (List ℕ)) → IsFinished loaded longer end now after last → (one other : Volume) → IsMounted one after → kept other ≡ kept one → IsCacheOf last other.cache → IsMounted other last
+        pub done_mounted : (last : Option (List ℕ)) → IsFinished loaded longer end now after last → (one other : Volume)
+            → IsMounted one after → kept other ≡ kept one → IsCacheOf last other.cache → IsMounted other last
         done_mounted last (stays inside same) one other is_mounted kept_same cached = mounted_still one other after last kept_same same cached is_mounted
         done_mounted last (resized {bytes = new} later is_new written) one other is_mounted kept_same cached =
             let v = has.content in
             let old = has.file in
             let on = has.on in
             let is = has.is in
-            mounted_last before v on laying old is count (count_on v old on is) mid longer (grown v old on is) (not_directory v old on is) after (laid_then v old on is) loaded (says v old on is) is_loaded.bytes_are new is_new
+            mounted_last before v on laying old is count (count_on v old on is) mid longer (grown v old on is)
+            (not_directory v old on is) after (laid_then v old on is) loaded (says v old on is) is_loaded.bytes_are new
+            is_new
             (subst (λ s. s < end) (says v old on is).size_is later) last written one other is_mounted kept_same cached
 
         -- the media is sound at that write
@@ -351,5 +394,7 @@ module _ (before : Option (List ℕ)) (loaded : Loaded) (at : ℕ) (from : List 
             let old = has.file in
             let on = has.on in
             let is = has.is in
-            sound_last before v on laying old is count (count_on v old on is) mid longer (grown v old on is) (not_directory v old on is) after (laid_then v old on is) loaded (says v old on is) is_loaded.bytes_are new is_new
+            sound_last before v on laying old is count (count_on v old on is) mid longer (grown v old on is)
+            (not_directory v old on is) after (laid_then v old on is) loaded (says v old on is) is_loaded.bytes_are new
+            is_new
             (subst (λ s. s < end) (says v old on is).size_is later) last written

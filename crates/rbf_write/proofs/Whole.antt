@@ -38,7 +38,8 @@ same_map image = record { others = λ s out. refl; end = λ c past. and_true _ }
 
 pub nothing_changed : (before after : Option (List ℕ)) (v : DiskVolume) → Represents before v → after ≡ before → (n : ℕ) (segments : List (ℕ × ℕ)) (end : ℕ) → IsTidyChange before after n segments end
 nothing_changed before after v on same n segments end =
-    tidy_of before after on.image on.image on.image n segments end on.is (same ∙ on.is) (same_map on.image) (λ s low. refl) (λ s map differ out. refl) (λ p high. refl) (same_end (sector on.image n) (sector on.image n) refl)
+    tidy_of before after on.image on.image on.image n segments end on.is (same ∙ on.is) (same_map on.image)
+    (λ s low. refl) (λ s map differ out. refl) (λ p high. refl) (same_end (sector on.image n) (sector on.image n) refl)
 
 pub laid_is_written : (contents : List ℕ) (at : ℕ) (bytes : List ℕ) → 1 ≤ length bytes → put_at (extended contents at) at bytes ≡ written contents at bytes
 laid_is_written contents at [] some = absurd (omega arith)
@@ -58,7 +59,9 @@ module _ (before : Option (List ℕ)) (v : DiskVolume) (old : DiskFile) (on : Re
       let size : length (contents_written old write) ≡ length old.contents = ap length contents in
       let room = room_for before v on write.number old is in
       let missing : sector_count (length old.contents) - length (sectors_of old.segments) ≡ 0 = omega arith in
-      let none_needed : write_needs v old write ≡ 0 = ap (clusters_needed k old.segments) size ∙ no_clusters k (sector_count (length old.contents) - length (sectors_of old.segments)) positive missing in
+      let none_needed : write_needs v old write ≡ 0 =
+      ap (clusters_needed k old.segments) size ∙ no_clusters k
+      (sector_count (length old.contents) - length (sectors_of old.segments)) positive missing in
       let dated : old.modified ≡ (if length (contents_written old write) == length old.contents then old.modified else minute_of write.now) =
       sym (cond-true (length (contents_written old write) == length old.contents) old.modified (minute_of write.now) (eq-eqb (length (contents_written old write)) (length old.contents) size)) in
       let list : old.segments ≡ segments_field (sector on.image write.number) = ap (λ (f : DiskFile). f.segments) (on.vol.sound.shows.shown write.number old is) in
@@ -118,7 +121,8 @@ module _ (before : Option (List ℕ)) (v : DiskVolume) (old : DiskFile) (on : Re
       nothing = λ empty. let none = ap length empty in absurd (omega arith);
     }
     write_answers after (Err (Device n)) laid =
-        let chosen : IsChoice k (is_free_in v) old.segments (length (contents_written old write)) laid.taken = subst (λ c. IsChoice k (is_free_in v) old.segments (length c) laid.taken) contents_are laid.choice in
+        let chosen : IsChoice k (is_free_in v) old.segments (length (contents_written old write)) laid.taken =
+        subst (λ c. IsChoice k (is_free_in v) old.segments (length c) laid.taken) contents_are laid.choice in
         stopped (record {
           volume = laid.left;
           on = laid.on;
@@ -157,8 +161,10 @@ module _ (before mid : Option (List ℕ)) (n m at : ℕ) (from : List ℕ) (now 
       (subst (λ b. AnswersLaying v file (record { number = m; at = at; bytes = from; now = now }) b after result) same laid))
 
   pub whole_calls : (after : Option (List ℕ)) (result : Result (Unit {0}) FileFault) (f : Option ℕ) (s t u : DriveCounts) → MovesCounts None 1 s t
-      → ((v : DiskVolume) (file : DiskFile) → Represents mid v → v.files m ≡ Some file → (marks : ℕ) → AreMarked v file m after result marks → MovesCounts f (laying_calls v file marks at (at + length from)) t u)
-      → (v : DiskVolume) (file : DiskFile) → Represents before v → v.files n ≡ Some file → (marks : ℕ) → AreMarked v file n after result marks → MovesCounts f (write_calls v file marks at (length from)) s u
+      → ((v : DiskVolume) (file : DiskFile) → Represents mid v → v.files m ≡ Some file → (marks : ℕ)
+      → AreMarked v file m after result marks → MovesCounts f (laying_calls v file marks at (at + length from)) t u)
+      → (v : DiskVolume) (file : DiskFile) → Represents before v → v.files n ≡ Some file → (marks : ℕ)
+      → AreMarked v file n after result marks → MovesCounts f (write_calls v file marks at (length from)) s u
   whole_calls after result f s t u one calls v file on is marks are =
       let there : v.files m ≡ Some file = subst (λ i. v.files i ≡ Some file) (sym number) is in
       let laid = calls v file (record { image = on.image; is = same ∙ on.is; vol = on.vol }) there marks (subst (λ i. AreMarked v file i after result marks) (sym number) are) in

@@ -1,10 +1,12 @@
 -- A descriptor that is written when the bytes of its file stand.
 use Rattle.std.specs.Prelude.{◌≡◌, ℕ, ◌<◌, ◌≤◌, Option, List, length}
 use Rattle.os9_base.specs.declared.registers.TimePacket.{TimePacket}
-use Rattle.os9_outer.specs.Drive.{with_sector}
+use Rattle.os9_outer.specs.Drive.{sector_count, with_sector}
 use Rattle.rbf_model.specs.Fields.{segments_field}
+use Rattle.rbf_model.specs.Segments.{sectors_of}
 use Rattle.rbf_change.specs.Calls.{minute_of}
 use Rattle.rbf_change.specs.Tidy.{KeepsListEnd}
+use Rattle.rbf_access.specs.Mounted.{IsSound}
 use Rattle.rbf_files.specs.Changed.{HasFields}
 use Rattle.rbf_write.specs.declared.loaded.Loaded.{Loaded}
 
@@ -22,3 +24,12 @@ pub data IsFinished (loaded : Loaded) (segments : List (ℕ × ℕ)) (end : ℕ)
   stays : end ≤ loaded.file.size → after ≡ before → IsFinished loaded segments end now before after
   resized : {bytes : List ℕ} → loaded.file.size < end → IsResized loaded segments end now bytes
       → after ≡ with_sector before loaded.number bytes → IsFinished loaded segments end now before after
+
+-- a descriptor that was read may be written with these segments: it is on the drive and lists those of the file, these
+-- are the same or have another number of sectors, and the media represents a volume when it has been written so
+pub record MayFinish (media : Option (List ℕ)) (loaded : Loaded) (segments : List (ℕ × ℕ))
+    (written : Option (List ℕ) → Type 0) : Type 0 where
+  pub number : loaded.number < sector_count media
+  pub list : segments_field loaded.descriptor ≡ loaded.file.segs
+  pub same : length (sectors_of segments) ≡ length (sectors_of loaded.file.segs) → segments ≡ loaded.file.segs
+  pub sound : (after : Option (List ℕ)) → written after → IsSound after

@@ -1,13 +1,10 @@
-ghost use Rattle.std.specs.Prelude.{◌≡◌, ℕ, ◌+◌, ◌*◌, ◌^◌, ◌<◌, ◌≤◌, nat_lt, length, min, if◌then◌else◌, List, Option, OnOk, OnErr, IsSome};
-ghost use Rattle.os9_outer.specs.Drive.{sector_count};
-ghost use Rattle.rbf_model.specs.Fields.{segments_field};
-ghost use Rattle.rbf_model.specs.Segments.{sectors_of};
+ghost use Rattle.std.specs.Prelude.{◌≡◌, ◌+◌, ◌*◌, ◌^◌, ◌<◌, ◌≤◌, nat_lt, length, min, if◌then◌else◌, OnOk, OnErr, IsSome};
 ghost use Rattle.rbf_access.specs.Cached.{IsCacheOf};
 ghost use Rattle.rbf_access.specs.Drive.{Counts};
 ghost use Rattle.rbf_access.specs.Faults.{file_fault};
-ghost use Rattle.rbf_access.specs.Mounted.{IsMounted, IsSound, kept};
+ghost use Rattle.rbf_access.specs.Mounted.{IsMounted, kept};
 ghost use Rattle.rbf_write.specs.Files.{HasDataFile, IsLoaded, OnVolumeFile};
-ghost use Rattle.rbf_write.specs.Finished.{IsFinished};
+ghost use Rattle.rbf_write.specs.Finished.{IsFinished, MayFinish};
 ghost use Rattle.rbf_write.specs.Laying.{AnswersLaying};
 ghost use Rattle.rbf_write.specs.Outcomes.{IsRefusal, OnMarked, laying_calls};
 
@@ -46,7 +43,7 @@ pub fn lay_over(
     ensures calls_kept { OnErr result (IsRefusal result → drive_calls d.new ≡ drive_calls d.old) }
     ensures mounted { IsMounted volume.new (media d.new) }
     ensures counts { OnMarked (media d.old) (media d.new) loaded.now.number result (λ v file marks.
-        Counts ⟦<dyn BlockDriver as BlockDriver>⟧ (file_fault result)
+        Counts BlockDriver-dyn (file_fault result)
         (laying_calls v file marks at (at + length from.now)) d.old d.new) }
 {
     let end = at as usize + from.len();
@@ -69,13 +66,9 @@ fn finish(
     end: u32,
     now: TimePacket,
 ) -> Result<(), FileFault>
-    requires number { loaded.now.number < sector_count (media d.old) }
-    requires list { segments_field loaded.now.descriptor ≡ loaded.now.file.segs }
-    requires same { length (sectors_of longer.now) ≡ length (sectors_of loaded.now.file.segs)
-        → longer.now ≡ loaded.now.file.segs }
+    requires may { MayFinish (media d.old) loaded.now longer.now
+        (IsFinished loaded.now longer.now end now (media d.old)) }
     requires cached { IsCacheOf (media d.old) volume.old.cache }
-    requires sound { (after : Option (List ℕ))
-        → IsFinished loaded.now longer.now end now (media d.old) after → IsSound after }
     ensures done { OnOk result
         (IsFinished loaded.now longer.now end now (media d.old) (media d.new)) }
     ensures media_kept { OnErr result (media d.new ≡ media d.old) }
@@ -83,7 +76,7 @@ fn finish(
     ensures device { OnErr result (IsSome (file_fault result)) }
     ensures volume_kept { kept volume.new ≡ kept volume.old }
     ensures cached { IsCacheOf (media d.new) volume.new.cache }
-    ensures counts { Counts ⟦<dyn BlockDriver as BlockDriver>⟧ (file_fault result)
+    ensures counts { Counts BlockDriver-dyn (file_fault result)
         (if nat_lt loaded.now.file.size end then 1 else 0) d.old d.new }
 {
     if end <= loaded.file.size {

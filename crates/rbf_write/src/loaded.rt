@@ -30,7 +30,7 @@ pub fn load_file(volume: &mut Volume, d: &mut dyn BlockDriver, fd: u32) -> Resul
     ensures media_kept { media d.new ≡ media d.old }
     ensures volume_kept { kept volume.new ≡ kept volume.old }
     ensures cached { IsCacheOf (media d.new) volume.new.cache }
-    ensures counts { Counts ⟦<dyn BlockDriver as BlockDriver>⟧ (file_fault result) 1 d.old d.new }
+    ensures counts { Counts BlockDriver-dyn (file_fault result) 1 d.old d.new }
 {
     let descriptor = volume.load(d, fd)?;
     Ok(Loaded {

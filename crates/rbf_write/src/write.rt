@@ -39,7 +39,7 @@ pub fn write_at(
         → drive_calls d.new ≤ drive_calls d.old + 1) }
     ensures mounted { IsMounted volume.new (media d.new) }
     ensures counts { OnMarked (media d.old) (media d.new) fd result (λ v file marks.
-        Counts ⟦<dyn BlockDriver as BlockDriver>⟧ (file_fault result)
+        Counts BlockDriver-dyn (file_fault result)
         (write_calls v file marks at (length from.now)) d.old d.new) }
 {
     if from.is_empty() {

@@ -40,7 +40,8 @@ pub record MovesFaults (fault : Option ℕ) (before now : DriveCounts) : Type 0 
   pub kept : IfNone fault (now.faults ≡ before.faults)
   pub last_kept : IfNone fault (now.last ≡ before.last)
 
--- the same of a drive that is lent, as `Faults ⟦<dyn BlockDriver as BlockDriver>⟧ fault d.old d.new`
-abbrev pub Faults : {Table : Type 0} {Driver : Table → Type 0} → ((table : Table) → Ghosts (Driver table))
-    → Option ℕ → (table : Table) × Driver table → (table : Table) × Driver table → Type 0
+-- the same of a drive that is lent, as `Faults BlockDriver-dyn fault d.old d.new`
+abbrev pub Faults : {Table : Type 0} {Driver : Table → Type 0}
+    → ((drive : (table : Table) × Driver table) → Ghosts (Driver drive.0)) → Option ℕ
+    → (table : Table) × Driver table → (table : Table) × Driver table → Type 0
 Faults members fault before now = MovesFaults fault (counts_of members before) (counts_of members now)

@@ -49,7 +49,8 @@ pub record KeepsOthers (path : List ℕ) (image now : List ℕ) : Type 0 where
   -- of the entry's sector all bytes but the 32 of the entry
   pub filled : (bytes : List ℕ) × (length bytes ≤ 32)
       × (sector now entry.lsn ≡ put_at (sector image entry.lsn) (32 * (entry.place % 8)) bytes)
-  -- and of the directory's descriptor the bytes behind its list of segments
+  -- and of the directory's descriptor the bytes behind its list of segments, but for the pair of zeros that ends a list
+  -- that changes
   pub list : KeepsListEnd (sector image entry.directory) (sector now entry.directory)
 
 -- so it is of each tool that changes a file of a path

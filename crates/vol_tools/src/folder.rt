@@ -36,7 +36,7 @@ pub fn mkdir(
     ensures tail { OnMedia KeepsTail (media d.old) (media d.new) }
     ensures others { OnOk result (OnMedia (KeepsOthers path.now) (media d.old) (media d.new)) }
     ensures mounted { IsMounted v.new (media d.new) }
-    ensures fault { Faults ⟦<dyn BlockDriver as BlockDriver>⟧ (tool_fault result) d.old d.new }
+    ensures fault { Faults BlockDriver-dyn (tool_fault result) d.old d.new }
 {
     let Some(place) = new_place_of(alloc, path)? else {
         return Err(ToolFault::Number(E_BPNAM));

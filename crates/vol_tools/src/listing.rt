@@ -41,7 +41,7 @@ pub fn list(
         (media d.old) (media d.new) result }
     ensures mounted { IsMounted v.new (media d.new) }
     ensures media_kept { media d.new ≡ media d.old }
-    ensures fault { Faults ⟦<dyn BlockDriver as BlockDriver>⟧ (tool_fault result) d.old d.new }
+    ensures fault { Faults BlockDriver-dyn (tool_fault result) d.old d.new }
 {
     let Some(names) = directory_names(alloc, path)? else {
         return Err(ToolFault::Number(E_BPNAM));
@@ -64,7 +64,7 @@ fn entry_lines(
         (λ lines. lines.items ≡ lines_of on (drop 2 (directory_entries contents.now))) result) }
     ensures mounted { IsMounted v.new (media d.new) }
     ensures media_kept { media d.new ≡ media d.old }
-    ensures fault { Faults ⟦<dyn BlockDriver as BlockDriver>⟧ (tool_fault result) d.old d.new }
+    ensures fault { Faults BlockDriver-dyn (tool_fault result) d.old d.new }
 {
     let mut lines = Vec::new(alloc);
     for place in 2..contents.len() / 32 {
@@ -104,7 +104,7 @@ fn push_entry(
         (λ _. lines.new.items ≡ lines.old.items ++ lines_of on (entry.now ∷ [])) result) }
     ensures mounted { IsMounted v.new (media d.new) }
     ensures media_kept { media d.new ≡ media d.old }
-    ensures fault { Faults ⟦<dyn BlockDriver as BlockDriver>⟧ (tool_fault result) d.old d.new }
+    ensures fault { Faults BlockDriver-dyn (tool_fault result) d.old d.new }
 {
     if !is_used(entry) {
         return Ok(());

@@ -35,7 +35,7 @@ pub fn make_file(
     ensures others { (path : List ℕ) → IsNewPlaceOf path place.now
         → OnOk result (OnMedia (KeepsOthers path) (media d.old) (media d.new)) }
     ensures mounted { IsMounted v.new (media d.new) }
-    ensures fault { Faults ⟦<dyn BlockDriver as BlockDriver>⟧ (tool_fault result) d.old d.new }
+    ensures fault { Faults BlockDriver-dyn (tool_fault result) d.old d.new }
 {
     let dir = way_to(v, d, &place.way)?;
     let n = create(v, d, dir, &place.name, FILE_ATTRIBUTES, 0, false, now)?;
@@ -55,7 +55,7 @@ pub fn make_folder(
     ensures others { (path : List ℕ) → IsNewPlaceOf path place.now
         → OnOk result (OnMedia (KeepsOthers path) (media d.old) (media d.new)) }
     ensures mounted { IsMounted v.new (media d.new) }
-    ensures fault { Faults ⟦<dyn BlockDriver as BlockDriver>⟧ (tool_fault result) d.old d.new }
+    ensures fault { Faults BlockDriver-dyn (tool_fault result) d.old d.new }
 {
     let dir = way_to(v, d, &place.way)?;
     let n = make_dir(v, d, dir, &place.name, DIRECTORY_ATTRIBUTES, 0, now)?;

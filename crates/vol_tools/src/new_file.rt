@@ -48,7 +48,7 @@ pub fn put(
     ensures others { OnOk result
         (OnMedia (KeepsOthers file.now.path.now) (media d.old) (media d.new)) }
     ensures mounted { IsMounted v.new (media d.new) }
-    ensures fault { Faults ⟦<dyn BlockDriver as BlockDriver>⟧ (tool_fault result) d.old d.new }
+    ensures fault { Faults BlockDriver-dyn (tool_fault result) d.old d.new }
 {
     let Some(place) = new_place_of(alloc, file.path)? else {
         return Err(ToolFault::Number(E_BPNAM));
@@ -72,7 +72,7 @@ fn put_at(
     ensures others { (path : List ℕ) → IsNewPlaceOf path place.now
         → OnOk result (OnMedia (KeepsOthers path) (media d.old) (media d.new)) }
     ensures mounted { IsMounted v.new (media d.new) }
-    ensures fault { Faults ⟦<dyn BlockDriver as BlockDriver>⟧ (tool_fault result) d.old d.new }
+    ensures fault { Faults BlockDriver-dyn (tool_fault result) d.old d.new }
 {
     let n = make_file(v, d, place, now)?;
     write_at(v, d, n, 0, bytes, now)?;

@@ -45,7 +45,7 @@ pub fn open_file(
     ensures file { IfOk result (HasOpened (media d.old)) }
     ensures mounted { IsMounted v.new (media d.new) }
     ensures media_kept { media d.new ≡ media d.old }
-    ensures fault { Faults ⟦<dyn BlockDriver as BlockDriver>⟧ (tool_fault result) d.old d.new }
+    ensures fault { Faults BlockDriver-dyn (tool_fault result) d.old d.new }
 {
     let number = way_to(v, d, names)?;
     let file = v.fd(d, number)?;
@@ -84,7 +84,7 @@ pub fn read_whole(
         AnswersBytes (λ bytes. bytes.items ≡ file.contents) result) }
     ensures mounted { IsMounted v.new (media d.new) }
     ensures media_kept { media d.new ≡ media d.old }
-    ensures fault { Faults ⟦<dyn BlockDriver as BlockDriver>⟧ (tool_fault result) d.old d.new }
+    ensures fault { Faults BlockDriver-dyn (tool_fault result) d.old d.new }
 {
     let mut bytes = vec![in alloc; 0u8; opened.size as usize]?;
     v.read_at(d, opened.number, 0, &mut bytes)?;

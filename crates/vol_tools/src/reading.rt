@@ -31,7 +31,7 @@ pub fn get(
         (media d.old) (media d.new) result }
     ensures mounted { IsMounted v.new (media d.new) }
     ensures media_kept { media d.new ≡ media d.old }
-    ensures fault { Faults ⟦<dyn BlockDriver as BlockDriver>⟧ (tool_fault result) d.old d.new }
+    ensures fault { Faults BlockDriver-dyn (tool_fault result) d.old d.new }
 {
     let Some(names) = path_names(alloc, path)? else {
         return Err(ToolFault::Number(E_BPNAM));

@@ -40,7 +40,7 @@ pub fn remove(
     ensures tail { OnMedia KeepsTailUnused (media d.old) (media d.new) }
     ensures others { OnOk result (OnMedia (KeepsOthers path.now) (media d.old) (media d.new)) }
     ensures mounted { IsMounted v.new (media d.new) }
-    ensures fault { Faults ⟦<dyn BlockDriver as BlockDriver>⟧ (tool_fault result) d.old d.new }
+    ensures fault { Faults BlockDriver-dyn (tool_fault result) d.old d.new }
 {
     let Some(place) = place_of(alloc, path)? else {
         return Err(ToolFault::Number(E_BPNAM));
@@ -59,7 +59,7 @@ fn remove_at(v: &mut Volume, d: &mut dyn BlockDriver, place: &Place) -> Result<(
     ensures others { (path : List ℕ) → place_of_lem path ≡ Some (place_lem place.now)
         → OnOk result (OnMedia (KeepsOthers path) (media d.old) (media d.new)) }
     ensures mounted { IsMounted v.new (media d.new) }
-    ensures fault { Faults ⟦<dyn BlockDriver as BlockDriver>⟧ (tool_fault result) d.old d.new }
+    ensures fault { Faults BlockDriver-dyn (tool_fault result) d.old d.new }
 {
     let dir = way_to(v, d, &place.way)?;
     delete(v, d, dir, &place.name, 0, false)?;

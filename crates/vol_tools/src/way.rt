@@ -18,7 +18,7 @@ pub fn way_to(v: &mut Volume, d: &mut dyn BlockDriver, names: &[Name]) -> Result
     ensures file { IfOk result (HasFile (media d.old)) }
     ensures mounted { IsMounted v.new (media d.new) }
     ensures media_kept { media d.new ≡ media d.old }
-    ensures fault { Faults ⟦<dyn BlockDriver as BlockDriver>⟧ (tool_fault result) d.old d.new }
+    ensures fault { Faults BlockDriver-dyn (tool_fault result) d.old d.new }
 {
     let root = v.root();
     let n = walk(v, d, root, names, 0, false)?;

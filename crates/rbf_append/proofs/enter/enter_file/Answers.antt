@@ -19,4 +19,6 @@ returns-then-place-dir-clause-counts g c v file on is =
 
 pub returns-else-place-dir-clause-counts : goal.returns-else-place-dir-clause-counts
 returns-else-place-dir-clause-counts g c v file on is =
-    append_calls _ c.args.dir.now.number c.args.place c.args.entry.now c.requires.place c.args.dir.now c.requires.read (omega (arith, c.if-place-dir.false)) c.args.now (omega arith) v file on is _ _ _ (c.append_entry.ensures.counts v file on is)
+    append_calls _ c.args.dir.now.number c.args.place c.args.entry.now c.requires.place c.args.dir.now c.requires.read
+    (omega (arith, c.if-place-dir.false)) c.args.now (omega arith) v file on is _ _ _
+    (c.append_entry.ensures.counts v file on is)

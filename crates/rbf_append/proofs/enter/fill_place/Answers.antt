@@ -11,7 +11,8 @@ put_entry-requires-clause-cached g c = c.requires.mounted.cached
 
 pub put_entry-requires-clause-sound : goal.put_entry-requires-clause-sound
 put_entry-requires-clause-sound g c =
-    fill_sound _ c.args.dir.now.number c.args.place c.args.entry.now c.requires.place (omega arith) c.args.dir.now c.requires.read c.unwrap-lsn.result (sym c.lsn_of.ensures ∙ c.unwrap-lsn.ensures) _ refl
+    fill_sound _ c.args.dir.now.number c.args.place c.args.entry.now c.requires.place (omega arith) c.args.dir.now
+    c.requires.read c.unwrap-lsn.result (sym c.lsn_of.ensures ∙ c.unwrap-lsn.ensures) _ refl
 
 pub put_entry-requires-clause-on : goal.put_entry-requires-clause-on
 put_entry-requires-clause-on g c =
@@ -19,8 +20,14 @@ put_entry-requires-clause-on g c =
 
 pub returns-clause-answer : goal.returns-clause-answer
 returns-clause-answer g c now v file on is =
-    entry_answers _ c.args.dir.now.number c.args.place c.args.entry.now c.requires.place (omega arith) now c.args.dir.now c.requires.read c.unwrap-lsn.result (sym c.lsn_of.ensures ∙ c.unwrap-lsn.ensures) _ c.put_entry.result c.put_entry.ensures.written c.put_entry.ensures.media_kept c.put_entry.ensures.device v file on is
+    entry_answers _ c.args.dir.now.number c.args.place c.args.entry.now c.requires.place (omega arith) now
+    c.args.dir.now c.requires.read c.unwrap-lsn.result (sym c.lsn_of.ensures ∙ c.unwrap-lsn.ensures) _
+    c.put_entry.result c.put_entry.ensures.written c.put_entry.ensures.media_kept c.put_entry.ensures.device v file on
+    is
 
 pub returns-clause-mounted : goal.returns-clause-mounted
 returns-clause-mounted g c =
-    entry_mounted _ c.args.dir.now.number c.args.place c.args.entry.now c.requires.place (omega arith) c.args.dir.now c.requires.read c.unwrap-lsn.result (sym c.lsn_of.ensures ∙ c.unwrap-lsn.ensures) _ c.put_entry.result c.put_entry.ensures.written c.put_entry.ensures.media_kept _ _ c.put_entry.ensures.volume_kept c.put_entry.ensures.cached c.requires.mounted
+    entry_mounted _ c.args.dir.now.number c.args.place c.args.entry.now c.requires.place (omega arith) c.args.dir.now
+    c.requires.read c.unwrap-lsn.result (sym c.lsn_of.ensures ∙ c.unwrap-lsn.ensures) _ c.put_entry.result
+    c.put_entry.ensures.written c.put_entry.ensures.media_kept _ _ c.put_entry.ensures.volume_kept
+    c.put_entry.ensures.cached c.requires.mounted

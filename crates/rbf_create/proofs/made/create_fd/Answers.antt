@@ -43,7 +43,9 @@ store-requires-clause-sound g c =
     let m = c.requires.mounted in
     let grows = empty_grows m.content _ _ c.empty.result _ c.empty.ensures (c.in_ok-space.ensures.grows m.content m.on) in
     let grown = grows.grown in
-    let number = number_is _ m.content m.on c.args.attr c.args.owner c.args.now grown.taken grown.chosen c.in_ok-space.space c.unwrap-n.result grown.segments (sym c.lsn_of.ensures ∙ c.unwrap-n.ensures) in
+    let number =
+    number_is _ m.content m.on c.args.attr c.args.owner c.args.now grown.taken grown.chosen c.in_ok-space.space
+    c.unwrap-n.result grown.segments (sym c.lsn_of.ensures ∙ c.unwrap-n.ensures) in
     stored_sound _ _ _ _ (stored _ _ m.content m.on c.args.attr c.args.owner c.args.now c.in_ok-space.space grown c.unwrap-n.result number c.descriptor.result c.descriptor.ensures.whole _ refl)
 
 pub store-requires-clause-on : goal.store-requires-clause-on
@@ -62,7 +64,8 @@ returns-in_err-store-clause-makes g c v on =
     let grown = grows.grown in
     makes_fault _ _ _ v on c.args.attr c.args.owner c.args.now c.in_ok-space.space c.in_err-store.field-0.0 _ (p.1 ∙ ap Err p.2) c.in_err-store.ensures.device grows
     (unwritten _ _ v on c.args.attr c.args.owner c.args.now c.in_ok-space.space grown c.unwrap-n.result
-    (number_is _ v on c.args.attr c.args.owner c.args.now grown.taken grown.chosen c.in_ok-space.space c.unwrap-n.result grown.segments (sym c.lsn_of.ensures ∙ c.unwrap-n.ensures)) _ c.in_err-store.ensures.media_kept)
+    (number_is _ v on c.args.attr c.args.owner c.args.now grown.taken grown.chosen c.in_ok-space.space c.unwrap-n.result
+    grown.segments (sym c.lsn_of.ensures ∙ c.unwrap-n.ensures)) _ c.in_err-store.ensures.media_kept)
 
 pub returns-in_err-store-clause-mounted : goal.returns-in_err-store-clause-mounted
 returns-in_err-store-clause-mounted g c = mounted_still _ _ _ _ c.in_err-store.ensures.volume_kept c.in_err-store.ensures.media_kept c.in_err-store.ensures.cached c.in_ok-space.ensures.mounted
@@ -73,7 +76,9 @@ returns-clause-makes g c v on =
     let grown = grows.grown in
     let m = number_is _ v on c.args.attr c.args.owner c.args.now grown.taken grown.chosen c.in_ok-space.space c.unwrap-n.result grown.segments (sym c.lsn_of.ensures ∙ c.unwrap-n.ensures) in
     makes_ok _ _ _ v on c.args.attr c.args.owner c.args.now c.in_ok-space.space c.unwrap-n.result grows
-    (is_made _ _ v on c.args.attr c.args.owner c.args.now c.in_ok-space.space grown c.unwrap-n.result m c.descriptor.result c.descriptor.ensures.whole c.new_file-file.result c.descriptor.ensures.fields c.descriptor.ensures.rest
+    (is_made _ _ v on c.args.attr c.args.owner c.args.now c.in_ok-space.space grown c.unwrap-n.result m
+    c.descriptor.result c.descriptor.ensures.whole c.new_file-file.result c.descriptor.ensures.fields
+    c.descriptor.ensures.rest
     (fd_as c.new_file-file.result c.args.attr c.args.owner c.args.now c.grow.new.volume.ident.cluster _ c.unwrap-n.result c.first_segs-segs.result c.new_file-file.ensures c.first_segs-segs.ensures
     (kept_cluster c.grow.new.volume _ _ v c.in_ok-space.space grown c.in_ok-space.ensures.mounted))
     c.requires.file _ c.in_ok-store.ensures.written)
@@ -83,6 +88,9 @@ returns-clause-mounted g c =
     let m = c.requires.mounted in
     let grows = empty_grows m.content _ _ c.empty.result _ c.empty.ensures (c.in_ok-space.ensures.grows m.content m.on) in
     let grown = grows.grown in
-    let number = number_is _ m.content m.on c.args.attr c.args.owner c.args.now grown.taken grown.chosen c.in_ok-space.space c.unwrap-n.result grown.segments (sym c.lsn_of.ensures ∙ c.unwrap-n.ensures) in
-    mounted_now _ _ _ _ (stored _ _ m.content m.on c.args.attr c.args.owner c.args.now c.in_ok-space.space grown c.unwrap-n.result number c.descriptor.result c.descriptor.ensures.whole _ c.in_ok-store.ensures.written)
+    let number =
+    number_is _ m.content m.on c.args.attr c.args.owner c.args.now grown.taken grown.chosen c.in_ok-space.space
+    c.unwrap-n.result grown.segments (sym c.lsn_of.ensures ∙ c.unwrap-n.ensures) in
+    mounted_now _ _ _ _ (stored _ _ m.content m.on c.args.attr c.args.owner c.args.now c.in_ok-space.space grown
+    c.unwrap-n.result number c.descriptor.result c.descriptor.ensures.whole _ c.in_ok-store.ensures.written)
     c.grow.new.volume c.store.new.self c.in_ok-store.ensures.volume_kept c.in_ok-store.ensures.cached c.in_ok-space.ensures.mounted

@@ -16,7 +16,9 @@ pub loop-i-preserved : goal.loop-i-preserved
 loop-i-preserved c =
     let part = c.stretch.result in
     let cut = c.args.cut.now in
-    then_cleared c.args.place c.args.bytes.now c.loop-i.bytes c.clear_stretch.new.bytes (λ x. in_front c.args.k cut.old c.loop-i.i x && not (in_own c.args.k cut.kept x)) (in_rest_of c.args.k cut part) (λ x. in_front c.args.k cut.old (c.loop-i.i + 1) x && not (in_own c.args.k cut.kept x))
+    then_cleared c.args.place c.args.bytes.now c.loop-i.bytes c.clear_stretch.new.bytes
+    (λ x. in_front c.args.k cut.old c.loop-i.i x && not (in_own c.args.k cut.kept x)) (in_rest_of c.args.k cut part)
+    (λ x. in_front c.args.k cut.old (c.loop-i.i + 1) x && not (in_own c.args.k cut.kept x))
     (λ x there. front_rest c.args.k c.args.place c.loop-i.i x cut.old (in_own c.args.k cut.kept) part (omega arith) c.stretch.ensures there) c.loop-i.invariant c.clear_stretch.ensures
 
 pub returns : goal.returns

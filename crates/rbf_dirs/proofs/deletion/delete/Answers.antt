@@ -30,12 +30,16 @@ delete_at-requires-clause-found g c = found_still _ c.args.dir c.args.name.now c
 pub returns-in_err-delete_at-clause-answer : goal.returns-in_err-delete_at-clause-answer
 returns-in_err-delete_at-clause-answer g c v file on is =
     let p = err_from_is_err_and c.from_residual-in_err-delete_at.result c.from_residual-in_err-delete_at.ensures.1 in
-    let answer = answer_here _ c.args.dir c.args.name.now c.in_ok-found.found c.in_ok-found.ensures.ok _ c.in_ok-found.ensures.media_kept _ (Err c.in_err-delete_at.field-0.0) c.in_err-delete_at.ensures.answer v on in
+    let answer =
+    answer_here _ c.args.dir c.args.name.now c.in_ok-found.found c.in_ok-found.ensures.ok _
+    c.in_ok-found.ensures.media_kept _ (Err c.in_err-delete_at.field-0.0) c.in_err-delete_at.ensures.answer v on in
     fault_answer _ c.in_err-delete_at.field-0.0 _ (p.1 ∙ ap Err p.2) (only_device v c.args.dir _ c.args.name.now _ _ c.in_err-delete_at.field-0.0 answer)
 
 pub returns-in_err-delete_at-clause-fault : goal.returns-in_err-delete_at-clause-fault
 returns-in_err-delete_at-clause-fault g c u on =
-    let answer = answer_here _ c.args.dir c.args.name.now c.in_ok-found.found c.in_ok-found.ensures.ok _ c.in_ok-found.ensures.media_kept _ (Err c.in_err-delete_at.field-0.0) c.in_err-delete_at.ensures.answer u on in
+    let answer =
+    answer_here _ c.args.dir c.args.name.now c.in_ok-found.found c.in_ok-found.ensures.ok _
+    c.in_ok-found.ensures.media_kept _ (Err c.in_err-delete_at.field-0.0) c.in_err-delete_at.ensures.answer u on in
     on_err _ _ (stops_so _ _ c.args.dir c.in_ok-found.found.descriptor c.args.name.now c.args.user c.args.execute c.in_ok-found.ensures.answer u on c.in_err-delete_at.field-0.0 answer)
 
 pub returns-in_err-delete_at-clause-refused : goal.returns-in_err-delete_at-clause-refused
@@ -43,7 +47,9 @@ returns-in_err-delete_at-clause-refused g c =
     let p = err_from_is_err_and c.from_residual-in_err-delete_at.result c.from_residual-in_err-delete_at.ensures.1 in
     let at = c.in_ok-found.ensures.ok in
     let on = at.free.place.on in
-    let answer = answer_here _ c.args.dir c.args.name.now c.in_ok-found.found at _ c.in_ok-found.ensures.media_kept _ (Err c.in_err-delete_at.field-0.0) c.in_err-delete_at.ensures.answer at.free.place.content on in
+    let answer =
+    answer_here _ c.args.dir c.args.name.now c.in_ok-found.found at _ c.in_ok-found.ensures.media_kept _
+    (Err c.in_err-delete_at.field-0.0) c.in_err-delete_at.ensures.answer at.free.place.content on in
     on_err _ _ (no_refusal c.in_err-delete_at.field-0.0 _ _ (p.1 ∙ ap Err p.2) (only_device at.free.place.content c.args.dir _ c.args.name.now _ _ c.in_err-delete_at.field-0.0 answer))
 
 pub returns-in_err-delete_at-clause-counts : goal.returns-in_err-delete_at-clause-counts

@@ -24,7 +24,9 @@ returns-in_err-free_entry-clause-answer g c dir name u at on =
     rw (p.1, p.2) (stopped_answer u dir c.args.found.now.descriptor name _ _ c.in_err-free_entry.field-0.0 c.in_err-free_entry.ensures.device (inl c.in_err-free_entry.ensures.media_kept))
 
 pub returns-in_err-free_entry-clause-mounted : goal.returns-in_err-free_entry-clause-mounted
-returns-in_err-free_entry-clause-mounted g c = mounted_still _ _ _ _ c.in_err-free_entry.ensures.volume_kept c.in_err-free_entry.ensures.media_kept c.in_err-free_entry.ensures.cached c.requires.mounted
+returns-in_err-free_entry-clause-mounted g c =
+    mounted_still _ _ _ _ c.in_err-free_entry.ensures.volume_kept c.in_err-free_entry.ensures.media_kept
+    c.in_err-free_entry.ensures.cached c.requires.mounted
 
 pub returns-in_err-free_entry-clause-counts : goal.returns-in_err-free_entry-clause-counts
 returns-in_err-free_entry-clause-counts g c v file on is =

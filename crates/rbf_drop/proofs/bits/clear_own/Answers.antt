@@ -16,4 +16,6 @@ loop-i-preserved c =
 
 pub returns : goal.returns
 returns c =
-    as_cleared c.args.place c.args.bytes.now c.loop-i.bytes (in_front c.args.k c.args.own.now c.loop-i.i) (in_own c.args.k c.args.own.now) (λ x there. front_all c.args.k c.args.own.now c.loop-i.i x (omega arith)) c.loop-i.invariant
+    as_cleared c.args.place c.args.bytes.now c.loop-i.bytes (in_front c.args.k c.args.own.now c.loop-i.i)
+    (in_own c.args.k c.args.own.now) (λ x there. front_all c.args.k c.args.own.now c.loop-i.i x (omega arith))
+    c.loop-i.invariant

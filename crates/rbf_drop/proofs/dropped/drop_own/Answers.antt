@@ -27,7 +27,7 @@ returns-in_err-release_in-clause-fault g c v file gone =
     (drop_stopped _ c.args.own.now.fd c.args.own.now.segs c.requires.list v file gone c.args.volume.now.ident.cluster (kept c.args.volume.now) (kept c.loop-place.volume) refl
     (agrees_on c.args.volume.now _ v c.requires.mounted gone.on) c.loop-place.place _ _ _ c.loop-place.invariant.0 _ _
     (stopped_as c.args.volume.now.ident.cluster c.loop-place.volume.ident.cluster c.args.own.now c.loop-place.place _ _ (kept c.loop-place.volume) (kept c.release_in.new.volume) same
-    c.in_err-release_in.ensures.fault))
+    c.in_err-release_in.ensures.answer))
 
 pub returns-in_err-release_in-clause-mounted : goal.returns-in_err-release_in-clause-mounted
 returns-in_err-release_in-clause-mounted g c =
@@ -36,7 +36,7 @@ returns-in_err-release_in-clause-mounted g c =
     mounted_stopped _ c.args.own.now.fd c.args.own.now.segs c.requires.list has.content has.file has.gone c.args.volume.now.ident.cluster (kept c.args.volume.now) (kept c.loop-place.volume) refl
     (agrees_on c.args.volume.now _ has.content c.requires.mounted has.gone.on) c.loop-place.place _ _ _ c.loop-place.invariant.0 c.release_in.new.volume _
     (stopped_as c.args.volume.now.ident.cluster c.loop-place.volume.ident.cluster c.args.own.now c.loop-place.place _ _ (kept c.loop-place.volume) (kept c.release_in.new.volume) same
-    c.in_err-release_in.ensures.fault)
+    c.in_err-release_in.ensures.answer)
     c.in_err-release_in.ensures.cached
 
 pub loop-place-preserved : goal.loop-place-preserved
@@ -46,7 +46,7 @@ loop-place-preserved g c =
     let low : c.loop-place.place < map_sectors (kept c.args.volume.now).sizes = omega arith in (
       drop_more _ c.loop-place.place (kept c.args.volume.now) (kept c.loop-place.volume) _ _ _ _ c.loop-place.invariant.0 _ (kept c.release_in.new.volume) _ low
           (next_as c.args.volume.now.ident.cluster c.loop-place.volume.ident.cluster c.args.own.now c.loop-place.place _ _ (kept c.loop-place.volume) (kept c.release_in.new.volume) same
-          c.in_ok-release_in.ensures.ok)
+          c.in_ok-release_in.ensures.answer)
           c.in_ok-release_in.ensures.sizes
           (own_in_volume _ c.args.own.now.fd c.args.own.now.segs c.requires.list has.content has.file has.gone c.args.volume.now.ident.cluster (kept c.args.volume.now) (kept c.loop-place.volume) refl
           (agrees_on c.args.volume.now _ has.content c.requires.mounted has.gone.on) c.loop-place.place _ _ _ c.loop-place.invariant.0)

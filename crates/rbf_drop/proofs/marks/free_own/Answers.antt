@@ -14,9 +14,13 @@ free_stretch-requires c =
 pub loop-i-preserved : goal.loop-i-preserved
 loop-i-preserved c =
     let part = c.stretch.result in
-    then_freed c.args.map.now c.loop-i.map c.free_stretch.new.map (here (in_front c.args.k c.args.own.now c.loop-i.i) c.args.place) (in_stretch part) (here (in_front c.args.k c.args.own.now _) c.args.place)
+    then_freed c.args.map.now c.loop-i.map c.free_stretch.new.map
+    (here (in_front c.args.k c.args.own.now c.loop-i.i) c.args.place) (in_stretch part)
+    (here (in_front c.args.k c.args.own.now _) c.args.place)
     (λ x. front_here c.args.k c.args.place c.loop-i.i x c.args.own.now part (omega arith) c.stretch.ensures) c.loop-i.invariant c.free_stretch.ensures
 
 pub returns : goal.returns
 returns c =
-    as_freed c.args.map.now c.loop-i.map (here (in_front c.args.k c.args.own.now c.loop-i.i) c.args.place) (here (in_own c.args.k c.args.own.now) c.args.place) (here_all c.args.k c.args.place c.loop-i.i c.args.own.now (omega arith)) c.loop-i.invariant
+    as_freed c.args.map.now c.loop-i.map (here (in_front c.args.k c.args.own.now c.loop-i.i) c.args.place)
+    (here (in_own c.args.k c.args.own.now) c.args.place)
+    (here_all c.args.k c.args.place c.loop-i.i c.args.own.now (omega arith)) c.loop-i.invariant

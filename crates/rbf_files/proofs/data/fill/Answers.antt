@@ -68,11 +68,14 @@ returns-in_err-fill_sector-clause-mounted g c =
     let has = c.requires.may.held in
     let part = part_filled c.args.segs.now c.args.size c.args.at c.args.from.now c.requires.may.room _ _ c.loop-place.place _ _ _ _ _ _ c.loop-place.invariant _ refl
     (omega arith) (omega arith) c.in_err-fill_sector.ensures.media_kept has.volume has.number has.file has.on has.is in
-    laid_mounted _ _ _ _ has.volume has.number has.file _ _ _ c.requires.mounted has.on has.is part.laid (c.in_err-fill_sector.ensures.volume_kept ∙ c.loop-place.invariant.same) c.in_err-fill_sector.ensures.cached
+    laid_mounted _ _ _ _ has.volume has.number has.file _ _ _ c.requires.mounted has.on has.is part.laid
+    (c.in_err-fill_sector.ensures.volume_kept ∙ c.loop-place.invariant.same) c.in_err-fill_sector.ensures.cached
 
 pub returns-clause-mounted : goal.returns-clause-mounted
 returns-clause-mounted g c =
     let has = c.requires.may.held in
-    let laid = fill_done c.args.segs.now c.args.size c.args.at c.args.from.now c.requires.may.room _ _ c.loop-place.place _ _ _ _ _ _ c.loop-place.invariant has.volume has.number has.file has.on has.is
+    let laid =
+    fill_done c.args.segs.now c.args.size c.args.at c.args.from.now c.requires.may.room _ _ c.loop-place.place _ _ _ _ _
+    _ c.loop-place.invariant has.volume has.number has.file has.on has.is
     (let room = c.requires.may.room in omega arith) (omega arith) in
     laid_mounted _ _ _ _ has.volume has.number has.file _ _ _ c.requires.mounted has.on has.is laid c.loop-place.invariant.same c.loop-place.invariant.cached

@@ -10,4 +10,5 @@ returns c =
     let few = c.saturating_sub.ensures in
     let end = c.requires.end in
     let size : length (take n (zeros 256)) ≡ n = length-take-le n (zeros 256) (omega arith) in
-    cleared c.args.first c.args.end c.args.bytes.now c.put_bytes.new.bytes (take n (zeros 256)) (omega arith) c.requires.first c.requires.end (size ∙ few) (λ j low. zeros_front n j (omega arith)) c.put_bytes.ensures
+    cleared c.args.first c.args.end c.args.bytes.now c.put_bytes.new.bytes (take n (zeros 256)) (omega arith)
+    c.requires.first c.requires.end (size ∙ few) (λ j low. zeros_front n j (omega arith)) c.put_bytes.ensures

@@ -29,7 +29,15 @@ pub returns-then-not-owns-clause-answer : goal.returns-then-not-owns-clause-answ
 returns-then-not-owns-clause-answer g c v file on is =
     let r = c.read_fd.ensures in
     owner_known _ c.args.fd c.in_ok-bytes.bytes c.read_fd.result c.in_ok-bytes.ensures.bytes
-    (record { attr = r.attr; owner = r.owner; modified = r.modified; links = r.links; size = r.size; created = r.created; segs = r.segs }) c.args.user c.owns.result c.owns.ensures false c.if-not-owns.true v file on is
+    (record {
+      attr = r.attr;
+      owner = r.owner;
+      modified = r.modified;
+      links = r.links;
+      size = r.size;
+      created = r.created;
+      segs = r.segs;
+    }) c.args.user c.owns.result c.owns.ensures false c.if-not-owns.true v file on is
 
 pub returns-then-not-owns-clause-mounted : goal.returns-then-not-owns-clause-mounted
 returns-then-not-owns-clause-mounted g c = mounted_still _ _ _ _ c.in_ok-bytes.ensures.volume_kept c.in_ok-bytes.ensures.media_kept c.in_ok-bytes.ensures.cached c.requires.mounted
@@ -50,14 +58,25 @@ returns-in_err-store-clause-answer g c v file on is =
 
 pub returns-in_err-store-clause-mounted : goal.returns-in_err-store-clause-mounted
 returns-in_err-store-clause-mounted g c =
-    mounted_still _ _ _ _ (c.in_err-store.ensures.volume_kept ∙ c.in_ok-bytes.ensures.volume_kept) (c.in_err-store.ensures.media_kept ∙ c.in_ok-bytes.ensures.media_kept) c.in_err-store.ensures.cached c.requires.mounted
+    mounted_still _ _ _ _ (c.in_err-store.ensures.volume_kept ∙ c.in_ok-bytes.ensures.volume_kept)
+    (c.in_err-store.ensures.media_kept ∙ c.in_ok-bytes.ensures.media_kept) c.in_err-store.ensures.cached
+    c.requires.mounted
 
 pub returns-in_err-store-clause-counts : goal.returns-in_err-store-clause-counts
 returns-in_err-store-clause-counts g c v file on is =
     let p = err_from_is_err_and c.from_residual-in_err-store.result c.from_residual-in_err-store.ensures.1 in
     let r = c.read_fd.ensures in
     let owns = owner_known _ c.args.fd c.in_ok-bytes.bytes c.read_fd.result c.in_ok-bytes.ensures.bytes
-    (record { attr = r.attr; owner = r.owner; modified = r.modified; links = r.links; size = r.size; created = r.created; segs = r.segs }) c.args.user c.owns.result c.owns.ensures true c.if-not-owns.false v file on is in
+    (record {
+      attr = r.attr;
+      owner = r.owner;
+      modified = r.modified;
+      links = r.links;
+      size = r.size;
+      created = r.created;
+      segs = r.segs;
+    }) c.args.user c.owns.result c.owns.ensures true c.if-not-owns.false v file on
+    is in
     second_call _ file c.args.user _ _ _ owns c.in_ok-bytes.ensures.counts (fault_counts Unit _ c.in_err-store.field-0.0 _ 1 _ _ (p.1 ∙ ap Err p.2) c.in_err-store.ensures.counts)
 
 pub returns-clause-ok : goal.returns-clause-ok
@@ -71,20 +90,38 @@ pub returns-clause-answer : goal.returns-clause-answer
 returns-clause-answer g c v file on is =
     let r = c.read_fd.ensures in
     owner_known _ c.args.fd c.in_ok-bytes.bytes c.read_fd.result c.in_ok-bytes.ensures.bytes
-    (record { attr = r.attr; owner = r.owner; modified = r.modified; links = r.links; size = r.size; created = r.created; segs = r.segs }) c.args.user c.owns.result c.owns.ensures true c.if-not-owns.false v file on is
+    (record {
+      attr = r.attr;
+      owner = r.owner;
+      modified = r.modified;
+      links = r.links;
+      size = r.size;
+      created = r.created;
+      segs = r.segs;
+    }) c.args.user c.owns.result c.owns.ensures true c.if-not-owns.false v file on is
 
 pub returns-clause-mounted : goal.returns-clause-mounted
 returns-clause-mounted g c =
     let has = c.requires.file in
     let read = c.in_ok-bytes.ensures in
     let is = attributes_written _ _ _ c.args.fd c.args.attr c.args.now c.in_ok-bytes.bytes _ read.bytes read.media_kept c.put_attributes.ensures c.in_ok-store.ensures.written in
-    mounted_now _ _ has.content _ (attributes_stored _ c.args.fd c.args.attr c.args.now has _ is) _ _ (c.in_ok-store.ensures.volume_kept ∙ read.volume_kept) c.in_ok-store.ensures.cached c.requires.mounted
+    mounted_now _ _ has.content _ (attributes_stored _ c.args.fd c.args.attr c.args.now has _ is) _ _
+    (c.in_ok-store.ensures.volume_kept ∙ read.volume_kept) c.in_ok-store.ensures.cached c.requires.mounted
 
 pub returns-clause-counts : goal.returns-clause-counts
 returns-clause-counts g c v file on is =
     let r = c.read_fd.ensures in
     let owns = owner_known _ c.args.fd c.in_ok-bytes.bytes c.read_fd.result c.in_ok-bytes.ensures.bytes
-    (record { attr = r.attr; owner = r.owner; modified = r.modified; links = r.links; size = r.size; created = r.created; segs = r.segs }) c.args.user c.owns.result c.owns.ensures true c.if-not-owns.false v file on is in
+    (record {
+      attr = r.attr;
+      owner = r.owner;
+      modified = r.modified;
+      links = r.links;
+      size = r.size;
+      created = r.created;
+      segs = r.segs;
+    }) c.args.user c.owns.result c.owns.ensures true c.if-not-owns.false v file on
+    is in
     second_call _ file c.args.user _ _ _ owns c.in_ok-bytes.ensures.counts c.in_ok-store.ensures.counts
 
 pub store-requires-clause-sound : goal.store-requires-clause-sound

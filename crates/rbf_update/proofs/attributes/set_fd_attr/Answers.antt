@@ -25,7 +25,9 @@ store-requires-clause-on g c =
 
 pub returns-in_err-store-clause-mounted : goal.returns-in_err-store-clause-mounted
 returns-in_err-store-clause-mounted g c =
-    mounted_still _ _ _ _ (c.in_err-store.ensures.volume_kept ∙ c.in_ok-bytes.ensures.volume_kept) (c.in_err-store.ensures.media_kept ∙ c.in_ok-bytes.ensures.media_kept) c.in_err-store.ensures.cached c.requires.mounted
+    mounted_still _ _ _ _ (c.in_err-store.ensures.volume_kept ∙ c.in_ok-bytes.ensures.volume_kept)
+    (c.in_err-store.ensures.media_kept ∙ c.in_ok-bytes.ensures.media_kept) c.in_err-store.ensures.cached
+    c.requires.mounted
 
 pub returns-clause-ok : goal.returns-clause-ok
 returns-clause-ok g c =
@@ -39,7 +41,8 @@ returns-clause-mounted g c =
     let has = c.requires.file in
     let read = c.in_ok-bytes.ensures in
     let is = attributes_written _ _ _ c.args.fd c.args.attr c.args.now c.in_ok-bytes.bytes _ read.bytes read.media_kept c.put_attributes.ensures c.in_ok-store.ensures.written in
-    mounted_now _ _ has.content _ (attributes_stored _ c.args.fd c.args.attr c.args.now has _ is) _ _ (c.in_ok-store.ensures.volume_kept ∙ read.volume_kept) c.in_ok-store.ensures.cached c.requires.mounted
+    mounted_now _ _ has.content _ (attributes_stored _ c.args.fd c.args.attr c.args.now has _ is) _ _
+    (c.in_ok-store.ensures.volume_kept ∙ read.volume_kept) c.in_ok-store.ensures.cached c.requires.mounted
 
 pub store-requires-clause-sound : goal.store-requires-clause-sound
 store-requires-clause-sound g c =

@@ -32,28 +32,36 @@ returns-in_err-free_entry-clause-answer g c v file on is =
 pub returns-in_err-free_entry-clause-counts : goal.returns-in_err-free_entry-clause-counts
 returns-in_err-free_entry-clause-counts g c v file on is =
     let p = err_from_is_err_and c.from_residual-in_err-free_entry.result c.from_residual-in_err-free_entry.ensures.1 in
-    all_calls _ _ (c.in_ok-found.ensures.answer v file on is) _ _ _ _ _ (c.in_ok-found.ensures.counts v file on is) (fault_counts Unit Deletable c.in_err-free_entry.field-0.0 _ 2 _ _ (p.1 ∙ ap Err p.2) c.in_err-free_entry.ensures.counts)
+    all_calls _ _ (c.in_ok-found.ensures.answer v file on is) _ _ _ _ _ (c.in_ok-found.ensures.counts v file on is)
+    (fault_counts Unit Deletable c.in_err-free_entry.field-0.0 _ 2 _ _ (p.1 ∙ ap Err p.2)
+    c.in_err-free_entry.ensures.counts)
 
 pub returns-clause-answer : goal.returns-clause-answer
 returns-clause-answer g c v file on is = c.in_ok-found.ensures.answer v file on is
 
 pub returns-clause-ok : goal.returns-clause-ok
 returns-clause-ok g c =
-    freed_becomes _ _ c.args.dir c.args.name.now c.in_ok-found.found (frees_on _ _ _ c.args.dir c.args.name.now c.in_ok-found.found c.in_ok-found.ensures.ok c.in_ok-found.ensures.media_kept c.in_ok-free_entry.ensures.written)
+    freed_becomes _ _ c.args.dir c.args.name.now c.in_ok-found.found
+    (frees_on _ _ _ c.args.dir c.args.name.now c.in_ok-found.found c.in_ok-found.ensures.ok
+    c.in_ok-found.ensures.media_kept c.in_ok-free_entry.ensures.written)
 
 pub returns-clause-written : goal.returns-clause-written
 returns-clause-written g c = frees_on _ _ _ c.args.dir c.args.name.now c.in_ok-found.found c.in_ok-found.ensures.ok c.in_ok-found.ensures.media_kept c.in_ok-free_entry.ensures.written
 
 pub returns-clause-mounted : goal.returns-clause-mounted
 returns-clause-mounted g c =
-    freed_mounted _ _ c.args.dir c.args.name.now c.in_ok-found.found (frees_on _ _ _ c.args.dir c.args.name.now c.in_ok-found.found c.in_ok-found.ensures.ok c.in_ok-found.ensures.media_kept c.in_ok-free_entry.ensures.written)
+    freed_mounted _ _ c.args.dir c.args.name.now c.in_ok-found.found
+    (frees_on _ _ _ c.args.dir c.args.name.now c.in_ok-found.found c.in_ok-found.ensures.ok
+    c.in_ok-found.ensures.media_kept c.in_ok-free_entry.ensures.written)
     _ _ (c.in_ok-free_entry.ensures.volume_kept ∙ c.in_ok-found.ensures.volume_kept) c.in_ok-free_entry.ensures.cached c.requires.mounted
 
 pub returns-clause-counts : goal.returns-clause-counts
 returns-clause-counts g c v file on is = all_calls _ _ (c.in_ok-found.ensures.answer v file on is) _ _ _ _ _ (c.in_ok-found.ensures.counts v file on is) c.in_ok-free_entry.ensures.counts
 
 pub returns-in_err-free_entry-clause-mounted : goal.returns-in_err-free_entry-clause-mounted
-returns-in_err-free_entry-clause-mounted g c = mounted_still _ _ _ _ c.in_err-free_entry.ensures.volume_kept c.in_err-free_entry.ensures.media_kept c.in_err-free_entry.ensures.cached c.in_ok-found.ensures.mounted
+returns-in_err-free_entry-clause-mounted g c =
+    mounted_still _ _ _ _ c.in_err-free_entry.ensures.volume_kept c.in_err-free_entry.ensures.media_kept
+    c.in_err-free_entry.ensures.cached c.in_ok-found.ensures.mounted
 
 pub free_entry-requires-clause-sound : goal.free_entry-requires-clause-sound
 free_entry-requires-clause-sound g c =

@@ -34,7 +34,9 @@ load-requires-clause-on g c =
 
 pub returns-in_err-bytes-clause-mounted : goal.returns-in_err-bytes-clause-mounted
 returns-in_err-bytes-clause-mounted g c =
-    mounted_still _ _ _ _ (c.in_err-bytes.ensures.volume_kept ∙ c.loop-place.invariant.same_volume) (c.in_err-bytes.ensures.media_kept ∙ c.loop-place.invariant.same_media) c.in_err-bytes.ensures.cached c.requires.mounted
+    mounted_still _ _ _ _ (c.in_err-bytes.ensures.volume_kept ∙ c.loop-place.invariant.same_volume)
+    (c.in_err-bytes.ensures.media_kept ∙ c.loop-place.invariant.same_media) c.in_err-bytes.ensures.cached
+    c.requires.mounted
 
 pub returns-in_err-bytes-clause-media_kept : goal.returns-in_err-bytes-clause-media_kept
 returns-in_err-bytes-clause-media_kept g c = c.in_err-bytes.ensures.media_kept ∙ c.loop-place.invariant.same_media
@@ -57,14 +59,20 @@ returns-in-Some-clause-ok g c v n file on is known =
     let more = next_place (c.args.dir.now.size / 32) c.loop-place.place _ c.div_ceil-place-end.ensures c.loop-place-test.true in
     let on_drive = listed_on _ v on n file is c.args.dir.now known _ refl in
     let low = place_low _ c.args.dir.now v n file on is known c.loop-place.place more in
-    let there = read.bytes ∙ ap (λ m. sector_at m c.unwrap.result) before.same_media ∙ sector_at_place _ c.args.dir.now.segs on_drive c.loop-place.place c.unwrap.result (sym c.lsn_of.ensures ∙ c.unwrap.ensures) low in
+    let there =
+    read.bytes ∙ ap (λ m. sector_at m c.unwrap.result) before.same_media ∙ sector_at_place _ c.args.dir.now.segs
+    on_drive c.loop-place.place c.unwrap.result (sym c.lsn_of.ensures ∙ c.unwrap.ensures) low in
     found_on _ c.args.dir.now v n file on is known c.args.name.now _ c.loop-place.place c.in-Some.i _ there (omega (arith, c.entries_in-count.ensures))
-    (first_more (entry_has_name c.args.name.now) _ _ c.loop-place.place (c.args.dir.now.size / 32) c.entries_in-count.result there c.entries_in-count.ensures more c.in-Some.i (c.args.dir.now.size / 32) (omega arith) before.absent first)
+    (first_more (entry_has_name c.args.name.now) _ _ c.loop-place.place (c.args.dir.now.size / 32)
+    c.entries_in-count.result there c.entries_in-count.ensures more c.in-Some.i (c.args.dir.now.size / 32) (omega arith)
+    before.absent first)
     c.descriptor_in.ensures
 
 pub returns-in-Some-clause-mounted : goal.returns-in-Some-clause-mounted
 returns-in-Some-clause-mounted g c =
-    mounted_still _ _ _ _ (c.in_ok-bytes.ensures.volume_kept ∙ c.loop-place.invariant.same_volume) (c.in_ok-bytes.ensures.media_kept ∙ c.loop-place.invariant.same_media) c.in_ok-bytes.ensures.cached c.requires.mounted
+    mounted_still _ _ _ _ (c.in_ok-bytes.ensures.volume_kept ∙ c.loop-place.invariant.same_volume)
+    (c.in_ok-bytes.ensures.media_kept ∙ c.loop-place.invariant.same_media) c.in_ok-bytes.ensures.cached
+    c.requires.mounted
 
 pub returns-in-Some-clause-media_kept : goal.returns-in-Some-clause-media_kept
 returns-in-Some-clause-media_kept g c = c.in_ok-bytes.ensures.media_kept ∙ c.loop-place.invariant.same_media
@@ -85,10 +93,17 @@ loop-place-preserved g c =
     let more = next_place (c.args.dir.now.size / 32) c.loop-place.place _ c.div_ceil-place-end.ensures c.loop-place-test.true in
     let on_drive = listed_on _ has.content has.on has.number has.file has.is c.args.dir.now has.fields _ refl in
     let low = place_low _ c.args.dir.now has.content has.number has.file has.on has.is has.fields c.loop-place.place more in
-    let there = read.bytes ∙ ap (λ m. sector_at m c.unwrap.result) before.same_media ∙ sector_at_place _ c.args.dir.now.segs on_drive c.loop-place.place c.unwrap.result (sym c.lsn_of.ensures ∙ c.unwrap.ensures) low in
+    let there =
+    read.bytes ∙ ap (λ m. sector_at m c.unwrap.result) before.same_media ∙ sector_at_place _ c.args.dir.now.segs
+    on_drive c.loop-place.place c.unwrap.result (sym c.lsn_of.ensures ∙ c.unwrap.ensures) low in
     record {
-      absent = none_more (entry_has_name c.args.name.now) _ _ c.loop-place.place (c.args.dir.now.size / 32) c.entries_in-count.result there c.entries_in-count.ensures more before.absent c.in_default.ensures;
-      free_is = free_more _ _ c.loop-place.place (c.args.dir.now.size / 32) c.entries_in-count.result c.loop-place.free c.first_free-free.result there c.entries_in-count.ensures more before.free_is c.first_free-free.ensures.kept c.first_free-free.ensures.none;
+      absent =
+          none_more (entry_has_name c.args.name.now) _ _ c.loop-place.place (c.args.dir.now.size / 32)
+          c.entries_in-count.result there c.entries_in-count.ensures more before.absent c.in_default.ensures;
+      free_is =
+          free_more _ _ c.loop-place.place (c.args.dir.now.size / 32) c.entries_in-count.result c.loop-place.free
+          c.first_free-free.result there c.entries_in-count.ensures more before.free_is c.first_free-free.ensures.kept
+          c.first_free-free.ensures.none;
       same_media = read.media_kept ∙ before.same_media;
       same_volume = read.volume_kept ∙ before.same_volume;
       cached = read.cached;
@@ -131,5 +146,6 @@ returns-clause-read g c v n file on is known =
     let before = c.loop-place.invariant in
     let all = all_places (c.args.dir.now.size / 32) c.loop-place.place _ c.div_ceil-place-end.ensures c.loop-place-test.false in
     all_within c.loop-place.place _ _ _ before.moved
-    (all_are_read _ c.args.dir.now v n file on is known c.args.name.now c.loop-place.place c.unwrap_or.result (few_places c.args.dir.now.size c.loop-place.place _ c.div_ceil-place-end.ensures c.loop-place.auto.place-end)
+    (all_are_read _ c.args.dir.now v n file on is known c.args.name.now c.loop-place.place c.unwrap_or.result
+    (few_places c.args.dir.now.size c.loop-place.place _ c.div_ceil-place-end.ensures c.loop-place.auto.place-end)
     (absent_on _ c.args.dir.now v n file on is known c.args.name.now _ c.unwrap_or.result c.loop-place.free all before.absent before.free_is c.unwrap_or.ensures))

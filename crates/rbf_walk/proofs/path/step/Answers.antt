@@ -25,7 +25,9 @@ pub returns-in_err-descriptor-clause-counts : goal.returns-in_err-descriptor-cla
 returns-in_err-descriptor-clause-counts g c v on =
     let p = err_from_is_err_and c.from_residual-in_err-descriptor.result c.from_residual-in_err-descriptor.ensures.1 in
     open_calls _ c.args.dir c.requires.file c.in_ok-fd.fd c.in_ok-fd.ensures.ok c.args.user c.args.execute c.args.name.now c.is_open.result c.is_open.ensures v on
-    _ c.in_ok-fd.ensures.media_kept _ _ _ _ c.if-not-is_open.false c.in_ok-fd.ensures.counts (fault_calls Searched c.in_err-descriptor.field-0.0 _ _ _ _ (p.1 ∙ ap Err p.2) c.in_err-descriptor.ensures.counts) c.in_err-descriptor.ensures.read
+    _ c.in_ok-fd.ensures.media_kept _ _ _ _ c.if-not-is_open.false c.in_ok-fd.ensures.counts
+    (fault_calls Searched c.in_err-descriptor.field-0.0 _ _ _ _ (p.1 ∙ ap Err p.2) c.in_err-descriptor.ensures.counts)
+    c.in_err-descriptor.ensures.read
 
 pub search-requires-clause-directory : goal.search-requires-clause-directory
 search-requires-clause-directory g c = fd_on _ c.args.dir c.requires.file c.in_ok-fd.fd c.in_ok-fd.ensures.ok _ c.in_ok-fd.ensures.media_kept

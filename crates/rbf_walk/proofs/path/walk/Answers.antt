@@ -17,7 +17,8 @@ step-requires-clause-file g c = subst (λ m. HasFile m c.loop-name.at) (sym c.lo
 pub returns-in_err-at-clause-walked : goal.returns-in_err-at-clause-walked
 returns-in_err-at-clause-walked g c =
     let p = err_from_is_err_and c.from_residual.result c.from_residual.ensures.1 in
-    stopped_walked _ c.args.user c.args.execute c.args.from c.args.names.now c.loop-name.at c.loop-name.name-index _ _ _ _ _ _ c.loop-name.invariant c.name-item.result c.loop-name-test.true c.name-item.is
+    stopped_walked _ c.args.user c.args.execute c.args.from c.args.names.now c.loop-name.at c.loop-name.name-index _ _ _
+    _ _ _ c.loop-name.invariant c.name-item.result c.loop-name-test.true c.name-item.is
     c.in_err-at.field-0.0 _ (p.1 ∙ ap Err p.2) c.in_err-at.ensures.walked
 
 pub returns-in_err-at-clause-media_kept : goal.returns-in_err-at-clause-media_kept
@@ -29,7 +30,8 @@ returns-in_err-at-clause-volume_kept g c = c.in_err-at.ensures.volume_kept ∙ c
 pub returns-in_err-at-clause-counts : goal.returns-in_err-at-clause-counts
 returns-in_err-at-clause-counts g c =
     let p = err_from_is_err_and c.from_residual.result c.from_residual.ensures.1 in
-    stopped_calls _ c.args.user c.args.execute c.args.from c.args.names.now c.loop-name.at c.loop-name.name-index _ _ _ _ _ _ c.loop-name.invariant c.name-item.result c.loop-name-test.true c.name-item.is
+    stopped_calls _ c.args.user c.args.execute c.args.from c.args.names.now c.loop-name.at c.loop-name.name-index _ _ _
+    _ _ _ c.loop-name.invariant c.name-item.result c.loop-name-test.true c.name-item.is
     c.in_err-at.field-0.0 _ _ (p.1 ∙ ap Err p.2) c.in_err-at.ensures.counts
 
 pub loop-name-preserved : goal.loop-name-preserved

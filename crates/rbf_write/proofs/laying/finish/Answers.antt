@@ -28,7 +28,7 @@ store-requires-clause-sound g c =
     let w = c.with_descriptor-bytes.ensures in
     let f = w.fields in
     let dated = c.minute.ensures in
-    c.requires.sound _ (resized {bytes = c.with_descriptor-bytes.result} (omega arith)
+    c.requires.may.sound _ (resized {bytes = c.with_descriptor-bytes.result} (omega arith)
     (record {
       whole = w.whole;
       fields = record {
@@ -43,3 +43,12 @@ store-requires-clause-sound g c =
       end = w.end;
     })
     refl)
+
+pub store-requires-clause-on : goal.store-requires-clause-on
+store-requires-clause-on g c = c.requires.may.number
+
+pub with_descriptor-bytes-requires-clause-list : goal.with_descriptor-bytes-requires-clause-list
+with_descriptor-bytes-requires-clause-list g c = c.requires.may.list
+
+pub with_descriptor-bytes-requires-clause-same : goal.with_descriptor-bytes-requires-clause-same
+with_descriptor-bytes-requires-clause-same g c = c.requires.may.same

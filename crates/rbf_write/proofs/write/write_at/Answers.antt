@@ -31,24 +31,33 @@ returns-in_err-lay_over-clause-answer g c v file on is =
     let p = err_from_is_err_and c.from_residual-in_err-lay_over.result c.from_residual-in_err-lay_over.ensures.1 in
     rw (p.1, p.2)
     (whole_answers _ _ c.args.fd c.in_ok-loaded.loaded.number c.args.at c.args.from.now c.args.now c.in_ok-loaded.ensures.media_kept c.in_ok-loaded.ensures.ok.number_is
-    (some_room c.args.from.now c.is_empty.result c.if-is_empty.false c.is_empty.ensures) ((goal.BlockDriver-dyn g (c.args.d.now.0, c.lay_over.new.d)).media c.lay_over.new.d) (Err c.in_err-lay_over.field-0.0) c.in_err-lay_over.ensures.answer v file on is)
+    (some_room c.args.from.now c.is_empty.result c.if-is_empty.false c.is_empty.ensures)
+    ((goal.BlockDriver-dyn g (c.args.d.now.0, c.lay_over.new.d)).media c.lay_over.new.d)
+    (Err c.in_err-lay_over.field-0.0) c.in_err-lay_over.ensures.answer v file on is)
 
 pub returns-in_err-lay_over-clause-counts : goal.returns-in_err-lay_over-clause-counts
 returns-in_err-lay_over-clause-counts g c v file on is marks are =
     let p = err_from_is_err_and c.from_residual-in_err-lay_over.result c.from_residual-in_err-lay_over.ensures.1 in
     rw (p.1, p.2)
     (whole_calls _ _ c.args.fd c.in_ok-loaded.loaded.number c.args.at c.args.from.now c.args.now c.in_ok-loaded.ensures.media_kept c.in_ok-loaded.ensures.ok.number_is
-    (some_room c.args.from.now c.is_empty.result c.if-is_empty.false c.is_empty.ensures) ((goal.BlockDriver-dyn g (c.args.d.now.0, c.lay_over.new.d)).media c.lay_over.new.d) (Err c.in_err-lay_over.field-0.0) _ _ _ _ c.in_ok-loaded.ensures.counts c.in_err-lay_over.ensures.counts v file on is marks (all_marks v file _ _ _ _ p.1 marks are))
+    (some_room c.args.from.now c.is_empty.result c.if-is_empty.false c.is_empty.ensures)
+    ((goal.BlockDriver-dyn g (c.args.d.now.0, c.lay_over.new.d)).media c.lay_over.new.d)
+    (Err c.in_err-lay_over.field-0.0) _ _ _ _ c.in_ok-loaded.ensures.counts c.in_err-lay_over.ensures.counts v file on
+    is marks (all_marks v file _ _ _ _ p.1 marks are))
 
 pub returns-clause-answer : goal.returns-clause-answer
 returns-clause-answer g c v file on is =
     whole_answers _ _ c.args.fd c.in_ok-loaded.loaded.number c.args.at c.args.from.now c.args.now c.in_ok-loaded.ensures.media_kept c.in_ok-loaded.ensures.ok.number_is
-    (some_room c.args.from.now c.is_empty.result c.if-is_empty.false c.is_empty.ensures) ((goal.BlockDriver-dyn g (c.args.d.now.0, c.lay_over.new.d)).media c.lay_over.new.d) (Ok tt) c.in_ok-lay_over.ensures.answer v file on is
+    (some_room c.args.from.now c.is_empty.result c.if-is_empty.false c.is_empty.ensures)
+    ((goal.BlockDriver-dyn g (c.args.d.now.0, c.lay_over.new.d)).media c.lay_over.new.d) (Ok tt)
+    c.in_ok-lay_over.ensures.answer v file on is
 
 pub returns-clause-counts : goal.returns-clause-counts
 returns-clause-counts g c v file on is marks are =
     whole_calls _ _ c.args.fd c.in_ok-loaded.loaded.number c.args.at c.args.from.now c.args.now c.in_ok-loaded.ensures.media_kept c.in_ok-loaded.ensures.ok.number_is
-    (some_room c.args.from.now c.is_empty.result c.if-is_empty.false c.is_empty.ensures) ((goal.BlockDriver-dyn g (c.args.d.now.0, c.lay_over.new.d)).media c.lay_over.new.d) (Ok tt) _ _ _ _ c.in_ok-loaded.ensures.counts c.in_ok-lay_over.ensures.counts v file on is marks are
+    (some_room c.args.from.now c.is_empty.result c.if-is_empty.false c.is_empty.ensures)
+    ((goal.BlockDriver-dyn g (c.args.d.now.0, c.lay_over.new.d)).media c.lay_over.new.d) (Ok tt) _ _ _ _
+    c.in_ok-loaded.ensures.counts c.in_ok-lay_over.ensures.counts v file on is marks are
 
 pub returns-in_err-lay_over-clause-refused_calls : goal.returns-in_err-lay_over-clause-refused_calls
 returns-in_err-lay_over-clause-refused_calls g c =

@@ -1,23 +1,29 @@
+use Rattle.std.proofs.lemmas.Grind.{common_steps}
 use Rattle.std.proofs.lemmas.Result.{err_from_is_err_and}
 use Rattle.rbf_access.proofs.Reading.{mounted_still}
 use Rattle.rbf_access.proofs.ReadFile.{listed_on, room_within, count_is, bytes_are, calls_are, span_read}
-use Rattle.std.proofs.Common.{◌/◌}
+use Rattle.std.proofs.Common.{◌/◌, arith}
 use Rattle.rbf_access.proofs.Using.{all_hits, all_held}
 use Rattle.rbf_access.proofs.volume.Volume.read_at.Goals as goal
 
-pub read_bytes-requires-clause-on_drive : goal.read_bytes-requires-clause-on_drive
-read_bytes-requires-clause-on_drive g c =
+pub read_bytes-requires-clause-bytes : goal.read_bytes-requires-clause-bytes
+read_bytes-requires-clause-bytes g c =
     let has = c.requires.file in
-    listed_on _ has.content has.on c.args.fd has.file has.is c.in_ok-file.file (c.in_ok-file.ensures.ok has.content has.file has.on has.is) _ c.in_ok-file.ensures.media_kept
-
-pub read_bytes-requires-clause-within : goal.read_bytes-requires-clause-within
-read_bytes-requires-clause-within g c =
-    let has = c.requires.file in
-    room_within _ has.content has.on c.args.fd has.file has.is c.in_ok-file.file (c.in_ok-file.ensures.ok has.content has.file has.on has.is)
-    c.args.into.now c.args.at c.readable-count.result c.readable-count.ensures
+    let known = c.in_ok-file.ensures.ok has.content has.file has.on has.is in
+    record {
+      on_drive =
+          listed_on _ has.content has.on c.args.fd has.file has.is c.in_ok-file.file known _
+          c.in_ok-file.ensures.media_kept;
+      within =
+          room_within _ has.content has.on c.args.fd has.file has.is c.in_ok-file.file known c.args.into.now c.args.at
+          c.readable-count.result c.readable-count.ensures;
+      fits = grind (arith, common_steps);
+    }
 
 pub returns-in_err-read_bytes-clause-mounted : goal.returns-in_err-read_bytes-clause-mounted
-returns-in_err-read_bytes-clause-mounted g c = mounted_still _ _ _ _ c.in_err-read_bytes.ensures.volume_kept c.in_err-read_bytes.ensures.media_kept c.in_err-read_bytes.ensures.cached c.in_ok-file.ensures.mounted
+returns-in_err-read_bytes-clause-mounted g c =
+    mounted_still _ _ _ _ c.in_err-read_bytes.ensures.volume_kept c.in_err-read_bytes.ensures.media_kept
+    c.in_err-read_bytes.ensures.cached c.in_ok-file.ensures.mounted
 
 pub returns-in_err-read_bytes-clause-counts : goal.returns-in_err-read_bytes-clause-counts
 returns-in_err-read_bytes-clause-counts g c v file on is =
@@ -47,24 +53,47 @@ returns-clause-counts g c v file on is =
 pub read_bytes-requires-clause-cached : goal.read_bytes-requires-clause-cached
 read_bytes-requires-clause-cached g c = c.in_ok-file.ensures.mounted.cached
 
-pub returns-in_err-read_bytes-clause-hits : goal.returns-in_err-read_bytes-clause-hits
-returns-in_err-read_bytes-clause-hits g c v file on is are =
+pub returns-in_err-read_bytes-clause-cache : goal.returns-in_err-read_bytes-clause-cache
+returns-in_err-read_bytes-clause-cache g c v file on is =
     let known = c.in_ok-file.ensures.ok v file on is in
-    all_hits c.args.self.now.cache c.fd.new.self.cache c.args.fd c.in_ok-file.file.segs file.segments (c.args.at / 256) _ _ _ _ _ known.segments_are
-    (span_read _ v on c.args.fd file is c.in_ok-file.file known c.args.into.now c.args.at c.readable-count.result c.readable-count.ensures)
-    are.descriptor are.sectors c.in_ok-file.ensures.hit c.in_ok-file.ensures.still c.in_err-read_bytes.ensures.hits
+    let p = err_from_is_err_and c.from_residual-in_err-read_bytes.result c.from_residual-in_err-read_bytes.ensures.1 in
+    rw (p.1, p.2)
+    (record {
+      hits = λ are.
+          all_hits c.args.self.now.cache c.fd.new.self.cache c.args.fd c.in_ok-file.file.segs file.segments
+          (c.args.at / 256) _ _ _ _ _ known.segments_are
+          (span_read _ v on c.args.fd file is c.in_ok-file.file known c.args.into.now c.args.at
+          c.readable-count.result c.readable-count.ensures)
+          are.descriptor are.sectors c.in_ok-file.ensures.hit c.in_ok-file.ensures.still
+          c.in_err-read_bytes.ensures.cache.hits;
+      held = tt;
+    })
 
-pub returns-clause-hits : goal.returns-clause-hits
-returns-clause-hits g c v file on is are =
+pub returns-clause-cache : goal.returns-clause-cache
+returns-clause-cache g c v file on is =
     let known = c.in_ok-file.ensures.ok v file on is in
-    all_hits c.args.self.now.cache c.fd.new.self.cache c.args.fd c.in_ok-file.file.segs file.segments (c.args.at / 256) _ _ _ _ _ known.segments_are
-    (span_read _ v on c.args.fd file is c.in_ok-file.file known c.args.into.now c.args.at c.readable-count.result c.readable-count.ensures)
-    are.descriptor are.sectors c.in_ok-file.ensures.hit c.in_ok-file.ensures.still c.in_ok-read_bytes.ensures.hits
+    let span =
+    span_read _ v on c.args.fd file is c.in_ok-file.file known c.args.into.now c.args.at c.readable-count.result
+    c.readable-count.ensures in
+    let through = c.in_ok-read_bytes.ensures.cache in
+    record {
+      hits = λ are.
+          all_hits c.args.self.now.cache c.fd.new.self.cache c.args.fd c.in_ok-file.file.segs file.segments
+          (c.args.at / 256) _ _ _ _ _ known.segments_are span are.descriptor are.sectors c.in_ok-file.ensures.hit
+          c.in_ok-file.ensures.still through.hits;
+      held = λ few.
+          let both =
+          all_held c.args.self.now.cache c.fd.new.self.cache c.read_bytes.new.self.cache c.args.fd
+          c.in_ok-file.file.segs file.segments (c.args.at / 256) _ _ known.segments_are span c.in_ok-file.ensures.used
+          through.held few in
+          record { descriptor = both.0; sectors = both.1 };
+    }
 
-pub returns-clause-held : goal.returns-clause-held
-returns-clause-held g c v file on is few =
-    let known = c.in_ok-file.ensures.ok v file on is in
-    let both = all_held c.args.self.now.cache c.fd.new.self.cache c.read_bytes.new.self.cache c.args.fd c.in_ok-file.file.segs file.segments (c.args.at / 256) _ _ known.segments_are
-    (span_read _ v on c.args.fd file is c.in_ok-file.file known c.args.into.now c.args.at c.readable-count.result c.readable-count.ensures)
-    c.in_ok-file.ensures.used c.in_ok-read_bytes.ensures.held few in
-    record { descriptor = both.0; sectors = both.1 }
+pub returns-in_err-file-clause-cache : goal.returns-in_err-file-clause-cache
+returns-in_err-file-clause-cache g c v file on is =
+    let p = err_from_is_err_and c.from_residual.result c.from_residual.ensures.1 in
+    rw (p.1, p.2)
+    (record {
+      hits = λ are. c.in_err-file.ensures.hit are.descriptor;
+      held = tt;
+    })
