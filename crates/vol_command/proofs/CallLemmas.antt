@@ -283,28 +283,28 @@ module _ (vol : VolWords) (made : Made) (before mid after : World) (quiet : Make
     written-then end ends = absurd ends
 
   -- or the print ended it
-  prints-first : GainsPrefix mid.out out after.out → after.files ≡ mid.files → PrintsFirst before after out written
-  prints-first prefix files = record {
-    output = subst (λ stream. GainsPrefix stream out after.out) quiet.out prefix;
-    files = files ∙ quiet.files;
-  }
+  gains-out : GainsPrefix mid.out out after.out → GainsPrefix before.out out after.out
+  gains-out prefix = subst (λ stream. GainsPrefix stream out after.out) quiet.out prefix
+
+  prints-first : GainsPrefix mid.out out after.out → out ≢ [] → after.files ≡ mid.files → PrintsFirst before after out written
+  prints-first prefix some files = record { output = gains-out prefix; files = files ∙ quiet.files; some = some }
 
   begun-lines : GainsPrefix mid.out out after.out → after.files ≡ mid.files → after.devices ≡ mid.devices → LeavesMade vol.verb before after
   begun-lines prefix files same = record {
     quiet = still-quiet after same;
-    out = out-begun vol.verb made.answer.items before after (prints-first prefix files).output;
+    out = out-begun vol.verb made.answer.items before after (gains-out prefix);
   }
 
   print-ended : (end : End) → PrintEnds out end mid after → VolCall vol before after end
   print-ended CannotWrite ends = record {
-    comes = comes-then (PrintsFirst before after) (prints-first ends.prefix ends.files);
+    comes = comes-then (PrintsFirst before after) (prints-first ends.prefix ends.some ends.files);
     may = prints-lines vol.verb made.answer.items ends.some;
     devices = begun-lines ends.prefix ends.files ends.devices;
     host = (subst (λ faults. Rose faults after.faults) quiet.no_fault.0 ends.stopped.0, ends.stopped.1, ends.stopped.2);
     files = ends.files ∙ quiet.files;
   }
   print-ended NoMemory ends = record {
-    comes = of-each before.files (λ files. MakesThen files vol (PrintsFirst before after)) (λ files. VolComesTo files vol before after NoMemory) (λ files makes. inr (inl makes)) (comes-then (PrintsFirst before after) (prints-first ends.prefix ends.files));
+    comes = of-each before.files (λ files. MakesThen files vol (PrintsFirst before after)) (λ files. VolComesTo files vol before after NoMemory) (λ files makes. inr (inl makes)) (comes-then (PrintsFirst before after) (prints-first ends.prefix ends.some ends.files));
     may = tt;
     devices = begun-lines ends.prefix ends.files ends.devices;
     host = no-fault-then before mid after quiet.no_fault ends.stopped;

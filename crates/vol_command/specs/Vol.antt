@@ -1,5 +1,5 @@
 -- What `vol` does (this project's own; the tools are those of tool_rules).
-use Rattle.std.specs.Prelude.{◌≡◌, ◌⊎◌, ℕ, ⊤, Option, Some, None, List, [], ◌∷◌, slice_get, unwrap_or}
+use Rattle.std.specs.Prelude.{◌≡◌, ◌≢◌, ◌⊎◌, ℕ, ⊤, Option, Some, None, List, [], ◌∷◌, slice_get, unwrap_or}
 use Rattle.os9_outer.specs.Host.{Files, file_contents, IfObserved}
 use Rattle.os9_outer.specs.Stream.{GainsPrefix, stream_with}
 use Rattle.os9_words.specs.declared.vol_words.Verb.{Verb}
@@ -88,7 +88,7 @@ written_of Dir answer image = []
 written_of verb answer image = image ∷ []
 
 -- a tool was used on the volume of an image, and gave this answer and that of another image, which has the same LSN 0,
--- the same bits of the map that no whole cluster has, and the same sectors but for those that the tool owns
+-- the same bits of the map that no whole cluster has, and the same other sectors, as far as the tool has to keep them
 pub record IsUsed (tool : Tool) (vol : VolWords) (old answer image : List ℕ) : Type 0 where
   pub before : DiskVolume
   pub was : Vol old before
@@ -163,6 +163,7 @@ pub record PrintsAndStops (names : List (List ℕ)) (before after : World) (out 
 pub record PrintsFirst (before after : World) (out : List ℕ) (written : List (List ℕ)) : Type 0 where
   pub output : GainsPrefix before.out out after.out
   pub files : after.files ≡ before.files
+  pub some : out ≢ []
 
 -- nothing was printed or written
 pub record IsUntouched (before after : World) : Type 0 where
