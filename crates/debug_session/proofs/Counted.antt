@@ -88,6 +88,13 @@ pub fell-since : (machine : Machine) (first devices : Outside) → DevicesGain (
 fell-since machine first devices gains =
     fell-then first (loaded_devices machine first) devices (fell-loaded machine first) (fell-gained (loaded_devices machine first) devices gains)
 
+-- where the devices have the same counts
+pub fell-kept : (before after : Outside) → after.terms ≡ before.terms → drive_states after.drives ≡ drive_states before.drives → NoneFell before after
+fell-kept before after terms drives = record {
+  terminals = subst (NoneFellOf before.terms) (sym terms) (same-terms before.terms);
+  drives = λ drive. subst (λ (states : List DriveState). (drive_at (drive_states before.drives) drive).faults ≤ (drive_at states drive).faults) (sym drives) (omega arith);
+}
+
 -- where the terminals were loaded, and the drives are as they were
 pub fell-started : (keys : List ScriptKey) (before after : Outside) → after.terms ≡ loaded keys before.terms → drive_states after.drives ≡ drive_states before.drives → NoneFell before after
 fell-started keys before after terms drives = record {
@@ -102,11 +109,15 @@ dropped-terms [] (y ∷ b) loses = absurd loses
 dropped-terms (x ∷ a) [] loses = absurd loses
 dropped-terms (x ∷ a) (y ∷ b) loses = (omega (arith, loses.0.faults), dropped-terms a b loses.1)
 
-pub fell-dropped : (keys : List ScriptKey) (a b c d : Outside) → AllZip LosesKeys a.terms b.terms → c.terms ≡ terminals_emptied b.terms → drive_states a.drives ≡ drive_states c.drives → d.terms ≡ loaded keys c.terms → drive_states d.drives ≡ drive_states c.drives → NoneFell a d
-fell-dropped keys a b c d loses emptied drives terms still = fell-then a c d (record {
+pub fell-emptied : (a b c : Outside) → AllZip LosesKeys a.terms b.terms → c.terms ≡ terminals_emptied b.terms → drive_states a.drives ≡ drive_states c.drives → NoneFell a c
+fell-emptied a b c loses emptied drives = record {
   terminals = subst (NoneFellOf a.terms) (sym emptied) (dropped-terms a.terms b.terms loses);
   drives = λ drive. subst (λ (states : List DriveState). (drive_at (drive_states a.drives) drive).faults ≤ (drive_at states drive).faults) drives (omega arith);
-}) (fell-started keys c d terms still)
+}
+
+pub fell-dropped : (keys : List ScriptKey) (a b c d : Outside) → AllZip LosesKeys a.terms b.terms → c.terms ≡ terminals_emptied b.terms → drive_states a.drives ≡ drive_states c.drives → d.terms ≡ loaded keys c.terms → drive_states d.drives ≡ drive_states c.drives → NoneFell a d
+fell-dropped keys a b c d loses emptied drives terms still =
+    fell-then a c d (fell-emptied a b c loses emptied drives) (fell-started keys c d terms still)
 
 -- nothing failed in a part of the time
 pub unfailed-before : (a b c : Outside) → NoneFell a b → NoneFell b c → Unfailed a c → Unfailed a b

@@ -41,7 +41,7 @@ use Rattle.debug_session.specs.declared.machine.Machine.{Machine}
 use Rattle.debug_session.specs.declared.machine.SessionFault.{SessionFault}
 use Rattle.debug_session.specs.declared.machine.SessionFault.TheVariants.{Refused, TerminalFailed, OutputFailed, NoMemory}
 use Rattle.debug_session.proofs.Back.{as-many, first-again, loaded-again, unloaded-again}
-use Rattle.debug_session.proofs.Counted.{fell-dropped, loaded-none}
+use Rattle.debug_session.proofs.Counted.{fell-dropped, fell-emptied, fell-kept, fell-then, loaded-none}
 
 -- ---- no image is in a drive
 
@@ -132,16 +132,20 @@ pub no-start : (machine : Machine) (fault : SessionFault) (before after : Outsid
 no-start machine fault before after fails =
     record { terminals = tt; drives = tt; goes_on = tt; at = tt; first = tt; starts = tt; accepted = tt; fails = fails }
 
-pub start-refused : (machine : Machine) (error : StartError) (fault : BootFault) (before after : Outside) → error ≡ Boot fault → StartIsRefused (config_of machine) machine.file.now error → WhereRefused error (after ≡ before) → HasStarted machine (Err (start_fault fault)) before after
-start-refused machine error fault before after is refused same =
+pub start-refused : (machine : Machine) (error : StartError) (fault : BootFault) (before after : Outside) → error ≡ Boot fault → StartIsRefused (config_of machine) machine.file.now error → WhereRefused error (after ≡ before) → after.terms ≡ before.terms → StartsDrives {A = Kernel} 0 (drive_fault (Err error)) before.drives after.drives → HasStarted machine (Err (start_fault fault)) before after
+start-refused machine error fault before after is refused same terms drives =
     by fault (subst (StartIsRefused (config_of machine) machine.file.now) is refused) (subst (λ (error : StartError). WhereRefused error (after ≡ before)) is same)
+    (subst (λ (error : StartError). StartsDrives {A = Kernel} 0 (drive_fault (Err error)) before.drives after.drives) is drives)
   where
-    by : (fault : BootFault) → StartIsRefused (config_of machine) machine.file.now (Boot fault) → WhereRefused (Boot fault) (after ≡ before) → HasStarted machine (Err (start_fault fault)) before after
-    by OutOfMemory refused same = no-start machine NoMemory before after tt
-    by (BadModule at error) refused same =
+    by : (fault : BootFault) → StartIsRefused (config_of machine) machine.file.now (Boot fault) → WhereRefused (Boot fault) (after ≡ before) → StartsDrives {A = Kernel} 0 (drive_fault (Err (Boot fault))) before.drives after.drives → HasStarted machine (Err (start_fault fault)) before after
+    by OutOfMemory refused same drives =
+        no-start machine NoMemory before after (fell-kept before after terms drives.moves)
+    by (BadModule at error) refused same drives =
         no-start machine (Refused (BadModule at error)) before after (refused (λ e. cc e), same (λ e. cc e))
-    by NoFirst refused same = no-start machine (Refused NoFirst) before after (refused (λ e. cc e), same (λ e. cc e))
-    by TooLarge refused same = no-start machine (Refused TooLarge) before after (refused (λ e. cc e), same (λ e. cc e))
+    by NoFirst refused same drives =
+        no-start machine (Refused NoFirst) before after (refused (λ e. cc e), same (λ e. cc e))
+    by TooLarge refused same drives =
+        no-start machine (Refused TooLarge) before after (refused (λ e. cc e), same (λ e. cc e))
 
 -- no drive is among the first none
 pub no-drive : (error : StartError) (drive number : ℕ) (before after : List DriveView) → error ≡ Drive drive number → StartsDrives {A = Kernel} 0 (drive_fault (Err error)) before after → ⊥
@@ -234,7 +238,8 @@ module _ (machine : Machine) (before dropped emptied after : Outside) (taken : A
   fails-again (Refused fault) fails = fails.0
   fails-again (TerminalFailed n) fails = absurd fails
   fails-again OutputFailed fails = absurd fails
-  fails-again NoMemory fails = tt
+  fails-again NoMemory fails =
+      fell-then before emptied after (fell-emptied before dropped emptied taken none (sym same)) fails
 
   pub has-restarted : (answer : Result Position SessionFault) → HasStarted machine answer emptied after → HasRestarted machine answer before after
   has-restarted (Ok position) started = record {

@@ -1,5 +1,5 @@
 -- A position of a session, and what its steps leave.
-use Rattle.std.specs.Prelude.{◌≡◌, ⊤, ℕ, ◌<◌, Result, All, OnOk, IfOk, IfErr, List}
+use Rattle.std.specs.Prelude.{◌≡◌, ℕ, ◌-◌, ◌<◌, ⊤, Result, All, OnOk, IfOk, IfErr, List}
 use Rattle.os9_base.specs.Cells.{Cells}
 use Rattle.key_loading.specs.Loaded.{loaded}
 use Rattle.key_dropping.specs.Dropped.{FailsAt}
@@ -12,6 +12,7 @@ use Rattle.debug_rules.specs.Course.{Course, last_of, position_after, state_at}
 use Rattle.debug_rules.specs.Prints.{shows}
 use Rattle.debug_rules.specs.Show.{shown_cells}
 use Rattle.debug_text.specs.declared.command.Command.{Command}
+use Rattle.debug_text.specs.declared.command.Command.TheVariants.{To, Back}
 use Rattle.event_run.specs.Devices.{DevicesGain, Unfailed}
 use Rattle.event_run.specs.Position.{CanGoOn, IsAt}
 use Rattle.event_run.specs.declared.position.Position.{Position}
@@ -23,13 +24,13 @@ use Rattle.debug_session.specs.declared.machine.SessionFault.TheVariants.{Refuse
 
 -- ---- a start
 
--- the boot file is refused, and the devices are as they were; or memory was out
+-- the boot file is refused, and the devices are as they were; or memory was out, and no count of faults fell
 abbrev pub FailsToStart : Machine → Outside → Outside → SessionFault → Type 0
 FailsToStart machine before after (Refused fault) =
     Refuses machine.file.now machine.blocks fault × (after ≡ before)
 FailsToStart machine before after (TerminalFailed n) = ⊥
 FailsToStart machine before after OutputFailed = ⊥
-FailsToStart machine before after NoMemory = ⊤
+FailsToStart machine before after NoMemory = NoneFell before after
 
 -- a machine was started on these devices, and its terminals are loaded; the position is the first of its course
 pub record HasStarted (machine : Machine) (answer : Result Position SessionFault) (before after : Outside) : Type 0
@@ -64,13 +65,24 @@ abbrev pub IsUnderWay : Machine → Position → Outside → Type 0
 IsUnderWay machine position devices =
     (first : Outside) × CanStart machine first × IsPositionOf machine first position devices
 
--- why a move fails: the boot file is refused, or a terminal failed, or memory was out
+-- why a move fails: the boot file is refused, or a terminal failed, or memory was out and no count of faults fell
 abbrev pub FailsToMove : Machine → Outside → Outside → SessionFault → Type 0
 FailsToMove machine before after (Refused fault) = Refuses machine.file.now machine.blocks fault
 FailsToMove machine before after (TerminalFailed n) =
     FailsAt n before.terms after.terms × (after.drives ≡ before.drives)
 FailsToMove machine before after OutputFailed = ⊥
-FailsToMove machine before after NoMemory = ⊤
+FailsToMove machine before after NoMemory = NoneFell before after
+
+-- the command leads from this position to an earlier one
+abbrev pub LeadsBack : Command → ℕ → Type 0
+LeadsBack (To k) at = k < at
+LeadsBack (Back n) at = at - n < at
+LeadsBack command at = ⊥
+
+-- a command may fail so at this position: for want of memory, or else only if it leads back from there
+abbrev pub MayFailSo : Command → ℕ → SessionFault → Type 0
+MayFailSo command at NoMemory = ⊤
+MayFailSo command at fault = LeadsBack command at
 
 -- what holds of every start after which the position was one of the course
 abbrev pub FromStart : Machine → Position → Outside → (Outside → Type 0) → Type 0
@@ -96,12 +108,13 @@ pub record HasRestarted (machine : Machine) (answer : Result Position SessionFau
     pub counts : OnOk answer (NoneFell before after)
     pub fails : IfErr answer (FailsToMove machine before after)
 
--- the position stays in the course of the machine, or the move fails
-pub record MovesOn {Value : Type 0} (machine : Machine) (old new : Position) (answer : Result Value SessionFault)
-    (before after : Outside) : Type 0 where
+-- the command moves the position within the course of the machine, or fails
+pub record MovesOn {Value : Type 0} (machine : Machine) (command : Command) (old new : Position)
+    (answer : Result Value SessionFault) (before after : Outside) : Type 0 where
   pub stays : OnOk answer (FromStart machine old before (λ first. IsPositionOf machine first new after))
   pub counts : OnOk answer (NoneFell before after)
   pub fails : IfErr answer (FailsToMove machine before after)
+  pub may_fail : IfErr answer (MayFailSo command old.events)
 
 -- the position is the last one of the course, and before the one that was asked for
 pub record IsAtEnd (k : ℕ) (machine : Machine) (old new : Position) (before after : Outside) : Type 0 where

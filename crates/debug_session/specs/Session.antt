@@ -1,17 +1,20 @@
 -- A session (this project's own).
-use Rattle.std.specs.Prelude.{◌≡◌, ◌≢◌, ◌⊎◌, ℕ, All, Result, Err, IfErr, OnOk, List}
+use Rattle.std.specs.Prelude.{◌≡◌, ◌≢◌, ◌⊎◌, ℕ, All, Result, Some, Err, IfErr, OnOk, List, [], take, fold, slice_get}
 use Rattle.os9_outer.specs.Stream.{GainsPrefix, stream_with}
+use Rattle.key_dropping.specs.Dropped.{FailsAt}
 use Rattle.event_rules.specs.Start.{Refuses}
 use Rattle.machine_model.specs.Start.{Starts}
 use Rattle.machine_model.specs.State.{State}
 use Rattle.run_laws.specs.Faults.{CanRise}
 use Rattle.debug_text.specs.declared.command.Command.{Command}
 use Rattle.os9_kernel.specs.Outside.{Outside}
-use Rattle.debug_rules.specs.Course.{Course}
+use Rattle.debug_rules.specs.Course.{Course, position_after}
 use Rattle.debug_rules.specs.Prints.{printed_from}
+use Rattle.event_run.specs.Devices.{DevicesGain}
 use Rattle.boot_run.specs.World.{FailsToWrite, HasNoFault, World}
 use Rattle.debug_session.specs.Counts.{FailedOnce, TerminalRose}
-use Rattle.debug_session.specs.Machine.{CourseOf, HasNoBytes, HasStart, InCourse, boot_of}
+use Rattle.debug_session.specs.Machine.{CourseOf, HasNoBytes, HasStart, InCourse, boot_of, loaded_devices}
+use Rattle.debug_session.specs.Moves.{LeadsBack}
 use Rattle.debug_session.specs.declared.machine.Machine.{Machine}
 use Rattle.debug_session.specs.declared.machine.SessionFault.{SessionFault}
 use Rattle.debug_session.specs.declared.machine.SessionFault.TheVariants.{Refused, TerminalFailed, OutputFailed, NoMemory}
@@ -26,22 +29,47 @@ abbrev pub PrintsFirst : Machine → List Command → World → World → Course
 PrintsFirst machine commands before after course =
     GainsPrefix before.out (printed_from course 0 commands) after.out
 
--- the machine starts, and a terminal failed; the output gained the first of what the commands show, if nothing else did
+-- the machine starts, and the output gained the first of it
+abbrev pub PrintsSome : Machine → List Command → World → World → Type 0
+PrintsSome machine commands before after =
+    HasStart machine before.devices
+    × InCourse machine before.devices after.devices (PrintsFirst machine commands before after)
+
+-- the machine starts, the commands show something, and the output gained the first of it
+abbrev pub FailsToPrint : Machine → List Command → World → World → Type 0
+FailsToPrint machine commands before after =
+    HasStart machine before.devices
+    × InCourse machine before.devices after.devices (λ course.
+    PrintsFirst machine commands before after course × (printed_from course 0 commands ≢ []))
+
+-- the position to which the commands lead, one after another from the first position
+abbrev pub position_behind : Course → List Command → ℕ
+position_behind course commands = fold (position_after course) 0 commands
+
+-- The machine starts, so many commands are done, and a terminal fails in the next one, which leads back and shows
+-- nothing. The output gained what those show, if nothing else failed.
 pub record StopsAtTerminal (n : ℕ) (machine : Machine) (commands : List Command) (before after : World) : Type 0 where
   pub starts : HasStart machine before.devices
   pub rose : TerminalRose n before.devices after.devices
+  pub done : ℕ
+  pub next : Command
+  pub next_is : slice_get commands done ≡ Some next
+  pub between : Outside  -- the devices before that command
+  pub gains : DevicesGain (loaded_devices machine before.devices) between
+  pub fails : FailsAt n between.terms after.devices.terms
   pub prints : All HasNoBytes before.devices.terms → FailedOnce n before.devices after.devices
-      → (course : Course) → CourseOf machine before.devices course → PrintsFirst machine commands before after course
+      → (course : Course) → CourseOf machine before.devices course
+      → (after.out ≡ stream_with before.out (printed_from course 0 (take done commands)))
+      × LeadsBack next (position_behind course (take done commands))
 
 -- why a session stopped before its last command was done, and what is left
 abbrev pub StopsSession : Machine → List Command → World → World → SessionFault → Type 0
 StopsSession machine commands before after (Refused fault) =
     Refuses machine.file.now machine.blocks fault × (after ≡ before)
 StopsSession machine commands before after (TerminalFailed n) = StopsAtTerminal n machine commands before after
-StopsSession machine commands before after OutputFailed =
-    HasStart machine before.devices
-    × InCourse machine before.devices after.devices (PrintsFirst machine commands before after)
-StopsSession machine commands before after NoMemory = (after.out ≡ before.out) ⊎ HasStart machine before.devices
+StopsSession machine commands before after OutputFailed = FailsToPrint machine commands before after
+StopsSession machine commands before after NoMemory =
+    (after.out ≡ before.out) ⊎ PrintsSome machine commands before after
 
 -- a session was had
 pub record SessionCall {Value : Type 0} (machine : Machine) (commands : List Command)

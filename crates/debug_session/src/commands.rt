@@ -5,6 +5,7 @@ ghost use Rattle.os9_base.specs.declared.limits.TheConstants.{PROCESS_PLACES};
 ghost use Rattle.os9_kernel.specs.Outside.{OnDevices, outside};
 ghost use Rattle.debug_rules.specs.Prints.{shows};
 ghost use Rattle.debug_rules.specs.Show.{end_line as end_line_lem};
+ghost use Rattle.debug_text.specs.declared.command.Command.TheVariants.{To, Back};
 ghost use Rattle.debug_session.specs.Machine.{or_no_memory};
 ghost use Rattle.debug_session.specs.Moves.{AtPosition, HasShown, IsUnderWay, MovesOn};
 
@@ -82,11 +83,11 @@ fn to(
     requires { IsUnderWay machine.now position.old (outside
         ⟦<dyn BlockDriver as BlockDriver>⟧ devices.old.drives.items
         ⟦<dyn CharDriver as CharDriver>⟧ devices.old.terms.items) }
-    ensures moved { OnDevices (MovesOn machine.now position.old position.new result)
+    ensures moved { OnDevices (MovesOn machine.now (To k) position.old position.new result)
         ⟦<dyn BlockDriver as BlockDriver>⟧ devices.old.drives.items devices.new.drives.items
         ⟦<dyn CharDriver as CharDriver>⟧ devices.old.terms.items devices.new.terms.items }
     ensures shown { IfOk result (λ line. OnDevices
-        (HasShown machine.now (Command.To k) position.old position.new line.items)
+        (HasShown machine.now (To k) position.old position.new line.items)
         ⟦<dyn BlockDriver as BlockDriver>⟧ devices.old.drives.items devices.new.drives.items
         ⟦<dyn CharDriver as CharDriver>⟧ devices.old.terms.items devices.new.terms.items) }
     ensures terminals { vec_len devices.new.terms ≡ vec_len devices.old.terms }
@@ -110,11 +111,11 @@ fn back(
     requires { IsUnderWay machine.now position.old (outside
         ⟦<dyn BlockDriver as BlockDriver>⟧ devices.old.drives.items
         ⟦<dyn CharDriver as CharDriver>⟧ devices.old.terms.items) }
-    ensures moved { OnDevices (MovesOn machine.now position.old position.new result)
+    ensures moved { OnDevices (MovesOn machine.now (Back n) position.old position.new result)
         ⟦<dyn BlockDriver as BlockDriver>⟧ devices.old.drives.items devices.new.drives.items
         ⟦<dyn CharDriver as CharDriver>⟧ devices.old.terms.items devices.new.terms.items }
     ensures shown { IfOk result (λ line. OnDevices
-        (HasShown machine.now (Command.Back n) position.old position.new line.items)
+        (HasShown machine.now (Back n) position.old position.new line.items)
         ⟦<dyn BlockDriver as BlockDriver>⟧ devices.old.drives.items devices.new.drives.items
         ⟦<dyn CharDriver as CharDriver>⟧ devices.old.terms.items devices.new.terms.items) }
     ensures terminals { vec_len devices.new.terms ≡ vec_len devices.old.terms }
@@ -138,7 +139,7 @@ pub(crate) fn obey(
     requires { IsUnderWay machine.now position.old (outside
         ⟦<dyn BlockDriver as BlockDriver>⟧ devices.old.drives.items
         ⟦<dyn CharDriver as CharDriver>⟧ devices.old.terms.items) }
-    ensures moved { OnDevices (MovesOn machine.now position.old position.new result)
+    ensures moved { OnDevices (MovesOn machine.now command position.old position.new result)
         ⟦<dyn BlockDriver as BlockDriver>⟧ devices.old.drives.items devices.new.drives.items
         ⟦<dyn CharDriver as CharDriver>⟧ devices.old.terms.items devices.new.terms.items }
     ensures shown { IfOk result (λ line. OnDevices

@@ -2,6 +2,7 @@
 
 ghost use Rattle.std.specs.Prelude.{◌≡◌, ◌≤◌, Ok, OnOk, vec_len};
 ghost use Rattle.os9_kernel.specs.Outside.{OnDevices, outside};
+ghost use Rattle.debug_text.specs.declared.command.Command.TheVariants.{To};
 ghost use Rattle.debug_session.specs.Moves.{IsAtEnd, IsUnderWay, MovesOn};
 
 use crate::machine::{Machine, SessionFault, restart};
@@ -22,7 +23,7 @@ fn go_back(
     requires { IsUnderWay machine.now position.old (outside
         ⟦<dyn BlockDriver as BlockDriver>⟧ devices.old.drives.items
         ⟦<dyn CharDriver as CharDriver>⟧ devices.old.terms.items) }
-    ensures moved { OnDevices (MovesOn machine.now position.old position.new result)
+    ensures moved { OnDevices (MovesOn machine.now (To k) position.old position.new result)
         ⟦<dyn BlockDriver as BlockDriver>⟧ devices.old.drives.items devices.new.drives.items
         ⟦<dyn CharDriver as CharDriver>⟧ devices.old.terms.items devices.new.terms.items }
     ensures earlier { OnOk result (position.new.events ≤ k) }
@@ -52,7 +53,7 @@ pub(crate) fn go_to(
     requires { IsUnderWay machine.now position.old (outside
         ⟦<dyn BlockDriver as BlockDriver>⟧ devices.old.drives.items
         ⟦<dyn CharDriver as CharDriver>⟧ devices.old.terms.items) }
-    ensures moved { OnDevices (MovesOn machine.now position.old position.new result)
+    ensures moved { OnDevices (MovesOn machine.now (To k) position.old position.new result)
         ⟦<dyn BlockDriver as BlockDriver>⟧ devices.old.drives.items devices.new.drives.items
         ⟦<dyn CharDriver as CharDriver>⟧ devices.old.terms.items devices.new.terms.items }
     ensures reached { result ≡ Ok Step.Event → position.new.events ≡ k }

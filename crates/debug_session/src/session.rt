@@ -1,6 +1,6 @@
 //! A session, from the start of its machine to its last command.
 
-ghost use Rattle.std.specs.Prelude.{◌≡◌, vec_len};
+ghost use Rattle.std.specs.Prelude.{◌≡◌, ◌≢◌, OnErr, [], vec_len};
 ghost use Rattle.os9_kernel.specs.Outside.{outside};
 ghost use Rattle.os9_words.specs.Notes.{notes_of};
 ghost use Rattle.os9_words.specs.Streams.{WritesOut};
@@ -19,7 +19,8 @@ use std::alloc::Global;
 
 // Writes the bytes to the output stream, if there are any.
 fn write_out<H: Host>(host: &mut H, bytes: &[u8]) -> Result<(), HostFault>
-    ensures { WritesOut H.Host bytes.now result host.old host.new }
+    ensures written { WritesOut H.Host bytes.now result host.old host.new }
+    ensures some { OnErr result (bytes.now ≢ []) }
 {
     if bytes.is_empty() {
         return Ok(());
@@ -33,7 +34,8 @@ fn write_out<H: Host>(host: &mut H, bytes: &[u8]) -> Result<(), HostFault>
 ///
 /// # Errors
 ///
-/// `TerminalFailed` only if the terminal of that number failed when its keys were taken.
+/// `TerminalFailed` only if the count of faults of the terminal of that number rose, in a command
+/// that leads back; `OutputFailed` only if the commands show something.
 pub fn debug<H: Host>(
     alloc: Global,
     machine: &Machine,

@@ -1,19 +1,17 @@
 -- Positions, from one event to the next.
-use Rattle.std.proofs.Common.{◌≡◌, ◌≢◌, ◌⊎◌, ℕ, zero, suc, ◌+◌, ◌-◌, ◌<◌, ◌≤◌, ◌^◌, not, Bool, true, false, Option, Some, None, List, [], ◌∷◌, ◌++◌, length, drop, get_or, slice_get, refl, sym, ap, ◌∙◌, subst, inl, inr, arith, append_assoc, append-nil}
-use Rattle.std.specs.Prelude.{IsSome, Ok, option_map, slice_index_or, unwrap_or}
+use Rattle.std.proofs.Common.{◌≡◌, ◌≢◌, ◌⊎◌, ℕ, zero, suc, ◌+◌, ◌-◌, ◌<◌, ◌≤◌, ◌^◌, not, Bool, true, false, Option, Some, None, List, [], ◌∷◌, ◌++◌, length, drop, get_or, slice_get, refl, sym, ap, ◌∙◌, subst, inl, inr, arith, append_assoc, append-nil, length-append}
+use Rattle.std.specs.Prelude.{Err, IsSome, Ok, option_map, slice_index_or, unwrap_or}
 use Rattle.std.proofs.lemmas.Bool.{false≢true, lt-ltb, ne_eqb}
 use Rattle.std.proofs.lemmas.List.{drop_all}
 use Rattle.std.proofs.lemmas.Option.{none-some, same_Some}
+use Rattle.os9_base.specs.declared.call.OutOfMemory.{OutOfMemory}
 use Rattle.os9_base.specs.declared.limits.TheConstants.{LAST_TICK, PROCESS_PLACES}
 use Rattle.proc_rules.specs.Records.{IsLiving}
 use Rattle.os9_base.specs.declared.registers.Pid.{Pid}
 use Rattle.event_rules.specs.Console.{terminals_emptied}
-use Rattle.event_rules.specs.Event.{cost_of}
 use Rattle.event_rules.specs.State.{living_count}
 use Rattle.event_rules.specs.declared.ends.EventEnd.{EventEnd}
-use Rattle.call_rules.specs.Ready.{Act, attempts, delivers, executes, act_of}
 use Rattle.machine_model.specs.Devices.{OnlyGain}
-use Rattle.machine_model.specs.Event.{Acts, Event, cost}
 use Rattle.machine_model.specs.Run.{Choose, Tick}
 use Rattle.machine_model.specs.Start.{Boot}
 use Rattle.machine_model.specs.State.{State, has_living}
@@ -22,15 +20,14 @@ use Rattle.debug_rules.specs.Prints.{IsCourse}
 use Rattle.event_rules.proofs.TerminalLaws.{gain-same}
 use Rattle.event_rules.specs.Start.{first_process}
 use Rattle.machine_model.proofs.Drives.{drives-same}
-use Rattle.machine_model.proofs.Gains.{event-gains, tick-gains}
+use Rattle.machine_model.proofs.Gains.{tick-gains}
 use Rattle.os9_kernel.specs.Outside.{Outside}
+use Rattle.os9_kernel.specs.Slice.{IsTurn}
 use Rattle.os9_kernel.specs.Tie.{IsGoing, Represents, Stands, executed, ticks}
 use Rattle.os9_kernel.specs.declared.kernel.Kernel.{Kernel}
 use Rattle.os9_kernel.proofs.Represented.{living-few, represents-emptied}
-use Rattle.isolation_laws.specs.Volumes.{FailsOneDrive}
-use Rattle.isolation_laws.proofs.VolumeEvents.{event-leaves-volumes}
 use Rattle.run_laws.specs.Faults.{HasNoVolumes, NoneFailed}
-use Rattle.run_laws.proofs.Kept.{choice-bare, event-bare, tick-bare}
+use Rattle.run_laws.proofs.Kept.{choice-bare, tick-bare}
 use Rattle.debug_rules.specs.Course.{Course, last_of, state_at}
 use Rattle.debug_rules.specs.Show.{shown, shown_cells, shown_regs}
 use Rattle.os9_base.specs.declared.registers.Regs.{Regs}
@@ -40,13 +37,14 @@ use Rattle.call_rules.specs.Inner.{cells_at}
 use Rattle.user_names.specs.UserNames.{user_cell}
 use Rattle.os9_kernel.specs.View.{living_regs}
 use Rattle.event_run.specs.Devices.{DevicesGain, Unfailed}
-use Rattle.event_run.specs.Moves.{BeginsWith, HasAdvanced, HasBegun, HasEvent, HasFound, HasGone, IsLast, StaysIn}
+use Rattle.event_run.specs.Moves.{BeginsWith, HasBegun, HasEvents, HasFound, HasGone, IsLast, StaysIn}
 use Rattle.event_run.specs.declared.position.Step.TheVariants.{Event as AnEvent, End}
 use Rattle.event_run.specs.Position.{CanGoOn, Continues, ContinuesIn, IsAt, LooksAlike, Remains, slices_left}
 use Rattle.event_run.specs.declared.position.Position.{Position}
 use Rattle.event_run.proofs.Faults.{continues-gain, devices-gain, emptied-gains, gain-nothing, gain-two, gains-outside, none-then, unfailed-first, unfailed-inside, unfailed-then}
 use Rattle.event_run.proofs.Looks.{choice-looks, emptied-looks, looks-same, looks-then, tick-looks}
-use Rattle.event_run.proofs.Remaining.{Opened, Stepped, emptied, ends-idle, ends-without, opened, stepped}
+use Rattle.event_run.proofs.Passing.{Passed, events-few, events-some, turn-first, turn-gains, turn-passed}
+use Rattle.event_run.proofs.Remaining.{Opened, emptied, ends-idle, ends-without, opened}
 
 -- ---- places in a course
 
@@ -86,20 +84,6 @@ next-below [] k n is = absurd (cc)
 next-below (m ∷ slices) zero n is = omega arith
 next-below (m ∷ slices) (suc k) n is = omega (arith, next-below slices k n is)
 
--- ---- the costs of an event
-
-cost-few : (s : State) → cost s ≤ 1
-cost-few s = by_chosen s.chosen refl
-  where
-    by_act : (act : Act) → cost_of act ≤ 1
-    by_act (attempts code) = omega arith
-    by_act (delivers signal) = omega arith
-    by_act executes = omega arith
-
-    by_chosen : (who : Option ℕ) → s.chosen ≡ who → cost s ≤ 1
-    by_chosen None is = rw is (omega arith)
-    by_chosen (Some p) is = rw is (by_act (act_of s.inner p))
-
 -- ---- devices
 
 -- the kernel represents the state with terminals without bytes, where these were taken
@@ -127,23 +111,7 @@ taken-stands kernel mid now drives terms (t, tied) = (emptied t, represents-take
 pub taken-gained : (kernel : Kernel) (mid now : Outside) → now.drives ≡ mid.drives → now.terms ≡ terminals_emptied mid.terms → Stands kernel mid → DevicesGain mid now
 taken-gained kernel mid now drives terms (t, tied) = gains-taken kernel mid now t drives terms tied
 
--- ---- an event of the slice that is under way
-
-event-chosen : (s t : State) (end : EventEnd) → Event s end t → t.chosen ≡ s.chosen
-event-chosen s t end (p, chosen, lives, acts) = by_act (act_of s.inner p) acts
-  where
-    by_act : (act : Act) → Acts act s p end t → t.chosen ≡ s.chosen
-    by_act executes (ends, is) = ap (λ (t : State). t.chosen) is
-    by_act (attempts code) (result, rest, attempt, ends, is) = ap (λ (t : State). t.chosen) is
-    by_act (delivers signal) (ends, is) = ap (λ (t : State). t.chosen) is
-
--- without a fault drives are as they were
-event-drives : (s t : State) (end : EventEnd) → Event s end t → NoneFailed s t → t.files.drives ≡ s.files.drives
-event-drives s t end event none = by_drives (event-leaves-volumes s t end event.0 event.1 event).drives
-  where
-    by_drives : (t.files.drives ≡ s.files.drives) ⊎ FailsOneDrive s event.0 t.files.drives → t.files.drives ≡ s.files.drives
-    by_drives (inl same) = same
-    by_drives (inr failed) = absurd (none.drives failed.drive failed.failed.rose)
+-- ---- the drives in a tick and in a choice
 
 tick-drives : (s t : State) → Tick s t → t.files.drives ≡ s.files.drives
 tick-drives s t (desk, arrives, is) = ap (λ (t : State). t.files.drives) is
@@ -151,40 +119,44 @@ tick-drives s t (desk, arrives, is) = ap (λ (t : State). t.files.drives) is
 choice-drives : (s t : State) → Choose s t → t.files.drives ≡ s.files.drives
 choice-drives s t is = ap (λ (t : State). t.files.drives) is
 
-module _ (old : Position) (kernel : Kernel) (before mid : Outside) (end : EventEnd) (p : Pid) (chosen-is : (s : State) → Represents old.kernel before s → s.chosen ≡ Some p.0)
-    (steps : (s : State) → Represents old.kernel before s → (t : State) × Event s end t × Represents kernel mid t)
-    (costs : (s : State) → Represents old.kernel before s → executed old.kernel + cost s < 2 ^ 32 → executed kernel ≡ executed old.kernel + cost s)
-    (same : ticks kernel ≡ ticks old.kernel) (left : executed old.kernel < old.slice) (fits : old.slice < 2 ^ 32) where
+-- ---- a turn in the slice that is under way
+
+module _ (old : Position) (kernel : Kernel) (before mid : Outside) (count events : ℕ) (end : EventEnd) (p : Pid) (chosen-is : (s : State) → Represents old.kernel before s → s.chosen ≡ Some p.0)
+    (steps : (s : State) → Represents old.kernel before s → (t : State) × IsTurn s count end t × Represents kernel mid t)
+    (counted : executed kernel ≡ executed old.kernel + count) (many : 0 < count → events ≡ count) (one : count ≡ 0 → events ≡ 1)
+    (same : ticks kernel ≡ ticks old.kernel) (left : executed old.kernel < old.slice) (few : count ≤ old.slice - executed old.kernel) where
   -- the position behind it, in a slice or between two
   abbrev pub behind : ℕ → Position
-  behind slice = record { kernel = kernel; slice = slice; events = old.events + 1; process = p }
+  behind slice = record { kernel = kernel; slice = slice; events = old.events + events; process = p }
 
-  costs-so : (s : State) → Represents old.kernel before s → executed kernel ≡ executed old.kernel + cost s
-  costs-so s tied = costs s tied (omega (arith, cost-few s, left, fits))
+  left-is : old.slice - executed old.kernel - count ≡ old.slice - executed kernel
+  left-is = omega (arith, counted)
 
-  -- what was left is stepped
-  module _ (slices : List ℕ) (course : Course) (last : State) (at : IsAt course last slices old before) (t : State) (event : Event at.s end t) (none : NoneFailed at.s t) where
-    behind-it : Stepped (old.slice - executed old.kernel - cost at.s) (slices_left slices old) t end at.later last
+  -- what was left is passed
+  module _ (slices : List ℕ) (course : Course) (last : State) (at : IsAt course last slices old before) (t : State) (turn : IsTurn at.s count end t) (none : NoneFailed at.s t) where
+    behind-it : Passed (old.slice - executed old.kernel) (slices_left slices old) at.s at.later last count events end t
     behind-it = by_rest at.rest
       where
-        by_rest : Remains slices old at.s at.later last → Stepped (old.slice - executed old.kernel - cost at.s) (slices_left slices old) t end at.later last
+        by_rest : Remains slices old at.s at.later last → Passed (old.slice - executed old.kernel) (slices_left slices old) at.s at.later last count events end t
         by_rest (inl (between, rest)) = absurd (omega (arith, left, between))
-        by_rest (inr it) = stepped (old.slice - executed old.kernel) (slices_left slices old) at.s at.later last at.bare it at.faultless t end event none
-
-    left-is : old.slice - executed old.kernel - cost at.s ≡ old.slice - executed kernel
-    left-is = omega (arith, costs-so at.s at.represents)
+        by_rest (inr it) =
+            turn-passed (slices_left slices old) last (old.slice - executed old.kernel) at.s t at.later count events end turn many one few at.bare it at.faultless none
 
     slices-are : slices_left slices old ≡ drop (ticks kernel) slices
     slices-are = ap (λ k. drop k slices) (sym same)
 
-    all-behind : course.states ≡ at.past ++ (t ∷ behind-it.later)
-    all-behind = at.all ∙ ap (λ later. at.past ++ later) behind-it.all
+    -- the states before the last event are those in the past and those of the turn's other events
+    all-behind : course.states ≡ (at.past ++ behind-it.before) ++ (t ∷ behind-it.later)
+    all-behind = at.all ∙ ap (λ later. at.past ++ later) behind-it.all ∙ sym (append_assoc at.past behind-it.before (t ∷ behind-it.later))
 
-    there : state_at course (old.events + 1) ≡ t
-    there = state-next course at.past t behind-it.later old.events at.count all-behind
+    past-many : length (at.past ++ behind-it.before) + 1 ≡ old.events + events
+    past-many = omega (arith, length-append at.past behind-it.before, at.count, behind-it.many)
 
-    shown-is : p.0 ≡ shown (state_at course (old.events + 1))
-    shown-is = sym (ap shown there ∙ ap (λ who. unwrap_or who first_process.0) (event-chosen at.s t end event ∙ chosen-is at.s at.represents))
+    there : state_at course (old.events + events) ≡ t
+    there = ap (λ k. state_at course k) (sym past-many) ∙ state-next course (at.past ++ behind-it.before) t behind-it.later (length (at.past ++ behind-it.before)) refl all-behind
+
+    shown-is : p.0 ≡ shown (state_at course (old.events + events))
+    shown-is = sym (ap shown there ∙ ap (λ who. unwrap_or who first_process.0) (behind-it.chosen ∙ chosen-is at.s at.represents))
 
     -- the position behind it, where the kernel represents what looks like its state
     behind-at : (slice : ℕ) (after : Outside) (u : State) → Represents kernel after u → HasNoVolumes u → NoneFailed u last → LooksAlike t u → u.files.drives ≡ t.files.drives → Remains slices (behind slice) u behind-it.later last → IsAt course last slices (behind slice) after
@@ -192,86 +164,96 @@ module _ (old : Position) (kernel : Kernel) (before mid : Outside) (end : EventE
       s = u;
       represents = tied;
       bare = bare;
-      past = at.past ++ (t ∷ []);
-      count = past-more at.past t ∙ ap (λ k. k + 1) at.count;
+      past = (at.past ++ behind-it.before) ++ (t ∷ []);
+      count = past-more (at.past ++ behind-it.before) t ∙ past-many;
       later = behind-it.later;
-      all = all-behind ∙ sym (append_assoc at.past (t ∷ []) behind-it.later);
+      all = all-behind ∙ sym (append_assoc (at.past ++ behind-it.before) (t ∷ []) behind-it.later);
       rest = rest;
       faultless = faultless;
       looks = subst (λ (s : State). LooksAlike s u) (sym there) looks;
-      drives = drives ∙ event-drives at.s t end event none ∙ at.drives;
+      drives = drives ∙ behind-it.drives ∙ at.drives;
       process = shown-is;
     }
 
   pub stays-in : (slices : List ℕ) → end ≡ EventEnd.Ran → executed kernel < old.slice → StaysIn slices old (behind old.slice) before mid
   stays-in slices ran more course last at unfailed =
-      let (t, event, tied) = steps at.s at.represents in
+      let (t, turn, tied) = steps at.s at.represents in
       let none : NoneFailed at.s t = unfailed-inside old.kernel kernel before mid at.s t at.represents tied unfailed in
-      let it = behind-it slices course last at t event none in
-      let goes : ContinuesIn (old.slice - executed old.kernel - cost at.s) (slices_left slices old) t it.later last = it.going ran (omega (arith, more, left-is slices course last at t event none)) in
+      let it = behind-it slices course last at t turn none in
+      let goes : ContinuesIn (old.slice - executed old.kernel - count) (slices_left slices old) t it.later last = it.going ran (omega (arith, more, left-is)) in
       let goes_so : ContinuesIn (old.slice - executed kernel) (drop (ticks kernel) slices) t it.later last =
-      subst (λ k. ContinuesIn k (drop (ticks kernel) slices) t it.later last) (left-is slices course last at t event none)
-      (subst (λ rest. ContinuesIn (old.slice - executed old.kernel - cost at.s) rest t it.later last) (slices-are slices course last at t event none) goes) in
-      behind-at slices course last at t event none old.slice mid t tied (event-bare at.s t end event at.bare) it.faultless (looks-same t) refl (inr goes_so)
+      subst (λ k. ContinuesIn k (drop (ticks kernel) slices) t it.later last) left-is
+      (subst (λ rest. ContinuesIn (old.slice - executed old.kernel - count) rest t it.later last) (slices-are slices course last at t turn none) goes) in
+      behind-at slices course last at t turn none old.slice mid t tied it.bare it.faultless (looks-same t) refl (inr goes_so)
 
   pub stays-over : (slices : List ℕ) → (end ≡ EventEnd.Ran → old.slice ≤ executed kernel) → (after : Outside) → after.drives ≡ mid.drives → after.terms ≡ terminals_emptied mid.terms → StaysIn slices old (behind 0) before after
   stays-over slices no_more after drives terms course last at unfailed =
-      let (t, event, tied) = steps at.s at.represents in
+      let (t, turn, tied) = steps at.s at.represents in
       let taken = represents-taken kernel mid after t drives terms tied in
-      let gained : DevicesGain before mid = gains-outside old.kernel kernel before mid at.s t at.represents tied (event-gains at.s t end event) in
+      let gained : DevicesGain before mid = gains-outside old.kernel kernel before mid at.s t at.represents tied (turn-gains at.s t end count turn) in
       let unfailed_first : Unfailed before mid = unfailed-first before mid after gained (gains-taken kernel mid after t drives terms tied) unfailed in
       let none : NoneFailed at.s t = unfailed-inside old.kernel kernel before mid at.s t at.represents tied unfailed_first in
-      let it = behind-it slices course last at t event none in
-      let rest : Continues (slices_left slices old) (emptied t) it.later last = it.over (λ ran. omega (arith, no_more ran, left-is slices course last at t event none)) in
-      let rest_so : Continues (drop (ticks kernel) slices) (emptied t) it.later last = subst (λ rest. Continues rest (emptied t) it.later last) (slices-are slices course last at t event none) rest in
+      let it = behind-it slices course last at t turn none in
+      let rest : Continues (slices_left slices old) (emptied t) it.later last = it.over (λ ran. omega (arith, no_more ran, left-is)) in
+      let rest_so : Continues (drop (ticks kernel) slices) (emptied t) it.later last = subst (λ rest. Continues rest (emptied t) it.later last) (slices-are slices course last at t turn none) rest in
       let faultless : NoneFailed (emptied t) last = none-then t (emptied t) last (emptied-gains t) (continues-gain (slices_left slices old) (emptied t) it.later last rest) it.faultless in
-      behind-at slices course last at t event none 0 after (emptied t) taken (event-bare at.s t end event at.bare) faultless (emptied-looks t) refl (inl (refl, rest_so))
+      behind-at slices course last at t turn none 0 after (emptied t) taken it.bare faultless (emptied-looks t) refl (inl (refl, rest_so))
 
   -- ---- what it leaves
 
-  pub event-gained : Stands old.kernel before → DevicesGain before mid
-  event-gained (s, tied) =
-      let (t, event, there) = steps s tied in gains-outside old.kernel kernel before mid s t tied there (event-gains s t end event)
+  pub turn-gained : Stands old.kernel before → DevicesGain before mid
+  turn-gained (s, tied) =
+      let (t, turn, there) = steps s tied in gains-outside old.kernel kernel before mid s t tied there (turn-gains s t end count turn)
 
   pub numbered : Stands old.kernel before → p.0 < PROCESS_PLACES
   numbered (s, tied) =
-      let (t, event, there) = steps s tied in
+      let (t, turn, there) = steps s tied in
+      let event = (turn-first s t end count turn).event in
       let who : event.0 ≡ p.0 = same_Some event.0 p.0 (sym event.1 ∙ chosen-is s tied) in
       living-few old.kernel.processes s.inner tied.inner p.0 (subst (IsLiving s.inner.records) who event.2)
 
-  pub event-stands : Stands old.kernel before → Stands kernel mid
-  event-stands (s, tied) = let (t, event, there) = steps s tied in (t, there)
+  pub turn-stands : Stands old.kernel before → Stands kernel mid
+  turn-stands (s, tied) = let (t, turn, there) = steps s tied in (t, there)
 
-  -- the event, in a slice that goes on, and in one that is over
-  pub had-in : end ≡ EventEnd.Ran → executed kernel < old.slice → IsGoing kernel → Stands old.kernel before → HasEvent old (behind old.slice) (Ok tt) before mid
-  had-in ran more going stands = record {
-    goes_on = λ slices can. record {
-      stands = event-stands stands;
-      begun = omega (arith, can.begun, same);
-      few = can.few;
-      going = λ some. going;
-      left = λ some. more;
-      numbered = numbered stands;
-    };
-    gains = event-gained stands;
-    stays = λ slices. stays-in slices ran more;
-    event = refl;
-  }
+  -- the turn, in a slice that goes on, and in one that is over, where there is room for so many events
+  module _ (k : ℕ) (room : old.events < k) (fits : count ≤ k - old.events) where
+    events-more : old.events < old.events + events
+    events-more = omega (arith, events-some count events many one)
 
-  pub had-over : (end ≡ EventEnd.Ran → old.slice ≤ executed kernel) → Stands old.kernel before → (after : Outside) → after.drives ≡ mid.drives → after.terms ≡ terminals_emptied mid.terms → HasEvent old (behind 0) (Ok tt) before after
-  had-over no_more stands after drives terms = record {
-    goes_on = λ slices can. record {
-      stands = taken-stands kernel mid after drives terms (event-stands stands);
-      begun = omega (arith, can.begun, same);
-      few = can.few;
-      going = λ some. absurd (omega (arith, some));
-      left = λ some. absurd (omega (arith, some));
-      numbered = numbered stands;
-    };
-    gains = devices-gain before mid after (event-gained stands) (taken-gained kernel mid after drives terms (event-stands stands));
-    stays = λ slices. stays-over slices no_more after drives terms;
-    event = refl;
-  }
+    events-within : old.events + events ≤ k
+    events-within = omega (arith, room, events-few count events (k - old.events) many one (omega (arith, room)) fits)
+
+    pub had-in : end ≡ EventEnd.Ran → executed kernel < old.slice → IsGoing kernel → Stands old.kernel before → HasEvents k old (behind old.slice) (Ok tt) before mid
+    had-in ran more going stands = record {
+      goes_on = λ slices can. record {
+        stands = turn-stands stands;
+        begun = omega (arith, can.begun, same);
+        few = can.few;
+        going = λ some. going;
+        left = λ some. more;
+        numbered = numbered stands;
+      };
+      gains = turn-gained stands;
+      stays = λ slices. stays-in slices ran more;
+      more = events-more;
+      few = events-within;
+    }
+
+    pub had-over : (end ≡ EventEnd.Ran → old.slice ≤ executed kernel) → Stands old.kernel before → (after : Outside) → after.drives ≡ mid.drives → after.terms ≡ terminals_emptied mid.terms → HasEvents k old (behind 0) (Ok tt) before after
+    had-over no_more stands after drives terms = record {
+      goes_on = λ slices can. record {
+        stands = taken-stands kernel mid after drives terms (turn-stands stands);
+        begun = omega (arith, can.begun, same);
+        few = can.few;
+        going = λ some. absurd (omega (arith, some));
+        left = λ some. absurd (omega (arith, some));
+        numbered = numbered stands;
+      };
+      gains = devices-gain before mid after (turn-gained stands) (taken-gained kernel mid after drives terms (turn-stands stands));
+      stays = λ slices. stays-over slices no_more after drives terms;
+      more = events-more;
+      few = events-within;
+    }
 
 -- ---- a slice is begun
 
@@ -540,6 +522,17 @@ module _ (slices : List ℕ) (old : Position) (index : ℕ) (now : Position) (be
     end = λ is. absurd (cc);
   }
 
+  -- memory was out
+  pub found-broken : (n : ℕ) (next : Position) (then : Outside) (fault : OutOfMemory) {told : OutOfMemory} → HasBegun n now next (Err fault) after then → HasFound slices old next (Err told) before then
+  found-broken n next then fault begun = record {
+    goes_on = tt;
+    gains = devices-gain before after then so_far.gains begun.gains;
+    stays = tt;
+    begun = λ is. absurd (cc);
+    events = tt;
+    end = λ is. absurd (cc);
+  }
+
   pub found-none : ((course : Course) (last : State) → IsAt course last slices now after → last_of course ≡ now.events) → HasFound slices old now (Ok End) before after
   found-none ends = record {
     goes_on = so_far.goes_on;
@@ -567,64 +560,59 @@ found-here slices old before can some = record {
   end = λ is. absurd (cc);
 }
 
--- ---- an event more
-
-pub advanced : (slices : List ℕ) (old mid next : Position) (before between after : Outside) → HasFound slices old mid (Ok AnEvent) before between → HasEvent mid next (Ok tt) between after → HasAdvanced slices old next (Ok AnEvent) before after
-advanced slices old mid next before between after found event = record {
-  goes_on = event.goes_on slices found.goes_on;
-  gains = devices-gain before between after found.gains event.gains;
-  stays = stays-then slices old mid next before between after found.gains event.gains found.stays (event.stays slices);
-  event = λ _. event.event ∙ ap (λ k. k + 1) found.events;
-  none = λ is. absurd (cc);
-  end = λ is. absurd (cc);
-}
-
-pub advanced-not : (slices : List ℕ) (old mid : Position) (before after : Outside) → HasFound slices old mid (Ok End) before after → HasAdvanced slices old mid (Ok End) before after
-advanced-not slices old mid before after found = record {
-  goes_on = found.goes_on;
-  gains = found.gains;
-  stays = found.stays;
-  event = λ is. absurd (cc);
-  none = λ _. found.events;
-  end = λ _. found.end refl;
-}
-
 -- ---- events one after another
 
-pub record GoneSoFar (slices : List ℕ) (old now : Position) (before after : Outside) : Type 0 where
+pub record GoneSoFar (k : ℕ) (slices : List ℕ) (old now : Position) (before after : Outside) : Type 0 where
   pub goes_on : CanGoOn slices now after
   pub gains : DevicesGain before after
   pub stays : StaysIn slices old now before after
+  pub within : now.events ≤ k
 
-pub gone-start : (slices : List ℕ) (old : Position) (before : Outside) → CanGoOn slices old before → GoneSoFar slices old old before before
-gone-start slices old before can = record { goes_on = can; gains = gain-nothing before; stays = λ course last at none. at }
+pub gone-start : (k : ℕ) (slices : List ℕ) (old : Position) (before : Outside) → CanGoOn slices old before → old.events ≤ k → GoneSoFar k slices old old before before
+gone-start k slices old before can within =
+    record { goes_on = can; gains = gain-nothing before; stays = λ course last at none. at; within = within }
 
-module _ (slices : List ℕ) (old now : Position) (before after : Outside) (so_far : GoneSoFar slices old now before after) where
-  pub gone-more : (next : Position) (then : Outside) → HasAdvanced slices now next (Ok AnEvent) after then → GoneSoFar slices old next before then
-  gone-more next then event = record {
-    goes_on = event.goes_on;
-    gains = devices-gain before after then so_far.gains event.gains;
-    stays = stays-then slices old now next before after then so_far.gains event.gains so_far.stays event.stays;
+module _ (k : ℕ) (slices : List ℕ) (old now : Position) (before after : Outside) (so_far : GoneSoFar k slices old now before after) where
+  -- a slice with an event was found, and a turn was had in it
+  pub gone-more : (mid next : Position) (between then : Outside) → HasFound slices now mid (Ok AnEvent) after between → HasEvents k mid next (Ok tt) between then → GoneSoFar k slices old next before then
+  gone-more mid next between then found had = record {
+    goes_on = had.goes_on slices found.goes_on;
+    gains = devices-gain before after then so_far.gains (devices-gain after between then found.gains had.gains);
+    stays = stays-then slices old now next before after then so_far.gains (devices-gain after between then found.gains had.gains) so_far.stays
+        (stays-then slices now mid next after between then found.gains had.gains found.stays (had.stays slices));
+    within = had.few;
   }
 
-  pub gone-there : (k : ℕ) → now.events ≡ k → HasGone k slices old now (Ok AnEvent) before after
-  gone-there k there = record {
+  pub gone-there : k ≤ now.events → HasGone k slices old now (Ok AnEvent) before after
+  gone-there there = record {
     goes_on = so_far.goes_on;
     gains = so_far.gains;
     stays = so_far.stays;
-    reached = λ _. there;
+    reached = λ _. omega (arith, there, so_far.within);
     short = λ is. absurd (cc);
     end = λ is. absurd (cc);
   }
 
-  pub gone-short : (k : ℕ) (next : Position) (then : Outside) → now.events < k → HasAdvanced slices now next (Ok End) after then → HasGone k slices old next (Ok End) before then
-  gone-short k next then below last = record {
-    goes_on = last.goes_on;
-    gains = devices-gain before after then so_far.gains last.gains;
-    stays = stays-then slices old now next before after then so_far.gains last.gains so_far.stays last.stays;
+  -- memory was out
+  pub gone-broken : (told : OutOfMemory) (next : Position) (then : Outside) → DevicesGain after then → HasGone k slices old next (Err told) before then
+  gone-broken told next then gains = record {
+    goes_on = tt;
+    gains = devices-gain before after then so_far.gains gains;
+    stays = tt;
     reached = λ is. absurd (cc);
-    short = λ _. omega (arith, below, last.none refl);
+    short = λ is. absurd (cc);
+    end = λ is. absurd (cc);
+  }
+
+  -- no slice with an event was found
+  pub gone-short : (next : Position) (then : Outside) → now.events < k → HasFound slices now next (Ok End) after then → HasGone k slices old next (Ok End) before then
+  gone-short next then below found = record {
+    goes_on = found.goes_on;
+    gains = devices-gain before after then so_far.gains found.gains;
+    stays = stays-then slices old now next before after then so_far.gains found.gains so_far.stays found.stays;
+    reached = λ is. absurd (cc);
+    short = λ _. omega (arith, below, found.events);
     end = λ _ course state at none.
-        last.end refl course state (so_far.stays course state at (unfailed-first before after then so_far.gains last.gains none)) (unfailed-then before after then so_far.gains last.gains none)
-        ∙ sym (last.none refl);
+        found.end refl course state (so_far.stays course state at (unfailed-first before after then so_far.gains found.gains none)) (unfailed-then before after then so_far.gains found.gains none)
+        ∙ sym found.events;
   }

@@ -1,5 +1,5 @@
 -- What the calls of a position leave; the devices are those before and after.
-use Rattle.std.specs.Prelude.{◌≡◌, ℕ, ◌+◌, ◌<◌, true, Some, Result, Ok, OnOk, List, slice_get}
+use Rattle.std.specs.Prelude.{◌≡◌, ℕ, ◌+◌, ◌<◌, ◌≤◌, true, Some, Result, Ok, OnOk, List, slice_get}
 use Rattle.os9_base.specs.declared.call.OutOfMemory.{OutOfMemory}
 use Rattle.machine_model.specs.State.{State, has_living}
 use Rattle.os9_kernel.specs.Outside.{Outside}
@@ -23,23 +23,11 @@ IsLast slices old before after =
     (course : Course) (last : State) → IsAt course last slices old before → Unfailed before after
     → last_of course ≡ old.events
 
--- ---- an event
-
-pub record HasAdvanced (slices : List ℕ) (old new : Position) (answer : Result Step OutOfMemory)
-    (before after : Outside) : Type 0 where
-  pub goes_on : OnOk answer (CanGoOn slices new after)
-  pub gains : OnOk answer (DevicesGain before after)
-  pub stays : OnOk answer (StaysIn slices old new before after)
-  -- one event more; or there is none, and the position is the last one
-  pub event : answer ≡ Ok Event → new.events ≡ old.events + 1
-  pub none : answer ≡ Ok End → new.events ≡ old.events
-  pub end : answer ≡ Ok End → IsLast slices old before after
-
 -- the position behind k events was reached, or the last one, which is before it
 pub record HasGone (k : ℕ) (slices : List ℕ) (old new : Position) (answer : Result Step OutOfMemory)
     (before after : Outside) : Type 0 where
   pub goes_on : OnOk answer (CanGoOn slices new after)
-  pub gains : OnOk answer (DevicesGain before after)
+  pub gains : DevicesGain before after
   pub stays : OnOk answer (StaysIn slices old new before after)
   pub reached : answer ≡ Ok Event → new.events ≡ k
   pub short : answer ≡ Ok End → new.events < k
@@ -58,7 +46,7 @@ pub record HasBegun (n : ℕ) (old new : Position) (answer : Result Step OutOfMe
   where
     pub goes_on : OnOk answer ((slices : List ℕ) → BeginsWith n slices old before → CanGoOn slices old before
         → CanGoOn slices new after)
-    pub gains : OnOk answer (DevicesGain before after)
+    pub gains : DevicesGain before after
     pub stays : OnOk answer ((slices : List ℕ) → BeginsWith n slices old before
         → StaysIn slices old new before after)
     pub begun : answer ≡ Ok Event → 0 < new.slice
@@ -70,16 +58,17 @@ pub record HasBegun (n : ℕ) (old new : Position) (answer : Result Step OutOfMe
 pub record HasFound (slices : List ℕ) (old new : Position) (answer : Result Step OutOfMemory) (before after : Outside)
     : Type 0 where
   pub goes_on : OnOk answer (CanGoOn slices new after)
-  pub gains : OnOk answer (DevicesGain before after)
+  pub gains : DevicesGain before after
   pub stays : OnOk answer (StaysIn slices old new before after)
   pub begun : answer ≡ Ok Event → 0 < new.slice
   pub events : OnOk answer (new.events ≡ old.events)
   pub end : answer ≡ Ok End → IsLast slices old before after
 
--- one event was had
-pub record HasEvent (old new : Position) (answer : Result (Unit {0}) OutOfMemory) (before after : Outside) : Type 0
-  where
-    pub goes_on : OnOk answer ((slices : List ℕ) → CanGoOn slices old before → CanGoOn slices new after)
-    pub gains : OnOk answer (DevicesGain before after)
-    pub stays : OnOk answer ((slices : List ℕ) → StaysIn slices old new before after)
-    pub event : OnOk answer (new.events ≡ old.events + 1)
+-- one event was had or more, up to that of number k
+pub record HasEvents (k : ℕ) (old new : Position) (answer : Result (Unit {0}) OutOfMemory) (before after : Outside)
+    : Type 0 where
+  pub goes_on : OnOk answer ((slices : List ℕ) → CanGoOn slices old before → CanGoOn slices new after)
+  pub gains : DevicesGain before after
+  pub stays : OnOk answer ((slices : List ℕ) → StaysIn slices old new before after)
+  pub more : OnOk answer (old.events < new.events)
+  pub few : OnOk answer (new.events ≤ k)

@@ -6,7 +6,7 @@ ghost use Rattle.machine_model.specs.State.{State};
 ghost use Rattle.debug_rules.specs.Course.{Course, state_at};
 ghost use Rattle.debug_rules.specs.Prints.{IsCourse};
 ghost use Rattle.debug_rules.specs.Show.{shown, shown_cells, shown_regs};
-ghost use Rattle.event_run.specs.Moves.{HasAdvanced, HasBegun, HasEvent, HasFound, HasGone};
+ghost use Rattle.event_run.specs.Moves.{HasBegun, HasEvents, HasFound, HasGone};
 ghost use Rattle.event_run.specs.Position.{CanGoOn, IsAt};
 
 use crate::console::empty_terminals;
@@ -52,6 +52,15 @@ fn has_events(chosen: Option<Pid>, n: u32) -> bool
         None => false,
         Some(_) => n > 0,
     }
+}
+
+// How many events a turn of so many instructions has: each of these is one, and one that has none is
+// another event.
+fn events_of(count: u32) -> u64
+    ensures instructions { 0 < count → result ≡ count }
+    ensures other { count ≡ 0 → result ≡ 1 }
+{
+    u64::from(count.max(1))
 }
 
 impl Position {
@@ -109,35 +118,8 @@ impl Position {
         self.kernel.byte(self.process, at)
     }
 
-    /// Goes on by one event, over these slices. What the terminals are given in a slice is taken from
-    /// them when it is over.
-    ///
-    /// # Errors
-    ///
-    /// Out of memory. The position is used no more then.
-    pub fn advance(&mut self, slices: &[u32], devices: &mut Devices) -> Result<Step, OutOfMemory>
-        requires goes_on { CanGoOn slices.now self.old
-            (outside ⟦<dyn BlockDriver as BlockDriver>⟧ devices.old.drives.items
-            ⟦<dyn CharDriver as CharDriver>⟧ devices.old.terms.items) }
-        requires few { self.old.events < 2 ^ 64 - 1 }
-        ensures advanced { OnDevices (HasAdvanced slices.now self.old self.new result)
-            ⟦<dyn BlockDriver as BlockDriver>⟧ devices.old.drives.items devices.new.drives.items
-            ⟦<dyn CharDriver as CharDriver>⟧ devices.old.terms.items devices.new.terms.items }
-        ensures terminals { vec_len devices.new.terms ≡ vec_len devices.old.terms }
-        ensures drives { vec_len devices.new.drives ≡ vec_len devices.old.drives }
-    {
-        match self.find_event(slices, devices) {
-            Ok(Step::Event) => {}
-            Ok(Step::End) => return Ok(Step::End),
-            Err(OutOfMemory) => return Err(OutOfMemory),
-        }
-        match self.event(devices) {
-            Ok(()) => Ok(Step::Event),
-            Err(OutOfMemory) => Err(OutOfMemory),
-        }
-    }
-
-    /// Goes on to the position behind `k` events, which is not before this one, or to the last one.
+    /// Goes on over these slices to the position behind `k` events, which is not before this one, or to
+    /// the last one. What the terminals are given in a slice is taken from them when it is over.
     ///
     /// # Errors
     ///
@@ -158,10 +140,14 @@ impl Position {
         ensures terminals { vec_len devices.new.terms ≡ vec_len devices.old.terms }
         ensures drives { vec_len devices.new.drives ≡ vec_len devices.old.drives }
     {
-        for at in self.events..k {
-            match self.advance(slices, devices) {
+        'turns: while self.events < k {
+            match self.find_event(slices, devices) {
                 Ok(Step::Event) => {}
                 Ok(Step::End) => return Ok(Step::End),
+                Err(OutOfMemory) => return Err(OutOfMemory),
+            }
+            match self.turn(k, devices) {
+                Ok(()) => {}
                 Err(OutOfMemory) => return Err(OutOfMemory),
             }
         }
@@ -238,28 +224,29 @@ impl Position {
         Ok(Step::End)
     }
 
-    // One event of the slice that is under way.
-    fn event(&mut self, devices: &mut Devices) -> Result<(), OutOfMemory>
+    // A turn in the slice that is under way: its next event or events, up to the one of number `k`.
+    fn turn(&mut self, k: u64, devices: &mut Devices) -> Result<(), OutOfMemory>
         requires stands { Stands self.old.kernel
             (outside ⟦<dyn BlockDriver as BlockDriver>⟧ devices.old.drives.items
             ⟦<dyn CharDriver as CharDriver>⟧ devices.old.terms.items) }
         requires going { IsGoing self.old.kernel }
         requires left { executed self.old.kernel < self.old.slice }
-        requires few { self.old.events < 2 ^ 64 - 1 }
-        ensures event { OnDevices (HasEvent self.old self.new result)
+        requires before { self.old.events < k }
+        ensures turn { OnDevices (HasEvents k self.old self.new result)
             ⟦<dyn BlockDriver as BlockDriver>⟧ devices.old.drives.items devices.new.drives.items
             ⟦<dyn CharDriver as CharDriver>⟧ devices.old.terms.items devices.new.terms.items }
         ensures terminals { vec_len devices.new.terms ≡ vec_len devices.old.terms }
         ensures drives { vec_len devices.new.drives ≡ vec_len devices.old.drives }
     {
         let process = self.kernel.chosen().unwrap();
-        let end = self.kernel.event(devices);
-        if let EventEnd::NoMemory = end {
+        let most = self.most(k);
+        let turn = self.kernel.turn(most, devices);
+        if let EventEnd::NoMemory = turn.end {
             return Err(OutOfMemory);
         }
         self.process = process;
-        self.events += 1;
-        if self.goes_on(end) {
+        self.events += events_of(turn.count);
+        if self.goes_on(turn.end) {
             return Ok(());
         }
         self.slice = 0;
@@ -267,7 +254,24 @@ impl Position {
         Ok(())
     }
 
-    // Does the slice go on behind an event that ended so?
+    // The most instructions of the next turn: so many are left of the slice, and up to `k` events.
+    fn most(&self, k: u64) -> u32
+        requires left { executed self.now.kernel < self.now.slice }
+        requires before { self.now.events < k }
+        ensures some { 0 < result }
+        ensures slice { result ≤ self.now.slice - executed self.now.kernel }
+        ensures events { result ≤ k - self.now.events }
+    {
+        let left = self.slice - self.kernel.executed();
+        let events = k - self.events;
+        if events < u64::from(left) {
+            events as u32
+        } else {
+            left
+        }
+    }
+
+    // Does the slice go on behind a turn that ended so?
     fn goes_on(&self, end: EventEnd) -> bool
         ensures ran { result ≡ true → end ≡ EventEnd.Ran }
         ensures left { result ≡ true → executed self.now.kernel < self.now.slice }

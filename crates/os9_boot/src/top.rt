@@ -52,8 +52,9 @@ const NO_COMMAND: u8 = 1;
 /// lives; 1 the words are no command line; 2 a file could not be read; 3 the output stream or a file
 /// could not be written; 4 out of memory; 6 an image is not well formed; 7 the script, the slice text
 /// or the commands of `debug` are refused; 8 the file of modules, or the boot file, is refused; 9 a
-/// drive failed when its image was mounted or used by a tool; 10 a source is refused; 11 a tool is
-/// refused; 12 a terminal failed when its keys were taken, for `debug` to go back.
+/// drive with an image failed, in a boot of which nothing can be seen or when a tool used it; 10 a
+/// source is refused; 11 a tool is refused; 12 the count of faults of a terminal rose, and `debug`
+/// stopped.
 ///
 /// A run begins with the devices as they are when the call is made, each terminal loaded with its
 /// keys, and ends with them as they are when it returns: a terminal or a drive fails in it only if

@@ -10,8 +10,7 @@ use Rattle.os9_words.specs.declared.debug_words.DebugWords.{DebugWords}
 use Rattle.boot_run.specs.World.{World, HasNoFault}
 use Rattle.debug_text.specs.Commands.{commands_of}
 use Rattle.debug_text.specs.declared.command.Command.{Command}
-use Rattle.debug_session.specs.Machine.{HasStart}
-use Rattle.debug_session.specs.Session.{SessionCall, StopsAtTerminal}
+use Rattle.debug_session.specs.Session.{FailsToPrint, PrintsSome, SessionCall, StopsAtTerminal}
 use Rattle.debug_session.specs.declared.machine.Machine.{Machine}
 use Rattle.debug_session.specs.declared.machine.SessionFault.{SessionFault}
 use Rattle.debug_session.specs.declared.machine.SessionFault.TheVariants as Fault
@@ -23,7 +22,7 @@ use Rattle.command_files.specs.declared.status.End.{End}
 use Rattle.command_files.specs.declared.status.End.TheVariants.{Ended, CannotRead, CannotWrite, NoMemory, BadText, BadModule, NoFirst, TooLarge, TerminalFailed}
 use Rattle.command_files.specs.declared.status.Input.TheVariants.{Script, Slices, Commands}
 use Rattle.os9_debug.specs.Call.{DebugCall}
-use Rattle.os9_debug.specs.Debug.{DebugComesTo, EndsRefused, IsBegun, PrintsSome, PrintsWhole, SessionThen, debug_file_name}
+use Rattle.os9_debug.specs.Debug.{DebugComesTo, EndsRefused, PrintsWhole, SessionThen, debug_file_name}
 use Rattle.os9_debug.specs.Steps.{HadSession, HasDebugFiles, RefusesCommands, session_end}
 use Rattle.os9_debug.specs.declared.files.DebugFiles.{DebugFiles}
 
@@ -139,9 +138,9 @@ module _ (debug : DebugWords) (before : World) (read : DebugFiles) (has : IfSome
         }
 
         -- memory was out
-        lacks : (files : Files) → HasDebugFiles files debug read → (after.out ≡ before.out) ⊎ HasStart machine before.devices → DebugComesTo files debug before after NoMemory
+        lacks : (files : Files) → HasDebugFiles files debug read → (after.out ≡ before.out) ⊎ PrintsSome machine commands before after → DebugComesTo files debug before after NoMemory
         lacks files has (inl same) = inl same
-        lacks files has (inr starts) = inr (had (IsBegun before) starts files has)
+        lacks files has (inr some) = inr (had (λ machine commands. PrintsSome machine commands before after) some files has)
 
         ended : (answer : Result (Unit {0}) SessionFault) → SessionCall machine commands answer before after → DebugCall debug before after (session_end answer)
         ended (Ok value) call = record {
@@ -187,7 +186,7 @@ module _ (debug : DebugWords) (before : World) (read : DebugFiles) (has : IfSome
           files = call.files_kept;
         }
         ended (Err Fault.OutputFailed) call = record {
-          comes = of-files (λ files. DebugComesTo files debug before after CannotWrite) (had (PrintsSome before after) call.stops);
+          comes = of-files (λ files. DebugComesTo files debug before after CannotWrite) (had (λ machine commands. FailsToPrint machine commands before after) call.stops);
           may = tt;
           devices = tt;
           host = call.output_fault refl;

@@ -1,5 +1,5 @@
 -- A session behind which the drives are emptied.
-use Rattle.std.proofs.Common.{◌≡◌, ◌<◌, ◌≤◌, ℕ, true, Result, Ok, Err, List, [], length, map, All, refl, sym, ap, subst, ◌∙◌, arith}
+use Rattle.std.proofs.Common.{◌≡◌, ◌≢◌, ◌⊎◌, ◌<◌, ◌≤◌, ℕ, true, Result, Ok, Err, List, [], length, map, All, inl, inr, refl, sym, ap, subst, ◌∙◌, arith}
 use Rattle.std.specs.List.{AllZip}
 use Rattle.std.specs.Prelude.{slice_get}
 use Rattle.std.proofs.lemmas.List.{length-map}
@@ -11,6 +11,7 @@ use Rattle.os9_outer.specs.TerminalState.{TerminalState, fault_counts}
 use Rattle.file_drives.specs.Drives.{DriveView, drive_states}
 use Rattle.script_text.specs.Script.{AreKeys, IsKey}
 use Rattle.script_text.specs.declared.script.ScriptKey.{ScriptKey}
+use Rattle.key_dropping.specs.Dropped.{FailsAt}
 use Rattle.os9_words.specs.declared.command.RunWords.{RunWords}
 use Rattle.os9_words.specs.Command.{IsRun}
 use Rattle.boot_images.specs.Drives.{IsEmpty, without_media}
@@ -20,11 +21,12 @@ use Rattle.os9_kernel.specs.Outside.{Outside}
 use Rattle.run_laws.specs.Faults.{NoDriveFailed, NotFailed}
 use Rattle.boot_run.specs.World.{World}
 use Rattle.debug_rules.specs.Course.{Course}
+use Rattle.debug_rules.specs.Prints.{printed_from}
 use Rattle.debug_text.specs.declared.command.Command.{Command}
 use Rattle.event_run.specs.Devices.{Unfailed}
 use Rattle.debug_session.specs.Counts.{FailedOnce, RoseOnce, TerminalRose}
 use Rattle.debug_session.specs.Machine.{CanStart, HasTick, InCourse}
-use Rattle.debug_session.specs.Session.{PrintsFirst, SessionCall, StopsSession}
+use Rattle.debug_session.specs.Session.{FailsToPrint, PrintsFirst, PrintsSome, SessionCall, StopsSession}
 use Rattle.debug_session.specs.declared.machine.Machine.{Machine}
 use Rattle.debug_session.specs.declared.machine.SessionFault.{SessionFault}
 use Rattle.debug_session.specs.declared.machine.SessionFault.TheVariants.{Refused, TerminalFailed, OutputFailed, NoMemory}
@@ -95,15 +97,32 @@ module _ (machine : Machine) (commands : List Command) (before mid : World) (lef
   in-course : (fact : Course → Type 0) → InCourse machine before.devices mid.devices fact → InCourse machine before.devices left fact
   in-course fact holds = λ bare none course is. holds bare (unfailed none) course is
 
+  prints-some : PrintsSome machine commands before mid → PrintsSome machine commands before after
+  prints-some it = (it.0, in-course (PrintsFirst machine commands before mid) it.1)
+
+  fails-to-print : FailsToPrint machine commands before mid → FailsToPrint machine commands before after
+  fails-to-print it =
+      (it.0, in-course (λ course. PrintsFirst machine commands before mid course × (printed_from course 0 commands ≢ [])) it.1)
+
+  unless-kept : (mid.out ≡ before.out) ⊎ PrintsSome machine commands before mid → (after.out ≡ before.out) ⊎ PrintsSome machine commands before after
+  unless-kept (inl same) = inl same
+  unless-kept (inr it) = inr (prints-some it)
+
   stops : (fault : SessionFault) → StopsSession machine commands before mid fault → StopsSession machine commands before after fault
   stops (Refused fault) it = (it.0, same it.1)
   stops (TerminalFailed n) it = record {
     starts = it.starts;
     rose = rose n it.rose;
+    done = it.done;
+    next = it.next;
+    next_is = it.next_is;
+    between = it.between;
+    gains = it.gains;
+    fails = subst (λ (terms : List TerminalState). FailsAt n it.between.terms terms) (sym terms) it.fails;
     prints = λ bare failed course is. it.prints bare (once n failed) course is;
   }
-  stops OutputFailed it = (it.0, in-course (PrintsFirst machine commands before mid) it.1)
-  stops NoMemory it = it
+  stops OutputFailed it = fails-to-print it
+  stops NoMemory it = unless-kept it
 
   pub emptied : {Value : Type 0} (answer : Result Value SessionFault) → SessionCall machine commands answer before mid → SessionCall machine commands answer before after
   emptied (Ok value) call = record {

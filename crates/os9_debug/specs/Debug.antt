@@ -9,8 +9,8 @@ use Rattle.os9_words.specs.declared.debug_words.DebugWords.{DebugWords}
 use Rattle.boot_run.specs.World.{World}
 use Rattle.debug_text.specs.Commands.{commands_of}
 use Rattle.debug_text.specs.declared.command.Command.{Command}
-use Rattle.debug_session.specs.Machine.{HasStart, InCourse}
-use Rattle.debug_session.specs.Session.{PrintsAll, PrintsFirst, StopsAtTerminal}
+use Rattle.debug_session.specs.Machine.{HasStart}
+use Rattle.debug_session.specs.Session.{FailsToPrint, PrintsAll, PrintsSome, StopsAtTerminal}
 use Rattle.debug_session.specs.declared.machine.Machine.{Machine}
 use Rattle.command_files.specs.End.{boot_end, run_file_name}
 use Rattle.command_files.specs.FileNames.{script_names}
@@ -76,16 +76,6 @@ abbrev pub PrintsWhole : World → World → Machine → List Command → Type 0
 PrintsWhole before after machine commands =
     HasStart machine before.devices × PrintsAll machine commands before after
 
--- the machine starts, and the output gained the first of what the commands show
-abbrev pub PrintsSome : World → World → Machine → List Command → Type 0
-PrintsSome before after machine commands =
-    HasStart machine before.devices
-    × InCourse machine before.devices after.devices (PrintsFirst machine commands before after)
-
--- the machine starts
-abbrev pub IsBegun : World → Machine → List Command → Type 0
-IsBegun before machine commands = HasStart machine before.devices
-
 -- the boot file is refused, and the end says why
 abbrev pub EndsRefused : End → Machine → List Command → Type 0
 EndsRefused end machine commands =
@@ -99,11 +89,14 @@ DebugComesTo files debug before after (CannotRead input) = ⊤
 DebugComesTo files debug before after (BadText input line) =
     RefusesText files debug (length before.devices.terms) input line
 DebugComesTo files debug before after CannotWrite =
-    SessionThen files debug (length before.devices.terms) (PrintsSome before after)
+    SessionThen files debug (length before.devices.terms)
+    (λ machine commands. FailsToPrint machine commands before after)
 DebugComesTo files debug before after (TerminalFailed n) =
     SessionThen files debug (length before.devices.terms)
     (λ machine commands. StopsAtTerminal n machine commands before after)
 DebugComesTo files debug before after NoMemory =
-    (after.out ≡ before.out) ⊎ SessionThen files debug (length before.devices.terms) (IsBegun before)
+    (after.out ≡ before.out)
+    ⊎ SessionThen files debug (length before.devices.terms)
+    (λ machine commands. PrintsSome machine commands before after)
 DebugComesTo files debug before after end =
     SessionThen files debug (length before.devices.terms) (EndsRefused end)

@@ -18,7 +18,7 @@ use Rattle.os9_kernel.specs.declared.act.Act.{Act}
 use Rattle.os9_kernel.specs.declared.kernel.Kernel.{Kernel}
 use Rattle.os9_kernel.specs.Next.{DoesNext, act_in_machine, next_of}
 use Rattle.os9_kernel.specs.Outside.{Outside}
-use Rattle.os9_kernel.specs.Slice.{Events, last, more}
+use Rattle.os9_kernel.specs.Slice.{Instructions, last, more}
 use Rattle.os9_kernel.specs.Tie.{Represents, IsGoing}
 use Rattle.kept_laws.proofs.Events.{event-running}
 use Rattle.os9_kernel.proofs.Represented.{act-tied}
@@ -29,11 +29,11 @@ does-next kernel p act chosen process (q, is, lives) next =
     let same : q ≡ p = cc in
     record { chosen = chosen; process = process; lives = subst (λ (r : Pid). IsLiving kernel.processes.table r.0) same lives; next = next }
 
--- events lead from a state of a run to one
-pub events-running : {left count : ℕ} {s t : State} {end : EventEnd} → Events left s count end t → IsRunning s → IsRunning t
-events-running (last {s = s} {t = t} {end = end} some event) running = event-running s t end event running
-events-running (more {s = s} {m = m} some event rest) running =
-    events-running rest (event-running s m EventEnd.Ran event running)
+-- instructions lead from a state of a run to one
+pub instructions-running : {count : ℕ} {s t : State} {end : EventEnd} → Instructions s count end t → IsRunning s → IsRunning t
+instructions-running (last {s = s} {t = t} {end = end} one event) running = event-running s t end event running
+instructions-running (more {s = s} {m = m} one event rest) running =
+    instructions-running rest (event-running s m EventEnd.Ran event running)
 
 module _ (old : Kernel) (p : Pid) (act : Act) (next : DoesNext old p act) (before : Outside) (s : State) (tied : Represents old before s) where
   pub chosen-is : s.chosen ≡ Some p.0

@@ -1,5 +1,5 @@
 -- Instructions that a process executes are events of the machine.
-use Rattle.std.proofs.Common.{◌≡◌, ℕ, ◌+◌, ◌-◌, ◌<◌, ◌≤◌, Some, refl, sym, ap, ◌∙◌, subst, arith}
+use Rattle.std.proofs.Common.{◌≡◌, ℕ, ◌+◌, ◌<◌, Some, refl, sym, ap, ◌∙◌, subst, arith}
 use Rattle.os9_base.specs.declared.registers.Regs.{Regs}
 use Rattle.cpu_model.specs.Effects.{Effect}
 use Rattle.cpu_model.specs.Step.{Outcome, Done}
@@ -13,7 +13,7 @@ use Rattle.event_rules.specs.declared.ends.EventEnd.TheVariants.{Ran}
 use Rattle.event_rules.specs.Event.{next_instruction, after_instruction, instruction_end}
 use Rattle.machine_model.specs.Event.{Acts, Event, cost, files_after_instruction}
 use Rattle.machine_model.specs.State.{State}
-use Rattle.os9_kernel.specs.Slice.{Events, last, more}
+use Rattle.os9_kernel.specs.Slice.{Instructions, last, more}
 use Rattle.os9_kernel.proofs.Executing.{AreDone, none, first, next_outcome}
 use Rattle.os9_kernel.proofs.Columns.{inner_at, inner_at-same, inner_at-then, inner_at-regs, lives-set, living-within, record-put}
 
@@ -57,32 +57,20 @@ module _ (s : State) (p : ℕ) (chosen : s.chosen ≡ Some p) (lives : IsLiving 
         subst (λ (m : Inner). Event (state_at memory regs) Ran (record s { inner = m })) (inner_at-then s.inner p lives memory (written memory p effect.writes) regs effect.regs)
         (instruction-event (Done effect) is)
 
-  events-some : {left : ℕ} {m t : State} {end : EventEnd} {count : ℕ} → Events left m count end t → 0 < left
-  events-some (last some event) = some
-  events-some (more some event rest) = some
-
   -- those that are done, and then others
-  pub done-then : {count : ℕ} {memory now : MemoryState} {regs after : Regs} → AreDone p count memory regs now after → (left others : ℕ) (end : EventEnd) (t : State) → Events (left - count) (state_at now after) others end t → Events left (state_at memory regs) (count + others) end t
-  done-then (none {m = memory} {regs = regs}) left others end t rest =
-      let same : left - 0 ≡ left = omega arith in
+  pub done-then : {count : ℕ} {memory now : MemoryState} {regs after : Regs} → AreDone p count memory regs now after → (others : ℕ) (end : EventEnd) (t : State) → Instructions (state_at now after) others end t → Instructions (state_at memory regs) (count + others) end t
+  done-then (none {m = memory} {regs = regs}) others end t rest =
       let all : others ≡ 0 + others = omega arith in
-      subst (λ n. Events left (state_at memory regs) n end t) all (subst (λ n. Events n (state_at memory regs) others end t) same rest)
-  done-then (first {count = count} {m = memory} {t = now} {regs = regs} {last = after} effect is so_far) left others end t rest =
-      let some : 0 < left - (count + 1) = events-some rest in
-      let one : cost (state_at memory regs) ≡ 1 = cost-one memory regs in
-      let left_is : left - (count + 1) ≡ left - cost (state_at memory regs) - count = omega arith in
-      let later : Events (left - cost (state_at memory regs)) (state_at (written memory p effect.writes) effect.regs) (count + others) end t = done-then so_far (left - cost (state_at memory regs)) others end t (subst (λ n. Events n (state_at now after) others end t) left_is rest) in
-      let sum : cost (state_at memory regs) + (count + others) ≡ count + 1 + others = omega arith in
-      subst (λ n. Events left (state_at memory regs) n end t) sum (more (omega arith) (done-event memory regs effect is) later)
+      subst (λ n. Instructions (state_at memory regs) n end t) all rest
+  done-then (first {count = count} {m = memory} {t = now} {regs = regs} {last = after} effect is so_far) others end t rest =
+      let later : Instructions (state_at (written memory p effect.writes) effect.regs) (count + others) end t = done-then so_far others end t rest in
+      let sum : count + others + 1 ≡ count + 1 + others = omega arith in
+      subst (λ n. Instructions (state_at memory regs) n end t) sum (more (cost-one memory regs) (done-event memory regs effect is) later)
 
-  -- some that are done, as many as are left or fewer
-  pub done-all : {count : ℕ} {memory now : MemoryState} {regs after : Regs} → AreDone p count memory regs now after → (left : ℕ) → 0 < count → count ≤ left → Events left (state_at memory regs) count Ran (state_at now after)
-  done-all none left some few = absurd (omega arith)
-  done-all (first {m = memory} {regs = regs} effect is none) left some few =
-      let one : cost (state_at memory regs) ≡ 0 + 1 = cost-one memory regs in
-      subst (λ n. Events left (state_at memory regs) n Ran (state_at (written memory p effect.writes) effect.regs)) one (last (omega arith) (done-event memory regs effect is))
-  done-all (first {m = memory} {t = now} {regs = regs} {last = after} effect is (first {count = count} another then so_far)) left some few =
-      let one : cost (state_at memory regs) ≡ 1 = cost-one memory regs in
-      let later : Events (left - cost (state_at memory regs)) (state_at (written memory p effect.writes) effect.regs) (count + 1) Ran (state_at now after) = done-all (first another then so_far) (left - cost (state_at memory regs)) (omega arith) (omega arith) in
-      let sum : cost (state_at memory regs) + (count + 1) ≡ count + 1 + 1 = omega arith in
-      subst (λ n. Events left (state_at memory regs) n Ran (state_at now after)) sum (more (omega arith) (done-event memory regs effect is) later)
+  -- some that are done
+  pub done-all : {count : ℕ} {memory now : MemoryState} {regs after : Regs} → AreDone p count memory regs now after → 0 < count → Instructions (state_at memory regs) count Ran (state_at now after)
+  done-all none some = absurd (omega arith)
+  done-all (first {m = memory} {regs = regs} effect is none) some =
+      last (cost-one memory regs) (done-event memory regs effect is)
+  done-all (first {m = memory} {regs = regs} effect is (first {count = count} another then so_far)) some =
+      more (cost-one memory regs) (done-event memory regs effect is) (done-all (first another then so_far) (omega arith))

@@ -1,5 +1,5 @@
 -- What a run of instructions comes to for the machine.
-use Rattle.std.proofs.Common.{◌≡◌, ℕ, ◌+◌, ◌-◌, ◌<◌, Some, refl, sym, subst, arith}
+use Rattle.std.proofs.Common.{◌≡◌, ℕ, ◌+◌, ◌<◌, Some, refl, sym, subst, arith}
 use Rattle.os9_base.specs.declared.registers.Regs.{Regs}
 use Rattle.cpu_model.specs.declared.stop.Stop.{Stop}
 use Rattle.cpu_model.specs.declared.stop.Stop.TheVariants.{Next, Call, Abort}
@@ -14,9 +14,9 @@ use Rattle.call_rules.specs.Ready.{executes, act_of}
 use Rattle.file_rules.specs.Processes.{files_ended}
 use Rattle.event_rules.specs.declared.ends.EventEnd.{EventEnd}
 use Rattle.event_rules.specs.declared.ends.EventEnd.TheVariants.{Ran, Ended}
-use Rattle.machine_model.specs.Event.{Event, cost}
+use Rattle.machine_model.specs.Event.{Event}
 use Rattle.machine_model.specs.State.{State}
-use Rattle.os9_kernel.specs.Slice.{Events, last}
+use Rattle.os9_kernel.specs.Slice.{Instructions, last}
 use Rattle.os9_kernel.proofs.Columns.{inner_at, inner_at-then}
 use Rattle.os9_kernel.proofs.Executing.{next_outcome, follow-done}
 use Rattle.os9_kernel.proofs.Running.{state_at, state_at-same, cost-one, instruction-event, done-then, done-all}
@@ -39,25 +39,23 @@ module _ (s : State) (p : ℕ) (chosen : s.chosen ≡ Some p) (lives : IsLiving 
   at memory regs = state_at s p chosen lives next memory regs
 
   -- from the state itself
-  from-here : (count : ℕ) (end : EventEnd) (u : State) → Events most (at s.inner.memory (regs_at s.inner p)) count end u → Events most s count end u
-  from-here count end u events = subst (λ (here : State). Events most here count end u) (state_at-same s p chosen lives next) events
+  from-here : (count : ℕ) (end : EventEnd) (u : State) → Instructions (at s.inner.memory (regs_at s.inner p)) count end u → Instructions s count end u
+  from-here count end u done = subst (λ (here : State). Instructions here count end u) (state_at-same s p chosen lives next) done
 
-  pub turn-next : ran.stop ≡ Next → Events most s ran.followed Ran (at t now)
+  pub turn-next : ran.stop ≡ Next → Instructions s ran.followed Ran (at t now)
   turn-next is =
       let (before, held, follow, ends) = runs in
       let (all, registers, memory) : EndsInMemory p most ran.followed Next before held now t = subst (λ (stop : Stop). EndsInMemory p most ran.followed stop before held now t) is ends in
-      let events = done-all s p chosen lives next (follow-done p ran.followed (regs_at s.inner p) s.inner.memory before held follow) most (omega arith) (omega arith) in
+      let done = done-all s p chosen lives next (follow-done p ran.followed (regs_at s.inner p) s.inner.memory before held follow) (omega arith) in
       from-here ran.followed Ran (at t now)
-      (subst (λ (x : MemoryState). Events most (at s.inner.memory (regs_at s.inner p)) ran.followed Ran (at x now)) (sym memory)
-      (subst (λ (r : Regs). Events most (at s.inner.memory (regs_at s.inner p)) ran.followed Ran (at held r)) (sym registers) events))
+      (subst (λ (x : MemoryState). Instructions (at s.inner.memory (regs_at s.inner p)) ran.followed Ran (at x now)) (sym memory)
+      (subst (λ (r : Regs). Instructions (at s.inner.memory (regs_at s.inner p)) ran.followed Ran (at held r)) (sym registers) done))
 
   -- one more that is not done
-  one-more : (before : Regs) (held : MemoryState) (end : EventEnd) (u : State) → FollowInMemory p ran.followed (regs_at s.inner p) s.inner.memory before held → ran.followed < most → Event (at held before) end u → Events most s (ran.followed + 1) end u
-  one-more before held end u follow few event =
-      let one : cost (at held before) ≡ 1 = cost-one s p chosen lives next held before in
-      let final : Events (most - ran.followed) (at held before) 1 end u = subst (λ n. Events (most - ran.followed) (at held before) n end u) one (last (omega arith) event) in
+  one-more : (before : Regs) (held : MemoryState) (end : EventEnd) (u : State) → FollowInMemory p ran.followed (regs_at s.inner p) s.inner.memory before held → Event (at held before) end u → Instructions s (ran.followed + 1) end u
+  one-more before held end u follow event =
       from-here (ran.followed + 1) end u
-      (done-then s p chosen lives next (follow-done p ran.followed (regs_at s.inner p) s.inner.memory before held follow) most 1 end u final)
+      (done-then s p chosen lives next (follow-done p ran.followed (regs_at s.inner p) s.inner.memory before held follow) 1 end u (last (cost-one s p chosen lives next held before) event))
 
   -- the processes where one has made a call
   abbrev pub calling : MemoryState → Regs → ℕ → Inner
@@ -75,11 +73,11 @@ module _ (s : State) (p : ℕ) (chosen : s.chosen ≡ Some p) (lives : IsLiving 
       (instruction-event s p chosen lives next held before (Calls other past) is))))
   by_call before held (Aborts status) code is left = cc (left.0)
 
-  pub turn-call : (code : ℕ) → ran.stop ≡ Call code → Events most s (ran.followed + 1) Ran (record s { inner = calling t now code })
+  pub turn-call : (code : ℕ) → ran.stop ≡ Call code → Instructions s (ran.followed + 1) Ran (record s { inner = calling t now code })
   turn-call code is =
       let (before, held, follow, ends) = runs in
       let (few, left) : EndsInMemory p most ran.followed (Call code) before held now t = subst (λ (stop : Stop). EndsInMemory p most ran.followed stop before held now t) is ends in
-      one-more before held Ran (record s { inner = calling t now code }) follow few (by_call before held (next_outcome held p before) code refl left)
+      one-more before held Ran (record s { inner = calling t now code }) follow (by_call before held (next_outcome held p before) code refl left)
 
   by_abort : (before : Regs) (held : MemoryState) (outcome : Outcome) (status : ℕ) → next_outcome held p before ≡ outcome → LeavesMemory p outcome (Abort status) before held now t → Event (at held before) Ended (record s { inner = ended (inner_at s.inner p t now) p status; files = files_ended s.files p })
   by_abort before held (Done effect) status is left = cc (left.0)
@@ -91,8 +89,8 @@ module _ (s : State) (p : ℕ) (chosen : s.chosen ≡ Some p) (lives : IsLiving 
       (subst (λ (r : Regs). Event (at held before) Ended (record s { inner = ended (inner_at s.inner p held r) p other; files = files_ended s.files p })) (sym registers)
       (instruction-event s p chosen lives next held before (Aborts other) is)))
 
-  pub turn-abort : (status : ℕ) → ran.stop ≡ Abort status → Events most s (ran.followed + 1) Ended (record s { inner = ended (inner_at s.inner p t now) p status; files = files_ended s.files p })
+  pub turn-abort : (status : ℕ) → ran.stop ≡ Abort status → Instructions s (ran.followed + 1) Ended (record s { inner = ended (inner_at s.inner p t now) p status; files = files_ended s.files p })
   turn-abort status is =
       let (before, held, follow, ends) = runs in
       let (few, left) : EndsInMemory p most ran.followed (Abort status) before held now t = subst (λ (stop : Stop). EndsInMemory p most ran.followed stop before held now t) is ends in
-      one-more before held Ended (record s { inner = ended (inner_at s.inner p t now) p status; files = files_ended s.files p }) follow few (by_abort before held (next_outcome held p before) status refl left)
+      one-more before held Ended (record s { inner = ended (inner_at s.inner p t now) p status; files = files_ended s.files p }) follow (by_abort before held (next_outcome held p before) status refl left)

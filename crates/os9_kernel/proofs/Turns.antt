@@ -1,5 +1,5 @@
 -- Turns, one after another, make a slice.
-use Rattle.std.proofs.Common.{◌≡◌, ℕ, ◌+◌, ◌-◌, ◌<◌, false, Option, Some, None, List, [], ◌∷◌, ◌++◌, refl, sym, ◌∙◌, subst, arith, append_assoc, append-nil}
+use Rattle.std.proofs.Common.{◌≡◌, ℕ, ◌+◌, ◌-◌, ◌<◌, ◌≤◌, false, Option, Some, None, List, [], ◌∷◌, ◌++◌, inl, inr, refl, sym, ◌∙◌, subst, arith, append_assoc, append-nil}
 use Rattle.std.specs.Prelude.{MatchOption}
 use Rattle.os9_base.specs.declared.registers.Pid.{Pid}
 use Rattle.event_rules.specs.declared.ends.EventEnd.{EventEnd}
@@ -13,17 +13,16 @@ use Rattle.os9_kernel.specs.declared.kernel.Kernel.{Kernel}
 use Rattle.os9_kernel.specs.Calls.{HasEvent}
 use Rattle.os9_kernel.specs.Next.{DoesNext, HasTurn, act_in_machine}
 use Rattle.os9_kernel.specs.Outside.{Outside}
-use Rattle.os9_kernel.specs.Slice.{Events, last, more}
+use Rattle.os9_kernel.specs.Slice.{Instructions, IsTurn, last, more}
 use Rattle.os9_kernel.specs.Tie.{pending}
 use Rattle.os9_kernel.proofs.Acting.{cost-is}
 
 -- an event that costs nothing is a turn
-pub turn-of : (left : ℕ) (old new : Kernel) (p : Pid) (act : Act) (next : DoesNext old p act) → cost_of (act_in_machine act) ≡ 0 → (before after : Outside) (end : EventEnd) → 0 < left → HasEvent old new before after end → (end ≡ EventEnd.Ran → pending new < pending old) → HasTurn left old new before after (record { count = 0; end = end })
-turn-of left old new p act next free before after end some event progress = record {
+pub turn-of : (left : ℕ) (old new : Kernel) (p : Pid) (act : Act) (next : DoesNext old p act) → cost_of (act_in_machine act) ≡ 0 → (before after : Outside) (end : EventEnd) → HasEvent old new before after end → (end ≡ EventEnd.Ran → pending new < pending old) → HasTurn left old new before after (record { count = 0; end = end })
+turn-of left old new p act next free before after end event progress = record {
   step = λ other s tied.
       let (t, happens, there) = event.step other s tied in
-      let nothing : cost s ≡ 0 = cost-is old p act next before s tied ∙ free in
-      (t, subst (λ n. Events left s n end t) nothing (last some happens), there);
+      (t, inl (refl, cost-is old p act next before s tied ∙ free, happens), there);
   memory = event.memory;
   going = event.going;
   few = omega arith;
@@ -72,13 +71,20 @@ before-turned left rest m u t some event it = record {
   begun = λ states v more. (some, event, it.begun states v more);
 }
 
+-- instructions behind which the process goes on
+instructed : {m t : State} {end : EventEnd} {count : ℕ} → Instructions m count end t → end ≡ EventEnd.Ran → (left : ℕ) → count ≤ left → Turned left m (left - count) t
+instructed (last {s = m} {t = t} one event) is left few =
+    subst (λ n. Turned left m (left - n) t) one (one-turned left m t (omega (arith, few)) (subst (λ (e : EventEnd). Event m e t) is event))
+instructed (more {count = count} {s = m} {m = next} {t = t} one event rest) is left few =
+    let left_is : left - cost m - count ≡ left - (count + 1) = omega (arith, one, few) in
+    subst (λ k. Turned left m k t) left_is (before-turned left (left - cost m - count) m next t (omega (arith, few)) event (instructed rest is (left - cost m) (omega (arith, one, few))))
+
 -- a turn behind which the process goes on
-pub turned : {left : ℕ} {m t : State} {end : EventEnd} {count : ℕ} → Events left m count end t → end ≡ EventEnd.Ran → Turned left m (left - count) t
-turned (last {left = left} {s = m} {t = t} some event) is =
-    one-turned left m t some (subst (λ (e : EventEnd). Event m e t) is event)
-turned (more {left = left} {count = count} {s = m} {m = next} {t = t} some event rest) is =
-    let left_is : left - cost m - count ≡ left - (cost m + count) = omega arith in
-    subst (λ k. Turned left m k t) left_is (before-turned left (left - cost m - count) m next t some event (turned rest is))
+pub turned : (m t : State) (end : EventEnd) (count : ℕ) → IsTurn m count end t → end ≡ EventEnd.Ran → (left : ℕ) → 0 < left → count ≤ left → Turned left m (left - count) t
+turned m t end count (inl (none, free, event)) is left some few =
+    let rest : left - cost m ≡ left - count = omega (arith, none, free) in
+    subst (λ k. Turned left m k t) rest (one-turned left m t some (subst (λ (e : EventEnd). Event m e t) is event))
+turned m t end count (inr done) is left some few = instructed done is left few
 
 -- from where the slice began
 pub turn-continues : (n left rest : ℕ) (s m t : State) (all : List State) (it : Turned left m rest t) → ContinuesFrom n s all left m → ContinuesFrom n s (all ++ (it.first ∷ it.later)) rest t
@@ -90,11 +96,17 @@ turn-begins n left rest s m t all it so_far states u steps =
     subst (λ states. FirstSteps n s states u) (sym (append_assoc all (it.first ∷ it.later) states)) (so_far (it.first ∷ (it.later ++ states)) u (it.begun states u steps))
 
 -- a turn behind which it does not
-pub turn-ends : {left : ℕ} {m t : State} {end : EventEnd} {count : ℕ} → Events left m count end t → is_going end ≡ false → (first : State) × (later : List State) × Steps left m (first ∷ later) t
-turn-ends (last {t = t} {end = end} some event) over = (t, [], (some, end, event, rw over (refl, refl)))
-turn-ends (more {m = next} some event rest) over =
-    let (first, later, steps) = turn-ends rest over in
-    (next, first ∷ later, (some, EventEnd.Ran, event, steps))
+instructions-end : {m t : State} {end : EventEnd} {count : ℕ} → Instructions m count end t → is_going end ≡ false → (left : ℕ) → count ≤ left → (first : State) × (later : List State) × Steps left m (first ∷ later) t
+instructions-end (last {t = t} {end = end} one event) over left few =
+    (t, [], (omega (arith, few), end, event, rw over (refl, refl)))
+instructions-end (more {s = m} {m = next} one event rest) over left few =
+    let (first, later, steps) = instructions-end rest over (left - cost m) (omega (arith, one, few)) in
+    (next, first ∷ later, (omega (arith, few), EventEnd.Ran, event, steps))
+
+pub turn-ends : (m t : State) (end : EventEnd) (count : ℕ) → IsTurn m count end t → is_going end ≡ false → (left : ℕ) → 0 < left → count ≤ left → (first : State) × (later : List State) × Steps left m (first ∷ later) t
+turn-ends m t end count (inl (none, free, event)) over left some few =
+    (t, [], (some, end, event, rw over (refl, refl)))
+turn-ends m t end count (inr done) over left some few = instructions-end done over left few
 
 -- the slice is over where its instructions are executed
 pub used-up : (n left : ℕ) (s m : State) (all : List State) → left ≡ 0 → ContinuesFrom n s all left m → Steps n s all m
@@ -128,15 +140,19 @@ slice-ran n p s ticked chosen t states ticks chooses some steps = (
   subst (λ (who : Option ℕ). MatchOption who ((Ran ≡ Idle) × (states ≡ []) × (t ≡ chosen)) (λ p. (Ran ≡ Ran) × Steps n chosen states t)) (sym some) (refl, steps),
 )
 
-events-some : {left : ℕ} {m t : State} {end : EventEnd} {count : ℕ} → Events left m count end t → 0 < left
-events-some (last some event) = some
-events-some (more some event rest) = some
+done-some : {m t : State} {end : EventEnd} {count : ℕ} → Instructions m count end t → 0 < count
+done-some (last one event) = omega arith
+done-some (more one event rest) = omega arith
 
--- with one instruction left, an instruction is the only event
-pub single : {left : ℕ} {m t : State} {end : EventEnd} {count : ℕ} → Events left m count end t → left ≡ 1 → cost m ≡ 1 → Event m end t
-single (last some event) is one = event
-single (more some event rest) is one = absurd (omega (arith, events-some rest))
+single-done : {m t : State} {end : EventEnd} {count : ℕ} → Instructions m count end t → count ≤ 1 → Event m end t
+single-done (last one event) few = event
+single-done (more one event rest) few = absurd (omega (arith, few, done-some rest))
 
-pub single-count : {left : ℕ} {m t : State} {end : EventEnd} {count : ℕ} → Events left m count end t → left ≡ 1 → cost m ≡ 1 → count ≡ cost m
-single-count (last some event) is one = refl
-single-count (more some event rest) is one = absurd (omega (arith, events-some rest))
+-- if one instruction is left, an instruction is the only event
+pub single : (m t : State) (end : EventEnd) (count : ℕ) → IsTurn m count end t → count ≤ 1 → cost m ≡ 1 → Event m end t
+single m t end count (inl (none, free, event)) few one = event
+single m t end count (inr done) few one = single-done done few
+
+pub single-count : (m t : State) (end : EventEnd) (count : ℕ) → IsTurn m count end t → count ≤ 1 → cost m ≡ 1 → count ≡ cost m
+single-count m t end count (inl (none, free, event)) few one = absurd (omega (arith, free, one))
+single-count m t end count (inr done) few one = omega (arith, done-some done, few, one)

@@ -14,7 +14,7 @@ use Rattle.os9_kernel.specs.declared.turn.Turn.{Turn}
 use Rattle.os9_kernel.specs.Calls.{BreaksOff}
 use Rattle.os9_kernel.specs.Changes.{KeepsUnasked}
 use Rattle.os9_kernel.specs.Outside.{Outside}
-use Rattle.os9_kernel.specs.Slice.{Events}
+use Rattle.os9_kernel.specs.Slice.{IsTurn}
 use Rattle.os9_kernel.specs.Tie.{Represents, IsGoing, ticks, pending}
 
 -- what the machine calls an act
@@ -38,9 +38,9 @@ pub record DoesNext (kernel : Kernel) (p : Pid) (act : Act) : Type 0 where
 
 -- a turn of the chosen process, with so many instructions left
 pub record HasTurn (left : ℕ) (old new : Kernel) (before after : Outside) (turn : Turn) : Type 0 where
-  -- its events are some of the machine
+  -- it is one of the machine
   pub step : turn.end ≢ EventEnd.NoMemory → (s : State) → Represents old before s
-      → (t : State) × Events left s turn.count turn.end t × Represents new after t
+      → (t : State) × IsTurn s turn.count turn.end t × Represents new after t
   pub memory : turn.end ≡ EventEnd.NoMemory → BreaksOff old before after
   -- the chosen process lives still, where it goes on; then instructions were executed, or less is pending
   pub going : turn.end ≡ EventEnd.Ran → IsGoing new

@@ -1,5 +1,5 @@
 -- Slices in pieces.
-use Rattle.std.specs.Prelude.{◌≡◌, ◌≢◌, ℕ, ◌+◌, ◌-◌, ◌<◌, List}
+use Rattle.std.specs.Prelude.{◌≡◌, ◌≢◌, ◌⊎◌, ℕ, ◌+◌, List}
 use Rattle.event_rules.specs.declared.ends.EventEnd.{EventEnd}
 use Rattle.event_rules.specs.declared.ends.SliceEnd.{SliceEnd}
 use Rattle.machine_model.specs.Event.{Event, cost}
@@ -11,12 +11,15 @@ use Rattle.os9_kernel.specs.Changes.{KeepsImages}
 use Rattle.os9_kernel.specs.Outside.{Outside}
 use Rattle.os9_kernel.specs.Tie.{Represents, ticks}
 
--- Events one after another, while so many instructions are left before each: so many are executed, all go on but
--- perhaps the last, which ends so.
-pub data Events : ℕ → State → ℕ → EventEnd → State → Type 0 where
-  last : {left : ℕ} {s t : State} {end : EventEnd} → 0 < left → Event s end t → Events left s (cost s) end t
-  more : {left count : ℕ} {s m t : State} {end : EventEnd} → 0 < left → Event s EventEnd.Ran m
-      → Events (left - cost s) m count end t → Events left s (cost s + count) end t
+-- So many instructions one after another, each an event: all go on but perhaps the last, which ends so.
+pub data Instructions : State → ℕ → EventEnd → State → Type 0 where
+  last : {s t : State} {end : EventEnd} → cost s ≡ 1 → Event s end t → Instructions s 1 end t
+  more : {count : ℕ} {s m t : State} {end : EventEnd} → cost s ≡ 1 → Event s EventEnd.Ran m
+      → Instructions m count end t → Instructions s (count + 1) end t
+
+-- a turn in which so many instructions are executed: one other event, which executes none; or instructions alone
+abbrev pub IsTurn : State → ℕ → EventEnd → State → Type 0
+IsTurn s count end t = ((count ≡ 0) × (cost s ≡ 0) × Event s end t) ⊎ Instructions s count end t
 
 -- the events of a slice, of which so many instructions are left
 pub record HasEvents (left : ℕ) (old new : Kernel) (before after : Outside) (end : SliceEnd) : Type 0

@@ -4,6 +4,7 @@
 pub use event_rules::ends::{BootFault, EventEnd, SliceEnd};
 pub use kernel::Kernel;
 pub use new::{Config, StartError};
+pub use turn::Turn;
 
 mod act;
 mod calls;

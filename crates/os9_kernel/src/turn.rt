@@ -1,10 +1,10 @@
 //! Turns of the chosen process, one after another, make a slice.
 
-ghost use Rattle.std.specs.Prelude.{◌≡◌, ◌<◌, vec_len};
+ghost use Rattle.std.specs.Prelude.{◌≡◌, ◌<◌, ◌+◌, ◌^◌, vec_len};
 ghost use Rattle.os9_kernel.specs.Next.{HasTurn};
 ghost use Rattle.os9_kernel.specs.Outside.{OnDevices, outside};
 ghost use Rattle.os9_kernel.specs.Slice.{HasEvents};
-ghost use Rattle.os9_kernel.specs.Tie.{IsGoing, Stands};
+ghost use Rattle.os9_kernel.specs.Tie.{IsGoing, Stands, executed};
 
 use crate::act::Act;
 use crate::kernel::Kernel;
@@ -47,18 +47,20 @@ impl Kernel {
         SliceEnd::Ran
     }
 
-    /// The next event of the chosen process; or where it is an instruction, as many of these as come
-    /// one after another, but at most so many.
-    fn turn(&mut self, left: u32, devices: &mut Devices) -> Turn
+    /// The next event of the chosen process, which has to live. If it is an instruction, those that
+    /// follow it without another event are executed too, `left` at most. At `NoMemory` the kernel is
+    /// used no more.
+    pub fn turn(&mut self, left: u32, devices: &mut Devices) -> Turn
         requires going { IsGoing self.old }
         requires stands { Stands self.old
             (outside ⟦<dyn BlockDriver as BlockDriver>⟧ devices.old.drives.items
             ⟦<dyn CharDriver as CharDriver>⟧ devices.old.terms.items) }
         requires some { 0 < left }
-        ensures turn { OnDevices
-            (λ before after. HasTurn left self.old self.new before after result)
+        ensures turn { OnDevices (λ old new. HasTurn left self.old self.new old new result)
             ⟦<dyn BlockDriver as BlockDriver>⟧ devices.old.drives.items devices.new.drives.items
             ⟦<dyn CharDriver as CharDriver>⟧ devices.old.terms.items devices.new.terms.items }
+        ensures executed { executed self.old + result.count < 2 ^ 32
+            → executed self.new ≡ executed self.old + result.count }
         ensures terminals { vec_len devices.new.terms ≡ vec_len devices.old.terms }
         ensures drives { vec_len devices.new.drives ≡ vec_len devices.old.drives }
     {

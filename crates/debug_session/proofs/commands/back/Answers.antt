@@ -1,8 +1,8 @@
 use Rattle.std.proofs.Common.{◌≡◌, ◌-◌, List, ℕ, subst, sym, arith}
 use Rattle.os9_kernel.specs.Outside.{outside}
-use Rattle.debug_text.specs.declared.command.Command.TheVariants.{Back}
+use Rattle.debug_text.specs.declared.command.Command.TheVariants.{To, Back}
 use Rattle.debug_session.specs.Moves.{HasShown}
-use Rattle.debug_session.proofs.Going.{moves-as, moves-not, shown-any}
+use Rattle.debug_session.proofs.Going.{may-back, moves-as, moves-not, shown-any}
 use Rattle.debug_session.proofs.commands.back.Goals as goal
 
 pub go_to-requires : goal.go_to-requires
@@ -10,7 +10,7 @@ go_to-requires g c = c.requires
 
 pub returns-in-Ok-clause-moved : goal.returns-in-Ok-clause-moved
 returns-in-Ok-clause-moved g c =
-    moves-as _ _ c.args.machine.now c.args.position.now c.go_to.new.position _ _ c.in-Ok.ensures.moved
+    moves-as _ _ c.args.machine.now (To c.saturating_sub-k.result) (Back c.args.n) c.args.position.now c.go_to.new.position _ _ c.in-Ok.ensures.moved
 
 pub returns-in-Ok-clause-shown : goal.returns-in-Ok-clause-shown
 returns-in-Ok-clause-shown g c =
@@ -22,4 +22,5 @@ returns-in-Ok-clause-shown g c =
 
 pub returns-in-Err-clause-moved : goal.returns-in-Err-clause-moved
 returns-in-Err-clause-moved g c =
-    moves-not c.args.machine.now c.args.position.now _ c.in-Err.fault _ _ c.in-Err.ensures.moved.fails
+    let place : c.saturating_sub-k.result ≡ c.args.position.now.events - c.args.n = omega arith in
+    moves-not c.args.machine.now (Back c.args.n) c.args.position.now _ c.in-Err.fault _ _ c.in-Err.ensures.moved.fails (may-back c.args.n c.saturating_sub-k.result c.args.position.now.events c.in-Err.fault place c.in-Err.ensures.moved.may_fail)

@@ -25,10 +25,16 @@ instruction_lines-requires g c =
     at.goes_on.numbered
 
 pub returns-in-To-clause-moved : goal.returns-in-To-clause-moved
-returns-in-To-clause-moved g c = c.to.ensures.moved
+returns-in-To-clause-moved g c =
+    let before = outside (λ table. (g.dyn-1.0.entry table).1) c.args.devices.now.drives.items (λ table. (g.dyn-2.0.entry table).1) c.args.devices.now.terms.items in
+    let after = outside (λ table. (g.dyn-1.0.entry table).1) c.to.new.devices.drives.items (λ table. (g.dyn-2.0.entry table).1) c.to.new.devices.terms.items in
+    subst (λ (command : Command). MovesOn c.args.machine.now command c.args.position.now c.to.new.position c.to.result before after) (sym c.in-To.is) c.to.ensures.moved
 
 pub returns-in-Back-clause-moved : goal.returns-in-Back-clause-moved
-returns-in-Back-clause-moved g c = c.back.ensures.moved
+returns-in-Back-clause-moved g c =
+    let before = outside (λ table. (g.dyn-1.0.entry table).1) c.args.devices.now.drives.items (λ table. (g.dyn-2.0.entry table).1) c.args.devices.now.terms.items in
+    let after = outside (λ table. (g.dyn-1.0.entry table).1) c.back.new.devices.drives.items (λ table. (g.dyn-2.0.entry table).1) c.back.new.devices.terms.items in
+    subst (λ (command : Command). MovesOn c.args.machine.now command c.args.position.now c.back.new.position c.back.result before after) (sym c.in-Back.is) c.back.ensures.moved
 
 pub returns-in-To-clause-shown : goal.returns-in-To-clause-shown
 returns-in-To-clause-shown g c =
@@ -45,8 +51,8 @@ returns-in-Back-clause-shown g c =
 pub returns-in-Regs-clause-moved : goal.returns-in-Regs-clause-moved
 returns-in-Regs-clause-moved g c =
     let devices = outside (λ table. (g.dyn-1.0.entry table).1) c.args.devices.now.drives.items (λ table. (g.dyn-2.0.entry table).1) c.args.devices.now.terms.items in
-    subst (λ answer. MovesOn c.args.machine.now c.args.position.now c.args.position.now answer devices devices) (sym c.told.ensures)
-    (moves-told c.regs_line.result (tt {0}) c.args.machine.now c.args.position.now c.args.position.now devices devices (moves-nowhere (tt {0}) c.args.machine.now c.args.position.now devices))
+    subst (λ answer. MovesOn c.args.machine.now c.args.command c.args.position.now c.args.position.now answer devices devices) (sym c.told.ensures)
+    (moves-told c.regs_line.result (tt {0}) c.args.machine.now c.args.command c.args.position.now c.args.position.now devices devices (moves-nowhere (tt {0}) c.args.machine.now c.args.command c.args.position.now devices))
 
 pub returns-in-Regs-clause-shown : goal.returns-in-Regs-clause-shown
 returns-in-Regs-clause-shown g c =
@@ -60,8 +66,8 @@ returns-in-Regs-clause-shown g c =
 pub returns-in-Mem-clause-moved : goal.returns-in-Mem-clause-moved
 returns-in-Mem-clause-moved g c =
     let devices = outside (λ table. (g.dyn-1.0.entry table).1) c.args.devices.now.drives.items (λ table. (g.dyn-2.0.entry table).1) c.args.devices.now.terms.items in
-    subst (λ answer. MovesOn c.args.machine.now c.args.position.now c.args.position.now answer devices devices) (sym c.told-in-Mem.ensures)
-    (moves-told c.memory_line.result (tt {0}) c.args.machine.now c.args.position.now c.args.position.now devices devices (moves-nowhere (tt {0}) c.args.machine.now c.args.position.now devices))
+    subst (λ answer. MovesOn c.args.machine.now c.args.command c.args.position.now c.args.position.now answer devices devices) (sym c.told-in-Mem.ensures)
+    (moves-told c.memory_line.result (tt {0}) c.args.machine.now c.args.command c.args.position.now c.args.position.now devices devices (moves-nowhere (tt {0}) c.args.machine.now c.args.command c.args.position.now devices))
 
 pub returns-in-Mem-clause-shown : goal.returns-in-Mem-clause-shown
 returns-in-Mem-clause-shown g c =
@@ -75,8 +81,8 @@ returns-in-Mem-clause-shown g c =
 pub returns-in-Dis-clause-moved : goal.returns-in-Dis-clause-moved
 returns-in-Dis-clause-moved g c =
     let devices = outside (λ table. (g.dyn-1.0.entry table).1) c.args.devices.now.drives.items (λ table. (g.dyn-2.0.entry table).1) c.args.devices.now.terms.items in
-    subst (λ answer. MovesOn c.args.machine.now c.args.position.now c.args.position.now answer devices devices) (sym c.told-in-Dis.ensures)
-    (moves-told c.instruction_lines.result (tt {0}) c.args.machine.now c.args.position.now c.args.position.now devices devices (moves-nowhere (tt {0}) c.args.machine.now c.args.position.now devices))
+    subst (λ answer. MovesOn c.args.machine.now c.args.command c.args.position.now c.args.position.now answer devices devices) (sym c.told-in-Dis.ensures)
+    (moves-told c.instruction_lines.result (tt {0}) c.args.machine.now c.args.command c.args.position.now c.args.position.now devices devices (moves-nowhere (tt {0}) c.args.machine.now c.args.command c.args.position.now devices))
 
 pub returns-in-Dis-clause-shown : goal.returns-in-Dis-clause-shown
 returns-in-Dis-clause-shown g c =

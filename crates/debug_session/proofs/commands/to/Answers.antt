@@ -12,7 +12,7 @@ go_to-requires g c = c.requires
 
 pub returns-in-Ok-Event-clause-moved : goal.returns-in-Ok-Event-clause-moved
 returns-in-Ok-Event-clause-moved g c =
-    moves-as _ _ c.args.machine.now c.args.position.now c.go_to.new.position _ _ c.in-Ok-Event.ensures.moved
+    moves-as _ _ c.args.machine.now (To c.args.k) (To c.args.k) c.args.position.now c.go_to.new.position _ _ c.in-Ok-Event.ensures.moved
 
 pub returns-in-Ok-Event-clause-shown : goal.returns-in-Ok-Event-clause-shown
 returns-in-Ok-Event-clause-shown g c =
@@ -25,8 +25,8 @@ pub returns-in-Ok-End-clause-moved : goal.returns-in-Ok-End-clause-moved
 returns-in-Ok-End-clause-moved g c =
     let before = outside (λ table. (g.dyn-1.0.entry table).1) c.args.devices.now.drives.items (λ table. (g.dyn-2.0.entry table).1) c.args.devices.now.terms.items in
     let after = outside (λ table. (g.dyn-1.0.entry table).1) c.go_to.new.devices.drives.items (λ table. (g.dyn-2.0.entry table).1) c.go_to.new.devices.terms.items in
-    subst (λ answer. MovesOn c.args.machine.now c.args.position.now c.go_to.new.position answer before after) (sym c.told.ensures)
-    (moves-told c.end_line.result _ c.args.machine.now c.args.position.now c.go_to.new.position before after c.in-Ok-End.ensures.moved)
+    subst (λ answer. MovesOn c.args.machine.now (To c.args.k) c.args.position.now c.go_to.new.position answer before after) (sym c.told.ensures)
+    (moves-told c.end_line.result _ c.args.machine.now (To c.args.k) c.args.position.now c.go_to.new.position before after c.in-Ok-End.ensures.moved)
 
 pub returns-in-Ok-End-clause-shown : goal.returns-in-Ok-End-clause-shown
 returns-in-Ok-End-clause-shown g c =
@@ -38,4 +38,4 @@ returns-in-Ok-End-clause-shown g c =
 
 pub returns-in-Err-clause-moved : goal.returns-in-Err-clause-moved
 returns-in-Err-clause-moved g c =
-    moves-not c.args.machine.now c.args.position.now _ c.in-Err.fault _ _ c.in-Err.ensures.moved.fails
+    moves-not c.args.machine.now (To c.args.k) c.args.position.now _ c.in-Err.fault _ _ c.in-Err.ensures.moved.fails c.in-Err.ensures.moved.may_fail

@@ -4,13 +4,14 @@ use Rattle.std.specs.Vec.{vec_len}
 use Rattle.std.proofs.lemmas.List.{length-map}
 use Rattle.os9_outer.specs.TerminalState.{TerminalState, terminal_states}
 use Rattle.key_loading.specs.Loaded.{HasNoKeys, loaded}
-use Rattle.file_drives.specs.Drives.{drive_views}
+use Rattle.file_drives.specs.Drives.{drive_states, drive_views}
 use Rattle.os9_kernel.specs.Outside.{outside}
 use Rattle.boot_run.proofs.MachineLemmas.{drives-counted, where-refused}
 use Rattle.debug_session.specs.Machine.{start_fault}
 use Rattle.debug_session.specs.Moves.{HasStarted}
 use Rattle.debug_session.specs.declared.machine.SessionFault.{SessionFault}
 use Rattle.debug_session.specs.declared.machine.SessionFault.TheVariants.{NoMemory}
+use Rattle.debug_session.proofs.Counted.{fell-kept}
 use Rattle.debug_session.proofs.Starting.{has-started, no-drive, no-images, no-start, no-volumes, start-refused}
 use Rattle.debug_session.proofs.machine.start.Goals as goal
 
@@ -42,10 +43,17 @@ returns-in-Err-Boot-clause-started g c =
     let same = where-refused c.in-Err-Boot.field-0 (λ same. ap (λ devices. outside (λ table. (g.dyn-1.0.entry table).1) devices.drives.items (λ table. (g.dyn-2.0.entry table).1) devices.terms.items) same) c.in-Err-Boot.ensures.untouched in
     subst (λ (fault : SessionFault). HasStarted c.args.machine.now (Err fault) before after)
     (sym (c.fault_of.ensures ∙ ap start_fault c.in-Err-Boot.fault-is))
-    (start-refused c.args.machine.now c.in-Err-Boot.field-0 c.in-Err-Boot.fault before after c.in-Err-Boot.field-0-is c.in-Err-Boot.ensures.starts.refused same)
+    (start-refused c.args.machine.now c.in-Err-Boot.field-0 c.in-Err-Boot.fault before after c.in-Err-Boot.field-0-is c.in-Err-Boot.ensures.starts.refused same (ap (λ terms. terminal_states (λ table. (g.dyn-2.0.entry table).1) terms.items) c.in-Err-Boot.ensures.terms_kept) c.in-Err-Boot.ensures.starts.drives)
 
 pub returns-in-Err-clause-started : goal.returns-in-Err-clause-started
-returns-in-Err-clause-started g c = no-start c.args.machine.now NoMemory _ _ tt
+returns-in-Err-clause-started g c =
+    let before = outside (λ table. (g.dyn-1.0.entry table).1) c.args.devices.now.drives.items (λ table. (g.dyn-2.0.entry table).1) c.args.devices.now.terms.items in
+    let started = outside (λ table. (g.dyn-1.0.entry table).1) c.new.new.devices.drives.items (λ table. (g.dyn-2.0.entry table).1) c.new.new.devices.terms.items in
+    let after = outside (λ table. (g.dyn-1.0.entry table).1) c.load_keys.new.devices.drives.items (λ table. (g.dyn-2.0.entry table).1) c.load_keys.new.devices.terms.items in
+    let moved : drive_states started.drives ≡ drive_states before.drives = c.in-Ok.ensures.starts.drives.moves in
+    let drives : drive_states after.drives ≡ drive_states started.drives = ap (λ drives. drive_states (drive_views (λ table. (g.dyn-1.0.entry table).1) drives.items)) c.in-Err.ensures.drives_kept in
+    let terms = ap (λ devices. terminal_states (λ table. (g.dyn-2.0.entry table).1) devices.terms.items) c.in-Err.ensures.kept ∙ ap (λ terms. terminal_states (λ table. (g.dyn-2.0.entry table).1) terms.items) c.in-Ok.ensures.terms_kept in
+    no-start c.args.machine.now NoMemory before after (fell-kept before after terms (drives ∙ moved))
 
 pub returns-in-Ok-load_keys-clause-started : goal.returns-in-Ok-load_keys-clause-started
 returns-in-Ok-load_keys-clause-started g c =

@@ -1,9 +1,11 @@
 use Rattle.std.proofs.Common.{◌≡◌, Ok, subst}
 use Rattle.os9_kernel.specs.Outside.{outside}
+use Rattle.debug_text.specs.declared.command.Command.TheVariants.{To}
 use Rattle.event_run.specs.Moves.{HasGone}
 use Rattle.event_run.specs.declared.position.Step.{Step}
 use Rattle.event_run.specs.declared.position.Step.TheVariants.{Event, End}
 use Rattle.debug_session.specs.declared.machine.SessionFault.TheVariants.{NoMemory}
+use Rattle.debug_session.proofs.Counted.{fell-gained, fell-then}
 use Rattle.debug_session.proofs.Going.{at-end, moves-not, moves-on}
 use Rattle.debug_session.proofs.moves.go_to.Goals as goal
 
@@ -17,7 +19,7 @@ advance_to-requires-clause-goes_on g c =
 
 pub returns-in-Err-clause-moved : goal.returns-in-Err-clause-moved
 returns-in-Err-clause-moved g c =
-    moves-not c.args.machine.now c.args.position.now _ c.in-Err.fault _ _ c.in-Err.ensures.moved.fails
+    moves-not c.args.machine.now (To c.args.k) c.args.position.now _ c.in-Err.fault _ _ c.in-Err.ensures.moved.fails c.in-Err.ensures.moved.may_fail
 
 pub returns-in-Err-clause-reached : goal.returns-in-Err-clause-reached
 returns-in-Err-clause-reached g c = λ e. cc e
@@ -42,7 +44,8 @@ returns-in-Ok-advance_to-clause-end g c = λ is.
     at-end _ c.args.machine.now c.args.k c.args.position.now c.go_back.new.position c.advance_to.new.self _ _ _ c.in-Ok.ensures.moved (subst (λ (step : Step). HasGone c.args.k c.args.machine.now.slices.now c.go_back.new.position c.advance_to.new.self (Ok step) between after) same c.in-Ok-advance_to.ensures.gone)
 
 pub returns-in-Err-advance_to-clause-moved : goal.returns-in-Err-advance_to-clause-moved
-returns-in-Err-advance_to-clause-moved g c = moves-not c.args.machine.now c.args.position.now _ NoMemory _ _ tt
+returns-in-Err-advance_to-clause-moved g c =
+    moves-not c.args.machine.now (To c.args.k) c.args.position.now _ NoMemory _ _ (fell-then _ _ _ c.in-Ok.ensures.moved.counts (fell-gained _ _ c.in-Err-advance_to.ensures.gone.gains)) tt
 
 pub returns-in-Err-advance_to-clause-reached : goal.returns-in-Err-advance_to-clause-reached
 returns-in-Err-advance_to-clause-reached g c = λ e. cc e

@@ -1,4 +1,4 @@
-use Rattle.std.proofs.Common.{◌≡◌, ℕ, List, inr, subst, ◌+◌, ◌≤◌, ◌∷◌, drop, length, get_or, refl, ap, ◌∙◌, rules}
+use Rattle.std.proofs.Common.{◌≡◌, ◌≢◌, ℕ, List, [], inr, subst, ◌+◌, ◌≤◌, ◌∷◌, drop, length, get_or, refl, ap, ◌∙◌, rules}
 use Rattle.std.proofs.lemmas.List.{drop_more}
 use Rattle.os9_outer.specs.Stream.{GainsPrefix, stream_with}
 use Rattle.debug_text.specs.declared.command.Command.TheVariants.{To}
@@ -7,7 +7,7 @@ use Rattle.os9_words.proofs.NoteLemmas.{notes-kept}
 use Rattle.boot_run.specs.World.{world_of}
 use Rattle.debug_session.specs.declared.machine.SessionFault.TheVariants.{NoMemory}
 use Rattle.debug_session.proofs.Starting.{first-position}
-use Rattle.debug_session.proofs.Printing.{move-no-output, session-done, session-output, session-stopped, so-far-all, so-far-more, so-far-none, so-far-part, so-far-stops, start-no-output, start-stops}
+use Rattle.debug_session.proofs.Printing.{move-no-output, session-done, session-output, session-stopped, so-far-all, so-far-breaks, so-far-more, so-far-none, so-far-part, so-far-stops, start-no-output, start-stops}
 use Rattle.debug_session.proofs.session.debug.Goals as goal
 
 pub returns-in-Err-clause-call : goal.returns-in-Err-clause-call
@@ -48,11 +48,14 @@ returns-in-Err-obey-clause-call g c =
     let after = outside (λ table. (g.dyn-1.0.entry table).1) c.obey.new.devices.drives.items (λ table. (g.dyn-2.0.entry table).1) c.obey.new.devices.terms.items in
     let inv = c.loop-command.invariant in
     let fails = c.in-Err-obey.ensures.moved.fails in
+    let i = c.loop-command.command-index in
+    let commands = c.args.commands.now in
+    let next : drop i commands ≡ get_or commands i (To 0) ∷ drop (i + 1) commands = drop_more commands i (To 0) (search rules) in
     let before = world_of g.H.Host c.args.host.now first in
     let later = world_of g.H.Host c.loop-command.host after in
     session-stopped c.args.machine.now c.args.commands.now before later inv.files c.in-Err-obey.fault
     (move-no-output c.args.machine.now between after c.in-Err-obey.fault fails) inv.none
-    (so-far-stops c.args.machine.now c.args.commands.now before between c.loop-command.command-index c.loop-command.position (g.H.Host.bytes_out c.loop-command.host) c.requires inv.at inv.so_far inv.accepted inv.starts c.in-Err-obey.fault later refl fails)
+    (so-far-stops c.args.machine.now c.args.commands.now before between c.loop-command.command-index c.loop-command.position (g.H.Host.bytes_out c.loop-command.host) c.requires inv.at inv.so_far (get_or commands i (To 0)) next inv.accepted inv.starts c.in-Err-obey.fault later refl fails c.in-Err-obey.ensures.moved.may_fail)
 
 pub loop-command-preserved : goal.loop-command-preserved
 loop-command-preserved g c =
@@ -61,7 +64,7 @@ loop-command-preserved g c =
     let after = outside (λ table. (g.dyn-1.0.entry table).1) c.obey.new.devices.drives.items (λ table. (g.dyn-2.0.entry table).1) c.obey.new.devices.terms.items in
     let inv = c.loop-command.invariant in
     let done = c.in-Ok-obey.ensures in
-    let wrote = c.in-Ok-write_out.ensures in
+    let wrote = c.in-Ok-write_out.ensures.written in
     let before = world_of g.H.Host c.args.host.now first in
     let i = c.loop-command.command-index in
     let commands = c.args.commands.now in
@@ -85,7 +88,7 @@ returns-in-Err-Failed-clause-call g c =
     let after = outside (λ table. (g.dyn-1.0.entry table).1) c.obey.new.devices.drives.items (λ table. (g.dyn-2.0.entry table).1) c.obey.new.devices.terms.items in
     let inv = c.loop-command.invariant in
     let done = c.in-Ok-obey.ensures in
-    let wrote = rw c.in-Err-Failed.field-0-is at c.in-Err-Failed.ensures in
+    let wrote = rw c.in-Err-Failed.field-0-is at c.in-Err-Failed.ensures.written in
     let before = world_of g.H.Host c.args.host.now first in
     let later = world_of g.H.Host c.write_out.new.host after in
     let i = c.loop-command.command-index in
@@ -93,27 +96,35 @@ returns-in-Err-Failed-clause-call g c =
     let next : drop i commands ≡ get_or commands i (To 0) ∷ drop (i + 1) commands = drop_more commands i (To 0) (search rules) in
     session-output c.args.machine.now commands before later (wrote.files_kept ∙ inv.files)
     (rw (← inv.none.0) wrote.fault_counted, wrote.fault_unnamed, wrote.fault_in_out) inv.starts
-    (so-far-part c.args.machine.now commands before between i c.loop-command.position (g.H.Host.bytes_out c.loop-command.host) c.requires inv.at inv.so_far c.in-Ok-obey.line (get_or commands i (To 0)) c.obey.new.position c.in-Ok-obey.line.items later next done.moved done.shown (subst (λ (bytes : List ℕ). GainsPrefix (g.H.Host.bytes_out c.loop-command.host) bytes later.out) c.as_slice.ensures.value wrote.prefix))
+    (so-far-breaks c.args.machine.now commands before between i c.loop-command.position (g.H.Host.bytes_out c.loop-command.host) c.requires inv.at inv.so_far c.in-Ok-obey.line (get_or commands i (To 0)) c.obey.new.position c.in-Ok-obey.line.items later next done.moved done.shown (subst (λ (bytes : List ℕ). GainsPrefix (g.H.Host.bytes_out c.loop-command.host) bytes later.out) c.as_slice.ensures.value wrote.prefix) (subst (λ (bytes : List ℕ). bytes ≢ []) c.as_slice.ensures.value c.in-Err-Failed.ensures.some))
 
 pub returns-in-Err-OutOfMemory-clause-call : goal.returns-in-Err-OutOfMemory-clause-call
 returns-in-Err-OutOfMemory-clause-call g c =
     let first = outside (λ table. (g.dyn-1.0.entry table).1) c.args.devices.now.drives.items (λ table. (g.dyn-2.0.entry table).1) c.args.devices.now.terms.items in
+    let between = outside (λ table. (g.dyn-1.0.entry table).1) c.loop-command.devices.drives.items (λ table. (g.dyn-2.0.entry table).1) c.loop-command.devices.terms.items in
     let after = outside (λ table. (g.dyn-1.0.entry table).1) c.obey.new.devices.drives.items (λ table. (g.dyn-2.0.entry table).1) c.obey.new.devices.terms.items in
     let inv = c.loop-command.invariant in
-    let wrote = rw c.in-Err-OutOfMemory.field-0-is at c.in-Err-OutOfMemory.ensures in
-    session-stopped c.args.machine.now c.args.commands.now (world_of g.H.Host c.args.host.now first) (world_of g.H.Host c.write_out.new.host after) (wrote.files_kept ∙ inv.files) NoMemory (λ e. cc e)
-    (wrote.count_kept ∙ inv.none.0, wrote.name_kept ∙ inv.none.1, wrote.read_kept ∙ inv.none.2) (inr inv.starts)
+    let done = c.in-Ok-obey.ensures in
+    let wrote = rw c.in-Err-OutOfMemory.field-0-is at c.in-Err-OutOfMemory.ensures.written in
+    let before = world_of g.H.Host c.args.host.now first in
+    let later = world_of g.H.Host c.write_out.new.host after in
+    let i = c.loop-command.command-index in
+    let commands = c.args.commands.now in
+    let next : drop i commands ≡ get_or commands i (To 0) ∷ drop (i + 1) commands = drop_more commands i (To 0) (search rules) in
+    session-stopped c.args.machine.now commands before later (wrote.files_kept ∙ inv.files) NoMemory (λ e. cc e)
+    (wrote.count_kept ∙ inv.none.0, wrote.name_kept ∙ inv.none.1, wrote.read_kept ∙ inv.none.2)
+    (inr (inv.starts, so-far-part c.args.machine.now commands before between i c.loop-command.position (g.H.Host.bytes_out c.loop-command.host) c.requires inv.at inv.so_far c.in-Ok-obey.line (get_or commands i (To 0)) c.obey.new.position c.in-Ok-obey.line.items later next done.moved done.shown (subst (λ (bytes : List ℕ). GainsPrefix (g.H.Host.bytes_out c.loop-command.host) bytes later.out) c.as_slice.ensures.value wrote.prefix)))
 
 pub returns-in-Err-obey-clause-notes_kept : goal.returns-in-Err-obey-clause-notes_kept
 returns-in-Err-obey-clause-notes_kept g c = c.loop-command.invariant.notes
 
 pub returns-in-Err-Failed-clause-notes_kept : goal.returns-in-Err-Failed-clause-notes_kept
 returns-in-Err-Failed-clause-notes_kept g c =
-    notes-kept g.H.Host _ _ _ _ c.in-Err-Failed.ensures ∙ c.loop-command.invariant.notes
+    notes-kept g.H.Host _ _ _ _ c.in-Err-Failed.ensures.written ∙ c.loop-command.invariant.notes
 
 pub returns-in-Err-OutOfMemory-clause-notes_kept : goal.returns-in-Err-OutOfMemory-clause-notes_kept
 returns-in-Err-OutOfMemory-clause-notes_kept g c =
-    notes-kept g.H.Host _ _ _ _ c.in-Err-OutOfMemory.ensures ∙ c.loop-command.invariant.notes
+    notes-kept g.H.Host _ _ _ _ c.in-Err-OutOfMemory.ensures.written ∙ c.loop-command.invariant.notes
 
 pub returns-clause-notes_kept : goal.returns-clause-notes_kept
 returns-clause-notes_kept g c = c.loop-command.invariant.notes

@@ -1,17 +1,20 @@
--- So many events were had as the index says.
-use Rattle.std.proofs.Common.{◌≡◌}
+-- The turns so far lead to a position that is not behind the one that is wanted.
+use Rattle.std.proofs.Common.{◌≡◌, ◌-◌}
 use Rattle.std.specs.Vec.{vec_len}
 use Rattle.os9_kernel.specs.Outside.{outside}
 use Rattle.event_run.proofs.Positions.{GoneSoFar}
 use Rattle.event_run.proofs.position.Position.advance_to.Given as goal
 
-abbrev pub invariant-loop-at : goal.invariant-loop-at
-invariant-loop-at g l =
+abbrev pub invariant-turns : goal.invariant-turns
+invariant-turns g l =
     let before = outside (λ table. (g.dyn-1.0.entry table).1) l.initial.devices.drives.items (λ table. (g.dyn-2.0.entry table).1) l.initial.devices.terms.items in
     let now = outside (λ table. (g.dyn-1.0.entry table).1) l.devices.drives.items (λ table. (g.dyn-2.0.entry table).1) l.devices.terms.items in
     record {
-      so_far : GoneSoFar l.slices l.initial.self l.self before now;
-      events : l.self.events ≡ l.at;
+      so_far : GoneSoFar l.k l.slices l.initial.self l.self before now;
       terminals : vec_len l.devices.terms ≡ vec_len l.initial.devices.terms;
       drives : vec_len l.devices.drives ≡ vec_len l.initial.devices.drives;
     }
+
+-- the events that are left
+abbrev pub decreases-turns : goal.decreases-turns
+decreases-turns g l = l.k - l.self.events

@@ -3,13 +3,14 @@ use Rattle.std.proofs.Common.{◌≡◌, ◌⊎◌, Option, Some, None, ap, inl,
 use Rattle.std.specs.Prelude.{option_map}
 use Rattle.os9_base.specs.declared.registers.Pid.{Pid}
 use Rattle.file_drives.specs.Drives.{drive_views}
+use Rattle.event_run.proofs.Breaking.{tick-breaks}
 use Rattle.event_run.proofs.Positions.{begun-idle, begun-in, chosen-any, is-some}
 use Rattle.event_run.proofs.position.Position.begin_slice.Goals as goal
 
 pub returns-in-Err-clause-begun : goal.returns-in-Err-clause-begun
 returns-in-Err-clause-begun g c = record {
   goes_on = tt;
-  gains = tt;
+  gains = tick-breaks c.args.self.now.kernel _ _ c.requires.stands (c.tick.ensures.tick.broken (rw c.in-Err.is refl));
   stays = tt;
   begun = λ is. cc;
   idle = λ is. cc;

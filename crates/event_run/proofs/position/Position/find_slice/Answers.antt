@@ -1,7 +1,7 @@
 -- Each slice is the next of the list.
 use Rattle.std.proofs.Common.{◌<◌, ◌≤◌, length, refl, sym, ◌∙◌, arith, rules}
 use Rattle.std.proofs.lemmas.Option.{slice_get-get_or}
-use Rattle.event_run.proofs.Positions.{begins-with, found-all, found-busy, found-idle, found-nobody, found-start}
+use Rattle.event_run.proofs.Positions.{begins-with, found-all, found-broken, found-busy, found-idle, found-nobody, found-start}
 use Rattle.event_run.proofs.position.Position.find_slice.Goals as goal
 
 pub loop-index-init : goal.loop-index-init
@@ -25,6 +25,10 @@ returns-in-Ok-Event-clause-found g c =
     found-busy c.args.slices.now c.args.self.now c.loop-index.index c.loop-index.self _ _ c.loop-index.invariant.so_far _ c.begin_slice.new.self _
     (begins-with _ c.args.slices.now c.loop-index.self _ c.loop-index.index c.loop-index.invariant.so_far.begun (slice_get-get_or c.args.slices.now c.loop-index.index 0 (search rules)) (λ s tied none. c.if-living-eq0.false (c.living.ensures _ s tied ∙ none)))
     (rw c.in-Ok-Event.field-0-is at c.in-Ok-Event.ensures.begun)
+
+pub returns-in-Err-clause-found : goal.returns-in-Err-clause-found
+returns-in-Err-clause-found g c =
+    found-broken c.args.slices.now c.args.self.now c.loop-index.index c.loop-index.self _ _ c.loop-index.invariant.so_far _ c.begin_slice.new.self _ _ c.in-Err.ensures.begun
 
 pub loop-index-preserved : goal.loop-index-preserved
 loop-index-preserved g c = record {

@@ -20,7 +20,7 @@ returns-in-Instruction-clause-event g c =
     let turn = c.instructions.ensures.turn _ in record {
       step = λ other s tied.
           let (t, events, there) = turn.step other s tied in
-          (t, single events refl (cost-is old p Instruction next _ s tied), there);
+          (t, single s t c.instructions.result.end c.instructions.result.count events turn.few (cost-is old p Instruction next _ s tied), there);
       memory = turn.memory;
       going = turn.going;
       waits = λ is. absurd (c.instructions.ensures.goes_on is);
@@ -55,6 +55,7 @@ returns-in-Instruction-clause-executed g c before s tied few =
     let p = c.unwrap-p.result in
     let next = does-next old p Instruction c.unwrap-p.ensures c.in-Instruction.ensures.process c.requires.going c.in-Instruction.ensures.next in
     let one : cost s ≡ 1 = cost-is old p Instruction next before s tied in
-    let (t, events, there) = (c.instructions.ensures.turn before).step c.instructions.ensures.kept s tied in
-    let counted : c.instructions.result.count ≡ cost s = single-count events refl one in
+    let turn = c.instructions.ensures.turn before in
+    let (t, events, there) = turn.step c.instructions.ensures.kept s tied in
+    let counted : c.instructions.result.count ≡ cost s = single-count s t c.instructions.result.end c.instructions.result.count events turn.few one in
     omega (arith, counted, c.instructions.ensures.executed (omega (arith, counted, few)))

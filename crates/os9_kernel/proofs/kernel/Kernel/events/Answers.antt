@@ -28,7 +28,7 @@ loop-left-preserved g c =
       tied = λ s tied.
           let (m, all, there, continues, begins, kept) = c.loop-left.invariant.tied s tied in
           let (t, events, now) = turn.step (λ out. let no : Ran ≡ NoMemory = sym c.in-Ran.is ∙ out in cc) m there in
-          let it = turned events c.in-Ran.is in (
+          let it = turned m t c.turn-turn.result.end c.turn-turn.result.count events c.in-Ran.is c.loop-left.left (omega arith) turn.few in (
             t,
             all ++ (it.first ∷ it.later),
             now,
@@ -44,7 +44,7 @@ returns-in-Waits-clause-events g c =
       step = λ _ s tied.
           let (m, all, there, continues, begins, kept) = c.loop-left.invariant.tied s tied in
           let (t, events, now) = turn.step (other c.turn-turn.result.end c.in-Waits.is) m there in
-          let (first, later, steps) = turn-ends events (stops c.turn-turn.result.end c.in-Waits.is) in
+          let (first, later, steps) = turn-ends m t c.turn-turn.result.end c.turn-turn.result.count events (stops c.turn-turn.result.end c.in-Waits.is) c.loop-left.left (omega arith) turn.few in
           let (some, end, event, over) = steps in (
             all ++ (first ∷ later),
             t,

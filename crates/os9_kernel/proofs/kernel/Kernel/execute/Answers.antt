@@ -1,4 +1,4 @@
-use Rattle.std.proofs.Common.{◌≡◌, ◌≤◌, ◌<◌, ◌+◌, ◌-◌, ◌*◌, ℕ, Option, Some, List, refl, sym, ◌∙◌, subst, arith}
+use Rattle.std.proofs.Common.{◌≡◌, ◌≤◌, ◌<◌, ◌+◌, ◌-◌, ◌*◌, ℕ, Option, Some, List, inr, refl, sym, ◌∙◌, subst, arith}
 use Rattle.os9_base.specs.declared.registers.Regs.{Regs}
 use Rattle.cpu_model.specs.declared.stop.Stop.{Stop}
 use Rattle.cpu_model.specs.declared.stop.Stop.TheVariants.{Next, Call, Abort}
@@ -16,7 +16,7 @@ use Rattle.file_state.specs.declared.state.FileState.{FileState}
 use Rattle.os9_kernel.specs.declared.kernel.Kernel.{Kernel}
 use Rattle.os9_kernel.specs.Tie.{pending, pending_of}
 use Rattle.os9_kernel.specs.declared.act.Act.TheVariants.{Instruction}
-use Rattle.os9_kernel.proofs.Acting.{acts-so, chosen-is, lives-there, events-running, represents-here}
+use Rattle.os9_kernel.proofs.Acting.{acts-so, chosen-is, lives-there, instructions-running, represents-here}
 use Rattle.os9_kernel.proofs.Changing.{keeps-drives}
 use Rattle.os9_kernel.proofs.Columns.{inner_at}
 use Rattle.os9_kernel.proofs.Pending.{at_most-three, pending-is}
@@ -77,10 +77,10 @@ returns-in-Next-clause-turn c devices =
     let whole = all here c.in-Next.is in record {
       step = λ _ s tied.
           let (t, (runs, there)) = ran here s.inner tied.inner in
-          let events = turn-next s p.0 (chosen-is old p Instruction next devices s tied) (lives-there old p Instruction next devices s tied) (acts-so old p Instruction next devices s tied) c.args.most c.run-ran.result c.run-ran.new.regs t c.requires.some runs c.in-Next.is in (
+          let done = turn-next s p.0 (chosen-is old p Instruction next devices s tied) (lives-there old p Instruction next devices s tied) (acts-so old p Instruction next devices s tied) c.args.most c.run-ran.result c.run-ran.new.regs t c.requires.some runs c.in-Next.is in (
             record s { inner = inner_at s.inner p.0 t c.run-ran.new.regs },
-            events,
-            represents-here old p Instruction next devices s tied (record old { processes = c.set_regs.new.self }) _ s.files refl refl (regs_set here s.inner tied.inner t there) tied.files (events-running events tied.running),
+            inr done,
+            represents-here old p Instruction next devices s tied (record old { processes = c.set_regs.new.self }) _ s.files refl refl (regs_set here s.inner tied.inner t there) tied.files (instructions-running done tied.running),
           );
       memory = λ is. cc;
       going = λ _. (p, next.chosen, c.set_regs.ensures.lives);
@@ -99,10 +99,10 @@ returns-in-Call-clause-turn c devices =
     let some = left here (Call c.in-Call.code) c.in-Call.is (λ e. cc) in record {
       step = λ _ s tied.
           let (t, (runs, there)) = ran here s.inner tied.inner in
-          let events = turn-call s p.0 (chosen-is old p Instruction next devices s tied) (lives-there old p Instruction next devices s tied) (acts-so old p Instruction next devices s tied) c.args.most c.run-ran.result c.run-ran.new.regs t c.requires.some runs c.in-Call.code c.in-Call.is in (
+          let done = turn-call s p.0 (chosen-is old p Instruction next devices s tied) (lives-there old p Instruction next devices s tied) (acts-so old p Instruction next devices s tied) c.args.most c.run-ran.result c.run-ran.new.regs t c.requires.some runs c.in-Call.code c.in-Call.is in (
             record s { inner = with_own (inner_at s.inner p.0 t c.run-ran.new.regs) p.0 (record (own_at s.inner p.0) { call = Some c.in-Call.code }) },
-            events,
-            represents-here old p Instruction next devices s tied c.begin_call.new.self _ s.files c.begin_call.ensures.chosen c.begin_call.ensures.clock (c.begin_call.ensures.tied _ (regs_set here s.inner tied.inner t there)) (subst (λ (files : FileState). StandsFor files devices.drives s.files) (sym c.begin_call.ensures.files) tied.files) (events-running events tied.running),
+            inr done,
+            represents-here old p Instruction next devices s tied c.begin_call.new.self _ s.files c.begin_call.ensures.chosen c.begin_call.ensures.clock (c.begin_call.ensures.tied _ (regs_set here s.inner tied.inner t there)) (subst (λ (files : FileState). StandsFor files devices.drives s.files) (sym c.begin_call.ensures.files) tied.files) (instructions-running done tied.running),
           );
       memory = λ is. cc;
       going = λ _. (p, c.begin_call.ensures.chosen ∙ next.chosen, subst (λ (records : List (Option Record)). IsLiving records p.0) (sym c.begin_call.ensures.records) c.set_regs.ensures.lives);
@@ -121,10 +121,10 @@ returns-in-Abort-clause-turn c devices =
     let some = left here (Abort c.in-Abort.status) c.in-Abort.is (λ e. cc) in record {
       step = λ _ s tied.
           let (t, (runs, there)) = ran here s.inner tied.inner in
-          let events = turn-abort s p.0 (chosen-is old p Instruction next devices s tied) (lives-there old p Instruction next devices s tied) (acts-so old p Instruction next devices s tied) c.args.most c.run-ran.result c.run-ran.new.regs t c.requires.some runs c.in-Abort.status c.in-Abort.is in (
+          let done = turn-abort s p.0 (chosen-is old p Instruction next devices s tied) (lives-there old p Instruction next devices s tied) (acts-so old p Instruction next devices s tied) c.args.most c.run-ran.result c.run-ran.new.regs t c.requires.some runs c.in-Abort.status c.in-Abort.is in (
             record s { inner = ended (inner_at s.inner p.0 t c.run-ran.new.regs) p.0 c.in-Abort.status; files = files_ended s.files p.0 },
-            events,
-            represents-here old p Instruction next devices s tied c.end_process.new.self _ (files_ended s.files p.0) c.end_process.ensures.chosen c.end_process.ensures.clock (c.end_process.ensures.tied _ (regs_set here s.inner tied.inner t there)) (c.end_process.ensures.files devices.drives s.files tied.files) (events-running events tied.running),
+            inr done,
+            represents-here old p Instruction next devices s tied c.end_process.new.self _ (files_ended s.files p.0) c.end_process.ensures.chosen c.end_process.ensures.clock (c.end_process.ensures.tied _ (regs_set here s.inner tied.inner t there)) (c.end_process.ensures.files devices.drives s.files tied.files) (instructions-running done tied.running),
           );
       memory = λ is. cc;
       going = λ is. cc;
