@@ -70,29 +70,21 @@ fn run_on(rt: HostRuntime, words: &[String], drives: Vec<Box<dyn BlockDriver>>) 
     terms.push(Box::new(alloc, SureTty::new(alloc))?)?;
     terms.push(Box::new(alloc, SureTty::new(alloc))?)?;
     let mut devices = Devices { drives, terms };
-    Ok(run_with(alloc, words, &mut RealHost::new(rt), &mut devices))
+    Ok(program(alloc, words, &mut RealHost::new(rt), &mut devices))
 }
 
-/// Does what the words say on the real host and these devices, four drives without an image and one
-/// to four terminals without keys: the status is that of the top call.
-fn run_with(
-    alloc: Global,
-    words: &[String],
-    host: &mut RealHost<HostRuntime>,
-    devices: &mut Devices,
-) -> u8
+/// The program over any host: does what the words say, on these devices, four drives without an image
+/// and one to four terminals without keys. The status is that of the top call.
+pub fn program<H: Host>(alloc: Global, words: &[String], host: &mut H, devices: &mut Devices) -> u8
     requires terminals { AreUnloaded
         (terminal_states ⟦<dyn CharDriver as CharDriver>⟧ devices.old.terms.items) }
     requires drives { HaveRoom 4 (drives_seen BlockDriver-box devices.old) }
     ensures call { TopCall (map string_bytes words.now)
-        (world_of ⟦<RealHost<HostRuntime> as Host>⟧ host.old (outside
-        ⟦<dyn BlockDriver as BlockDriver>⟧ devices.old.drives.items
-        ⟦<dyn CharDriver as CharDriver>⟧ devices.old.terms.items))
-        (world_of ⟦<RealHost<HostRuntime> as Host>⟧ host.new (outside
-        ⟦<dyn BlockDriver as BlockDriver>⟧ devices.new.drives.items
-        ⟦<dyn CharDriver as CharDriver>⟧ devices.new.terms.items))
-        (notes_of ⟦<RealHost<HostRuntime> as Host>⟧ host.old)
-        (notes_of ⟦<RealHost<HostRuntime> as Host>⟧ host.new) result }
+        (world_of H.Host host.old (outside ⟦<dyn BlockDriver as BlockDriver>⟧
+        devices.old.drives.items ⟦<dyn CharDriver as CharDriver>⟧ devices.old.terms.items))
+        (world_of H.Host host.new (outside ⟦<dyn BlockDriver as BlockDriver>⟧
+        devices.new.drives.items ⟦<dyn CharDriver as CharDriver>⟧ devices.new.terms.items))
+        (notes_of H.Host host.old) (notes_of H.Host host.new) result }
 {
     os9_main(alloc, words, host, devices)
 }

@@ -12,8 +12,9 @@ ghost use Rattle.file_drives.specs.Drives.{drive_views};
 ghost use Rattle.key_loading.specs.Loaded.{AreUnloaded};
 ghost use Rattle.os9_outer.specs.TerminalState.{terminal_states};
 
+use crate::program;
 use device_table::devices::Devices;
-use os9_boot::{add_drive, os9_main};
+use os9_boot::add_drive;
 use os9_outer::drive::{BlockDriver, DriveFault};
 use os9_outer::host_file::HostFile;
 use os9_outer::mem_host::MemHost;
@@ -143,7 +144,7 @@ fn call_over(
 {
     let mut devices = devices;
     let mut host = host;
-    let status = os9_main(alloc, words, &mut host, &mut devices);
+    let status = program(alloc, words, &mut host, &mut devices);
     Ok(Shown {
         status,
         out: host.out_bytes,

@@ -1,7 +1,7 @@
 use Rattle.std.proofs.Common.{map}
 use Rattle.std.specs.String.{string_bytes}
 use Rattle.os9_boot.proofs.RoomLemmas.{free-for}
-use Rattle.os9.proofs.run_with.Goals as goal
+use Rattle.os9.proofs.program.Goals as goal
 
 pub os9_main-requires : goal.os9_main-requires
 os9_main-requires g c =
