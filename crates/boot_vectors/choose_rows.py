@@ -1,7 +1,7 @@
 #!/usr/bin/env python3
 """choose_rows.py FILE COUNT NUMBER.. chooses so many of the rows of FILE, so that each answer of each call comes in
 some of them where it comes at all: the first 60 of the stdin of this crate, with the count 60; worked_rows.py makes
-those behind them, and those at the end are each fifth of another list. The rows of these numbers, from 1, are among them: 1, 25 and 157, in which a process ends by a
+those behind them, then come each fifth of another list, and last those of example_rows.py. The rows of these numbers, from 1, are among them: 1, 25 and 157, in which a process ends by a
 signal while it reads or writes, as no line tells.
 
 src/row.rt has the fields of a row. Its programs write a line of 24 hexadecimal digits after most calls: a tag, the

@@ -120,4 +120,5 @@ def main():
     row(BOOT, good, status=3, err="os9: cannot write d0.img", slices=b"4", failing="4")
 
 
-main()
+if __name__ == "__main__":
+    main()
