@@ -7,7 +7,7 @@ and examples/README.md: neither shares text with the program. src/row.rt has the
 
 from pathlib import Path
 
-from worked_rows import ALL_MAY, NEW, OLD, WRITTEN, boot_disk, crc, tree
+from worked_rows import ALL_MAY, NEW, OLD, WRITTEN, boot_disk, directory_line, file_line, tree
 
 EXAMPLES = Path(__file__).parents[2] / "examples"
 SECTOR = 256
@@ -46,16 +46,9 @@ def lines(image, number=None, path=""):
             found |= lines(image, target, f"{path}/{name}")
         else:
             found[f"{path}/{name}"] = file_line(f"{path}/{name}", mode, contents, written)
-    found[path or "/"] = directory_line(path or "/", names, dates, attributes)
+    assert attributes == ALL_MAY
+    found[path or "/"] = directory_line(path or "/", names, dates)
     return found
-
-
-def file_line(path, attributes, contents, dates):
-    return f"{path} {attributes:02x} 0 {dates} 1 {len(contents)} {crc(contents).hex()}"
-
-
-def directory_line(path, names, dates, attributes=ALL_MAY):
-    return f"{path} {attributes:02x} 0 {dates} 1 [{','.join(names)}]"
 
 
 def row(name, image, script, slices, out, left, free):
