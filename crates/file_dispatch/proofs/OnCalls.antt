@@ -1,5 +1,5 @@
 -- All calls on paths, files and directories, by what they take.
-use Rattle.std.proofs.Common.{◌≡◌, ◌∙◌, ℕ, None, List, ap, refl, sym, subst}
+use Rattle.std.proofs.Common.{◌≡◌, ◌∙◌, ℕ, true, None, List, ap, refl, sym, subst}
 use Rattle.os9_base.specs.declared.call.CallEnd.{CallEnd}
 use Rattle.os9_base.specs.declared.registers.TimePacket.{TimePacket}
 use Rattle.os9_outer.specs.TerminalState.{TerminalState}
@@ -17,6 +17,7 @@ use Rattle.file_state.specs.declared.state.FileState.{FileState}
 use Rattle.file_dispatch.specs.Attempts.{MayAttempt, TriesFrom}
 use Rattle.file_dispatch.specs.Bounds.{attempt_calls}
 use Rattle.file_dispatch.specs.Calls.{kind_call, list_call}
+use Rattle.file_dispatch.specs.Dates.{IsTimeFor, sets_date}
 use Rattle.file_dispatch.specs.declared.calls.CallKind.{CallKind}
 use Rattle.file_dispatch.specs.declared.lists.ListCall.{ListCall}
 use Rattle.file_dispatch.specs.declared.lists.ListCall.TheVariants as Listed
@@ -36,6 +37,16 @@ call-is kind other call is known = sym (ap kind_call is) ∙ known
 
 pub may-as : (call other : PathCall) (processes : ProcState) (state : FileState) (p terms : ℕ) → other ≡ call → MayAttempt call processes state p terms → MayAttempt other processes state p terms
 may-as call other processes state p terms is may = subst (λ (c : PathCall). MayAttempt c processes state p terms) (sym is) may
+
+-- a time of a call is one of the call that it is
+pub time-for : (call other : PathCall) (now time : TimePacket) → other ≡ call → IsTimeFor call now time → IsTimeFor other now time
+time-for call other now time is known dated = known (sym (ap sets_date is) ∙ dated)
+
+-- an attempt of a call that sets a date is one at its time
+pub at-time : (call : PathCall) (now time : TimePacket) (p : ℕ) → sets_date call ≡ true → IsTimeFor call now time → (end : CallEnd) (terms terms_after : List TerminalState) (before after : Standing)
+    → AttemptsWithin (attempt_calls call) call now p end terms terms_after before after → AttemptsWithin (attempt_calls call) call time p end terms terms_after before after
+at-time call now time p dated is end terms terms_after before after attempts =
+    subst (λ (t : TimePacket). AttemptsWithin (attempt_calls call) call t p end terms terms_after before after) (sym (is dated)) attempts
 
 -- what comes of a call is what comes of the one that it is
 module _ (call other : PathCall) (now : TimePacket) (p : ℕ) (is : other ≡ call) where

@@ -3,9 +3,11 @@
 ghost use Rattle.std.specs.Prelude.{◌≡◌, vec_len};
 ghost use Rattle.file_dispatch.specs.Attempts.{MayAttempt, TriesFrom};
 ghost use Rattle.file_dispatch.specs.Calls.{kind_call};
+ghost use Rattle.file_dispatch.specs.Dates.{IsTimeFor, sets_date as sets_date_lem};
 ghost use Rattle.file_drives.specs.Drives.{drive_views};
 ghost use Rattle.file_state.specs.Attempt.{standing};
 ghost use Rattle.file_state.specs.Tie.{IsSound};
+ghost use Rattle.os9_base.specs.declared.registers.TimePacket.{TimePacket};
 ghost use Rattle.os9_outer.specs.TerminalState.{terminal_states};
 ghost use Rattle.proc_rules.specs.Records.{IsLiving};
 
@@ -54,10 +56,34 @@ fn kind_of(call: PathCall) -> CallKind
     }
 }
 
+/// May the call set the date of a file?
+pub fn sets_date(call: PathCall) -> bool
+    ensures { result ≡ sets_date_lem call }
+{
+    match call {
+        PathCall::Create
+        | PathCall::MakDir
+        | PathCall::Write
+        | PathCall::WritLn
+        | PathCall::SetStt
+        | PathCall::PErr => true,
+        PathCall::Dup
+        | PathCall::Open
+        | PathCall::ChgDir
+        | PathCall::Delete
+        | PathCall::DeletX
+        | PathCall::Seek
+        | PathCall::Read
+        | PathCall::ReadLn
+        | PathCall::GetStt
+        | PathCall::Close => false,
+    }
+}
+
 /// An attempt, at a time, of a call on paths, files and directories by a process that lives (System
-/// Programmer's Manual, "I/O service requests"). Its process is not told yet what it comes to.
-/// Where a call of the process waits, this is a further attempt of it, with the registers that it
-/// was made with. `NoMemory` comes only where a byte was to be put on a terminal; no drive was
+/// Programmer's Manual, "I/O service requests"). A call that sets no date is the same at any time.
+/// Its process is not told yet what it comes to. Where a call of the process waits, this is a
+/// further attempt of it, with the registers that it was made with. `NoMemory` comes only where a byte was to be put on a terminal; no drive was
 /// called then.
 ///
 /// # Errors
@@ -75,7 +101,7 @@ pub fn attempt(
     requires may { MayAttempt call s.old files.old p.0 (vec_len devices.old.terms) }
     requires sound { IsSound files.old
         (drive_views ⟦<dyn BlockDriver as BlockDriver>⟧ devices.old.drives.items) }
-    ensures call { TriesFrom call now p.0 result
+    ensures call { (time : TimePacket) → IsTimeFor call now time → TriesFrom call time p.0 result
         (terminal_states ⟦<dyn CharDriver as CharDriver>⟧ devices.old.terms.items)
         (terminal_states ⟦<dyn CharDriver as CharDriver>⟧ devices.new.terms.items)
         (standing ⟦<dyn BlockDriver as BlockDriver>⟧ s.old files.old devices.old.drives.items)

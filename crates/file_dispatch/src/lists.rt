@@ -3,11 +3,13 @@
 ghost use Rattle.std.specs.Prelude.{◌≡◌, None, List, length, vec_len};
 ghost use Rattle.file_dispatch.specs.Bounds.{attempt_calls};
 ghost use Rattle.file_dispatch.specs.Calls.{list_call};
+ghost use Rattle.file_dispatch.specs.Dates.{IsTimeFor};
 ghost use Rattle.file_drives.specs.Drives.{drive_views};
 ghost use Rattle.file_state.specs.Attempt.{standing};
 ghost use Rattle.file_state.specs.Counted.{AttemptsWithin};
 ghost use Rattle.file_state.specs.Tie.{IsSound};
 ghost use Rattle.io_rules.specs.Io.{kept_at};
+ghost use Rattle.os9_base.specs.declared.registers.TimePacket.{TimePacket};
 ghost use Rattle.os9_outer.specs.TerminalState.{TerminalState};
 ghost use Rattle.proc_rules.specs.Records.{IsLiving};
 
@@ -59,8 +61,9 @@ pub fn attempt_on_list(
     requires first { kept_at files.old.io p.0 ≡ None }
     requires sound { IsSound files.old
         (drive_views ⟦<dyn BlockDriver as BlockDriver>⟧ devices.old.drives.items) }
-    ensures call { (terms : List TerminalState) → length terms ≡ vec_len devices.old.terms
-        → AttemptsWithin (attempt_calls (list_call call)) (list_call call) now p.0 result terms
+    ensures call { (time : TimePacket) (terms : List TerminalState)
+        → IsTimeFor (list_call call) now time → length terms ≡ vec_len devices.old.terms
+        → AttemptsWithin (attempt_calls (list_call call)) (list_call call) time p.0 result terms
         terms
         (standing ⟦<dyn BlockDriver as BlockDriver>⟧ s.old files.old devices.old.drives.items)
         (standing ⟦<dyn BlockDriver as BlockDriver>⟧ s.new files.new devices.new.drives.items) }

@@ -1,5 +1,5 @@
 -- Attempts of calls on paths, files and directories.
-use Rattle.std.proofs.Common.{◌≡◌, ◌≢◌, ◌⊎◌, ◌∙◌, ℕ, Option, List, refl, sym, ap, subst, inl, inr}
+use Rattle.std.proofs.Common.{◌≡◌, ◌≢◌, ◌⊎◌, ◌∙◌, ℕ, true, Option, List, refl, sym, ap, subst, inl, inr}
 use Rattle.os9_base.specs.declared.call.CallEnd.{CallEnd}
 use Rattle.os9_base.specs.declared.call.CallEnd.TheVariants.{Done, Error, Wait, Ended, NoMemory}
 use Rattle.os9_base.specs.declared.registers.TimePacket.{TimePacket}
@@ -16,7 +16,9 @@ use Rattle.event_rules.specs.declared.ends.EventEnd.TheVariants as Event
 use Rattle.file_rules.specs.Attempts.{FileAttempts, io_effect}
 use Rattle.file_rules.specs.Files.{Files}
 use Rattle.file_rules.specs.declared.path_call.PathCall.{PathCall}
+use Rattle.file_dispatch.specs.Dates.{IsTimeFor, sets_date}
 use Rattle.file_state.specs.Tie.{IsSound}
+use Rattle.civil_time.proofs.Days.{same-packet}
 use Rattle.civil_time.proofs.Next.{later-packet}
 use Rattle.time_rules.specs.Clock.{IsClock, IsNow, seconds_since}
 use Rattle.time_rules.specs.declared.clock.Clock.{Clock}
@@ -47,6 +49,14 @@ pub now-here : (old : Kernel) (before : Outside) (s : State) → Represents old 
 now-here old before s tied now is =
     subst (λ (clock : Clock). IsNow clock s.inner.tick now) (sym (ap (λ (s : State). s.clock) tied.is))
     (subst (λ (tick : ℕ). IsNow old.clock tick now) (sym (ap (λ (m : Inner). m.tick) tied.inner.is)) is)
+
+-- so does the kernel's
+pub time-shown : (old : Kernel) (before : Outside) (s : State) → Represents old before s → (time : TimePacket) × IsNow old.clock old.processes.tick time
+time-shown old before s tied = later-packet old.clock.from (seconds_since old.clock old.processes.tick) (is-clock old before s tied).civil
+
+-- a packet that was made for a call is of the time that the clock shows, if the call sets a date
+pub time-for : (clock : Clock) (tick : ℕ) (call : PathCall) (made time : TimePacket) → (sets_date call ≡ true → IsNow clock tick made) → IsNow clock tick time → IsTimeFor call made time
+time-for clock tick call made time made_is is dated = same-packet clock.from (seconds_since clock tick) time made is (made_is dated)
 
 -- ---- how it ends
 

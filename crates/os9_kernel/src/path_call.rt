@@ -1,27 +1,29 @@
 //! Attempts of calls on paths, files and directories.
 
-ghost use Rattle.std.specs.Prelude.{◌≡◌, ◌<◌, IfSome, vec_len};
+ghost use Rattle.std.specs.Prelude.{◌≡◌, ◌<◌, true, IfSome, vec_len};
 ghost use Rattle.proc_calls.specs.Telling.{LivesOn, WaitsFor};
 ghost use Rattle.proc_state.specs.Tie.{Comes, Represents};
 ghost use Rattle.call_rules.specs.Attempts.{after_attempt, attempt_end};
 ghost use Rattle.call_rules.specs.CallResult.{CallResult};
 ghost use Rattle.call_rules.specs.Inner.{Inner};
 ghost use Rattle.io_rules.specs.Waiting.{io_waits_for};
+ghost use Rattle.file_dispatch.specs.Dates.{sets_date as sets_date_lem};
 ghost use Rattle.machine_model.specs.Services.{on_paths, service_of};
 ghost use Rattle.os9_kernel.specs.Calls.{HasEvent};
 ghost use Rattle.os9_kernel.specs.Next.{DoesNext};
 ghost use Rattle.os9_kernel.specs.Outside.{OnDevices, outside};
 ghost use Rattle.os9_kernel.specs.Tie.{Stands, executed, pending};
+ghost use Rattle.time_rules.specs.Clock.{IsClock, IsNow};
 
 use crate::act::Act;
 use crate::calls::event_end;
 use crate::kernel::Kernel;
 use device_table::devices::Devices;
 use event_rules::ends::EventEnd;
-use file_dispatch::calls::attempt;
+use file_dispatch::calls::{attempt, sets_date};
 use file_rules::path_call::PathCall;
 use os9_base::call::CallEnd;
-use os9_base::registers::Pid;
+use os9_base::registers::{Pid, TimePacket};
 use os9_outer::drive::BlockDriver;
 use os9_outer::terminal::CharDriver;
 use os9_sched::{Cause, Wait};
@@ -50,10 +52,23 @@ impl Kernel {
         ensures terminals { vec_len devices.new.terms ≡ vec_len devices.old.terms }
         ensures drives { vec_len devices.new.drives ≡ vec_len devices.old.drives }
     {
-        let time = now(&self.clock, self.processes.tick);
+        let time = self.time_for(call);
         let end = attempt(&mut self.processes, &mut self.files, p, call, time, devices);
         self.tell_end(p, end);
         event_end(end)
+    }
+
+    /// The time for a call that sets a date. For another one any time will do.
+    fn time_for(&self, call: PathCall) -> TimePacket
+        requires { IsClock self.now.clock self.now.processes.tick }
+        ensures { sets_date_lem call ≡ true
+            → IsNow self.now.clock self.now.processes.tick result }
+    {
+        if sets_date(call) {
+            now(&self.clock, self.processes.tick)
+        } else {
+            self.clock.from
+        }
     }
 
     /// Tells a process what its call came to, if it lives. Where it waits, that is on what its path

@@ -7,7 +7,7 @@ use Rattle.std.proofs.lemmas.Bool.{false≢true}
 use Rattle.rbf_model.proofs.Lifted.{sector_put}
 use Rattle.sector_cache.specs.declared.sector.Sector.{Sector}
 use Rattle.sector_cache.specs.Held.{held_bytes, put_first, without}
-use Rattle.sector_cache.proofs.Callers.{held_after, held_after_put, held_less, held_first, still_held, first_still}
+use Rattle.sector_cache.proofs.Callers.{held_after, held_after_put, held_less, held_first, held_of_first, still_held, first_still}
 use Rattle.rbf_access.specs.Cached.{IsCacheOf, IsHeld, IsUsed}
 
 -- nothing is held yet
@@ -29,6 +29,19 @@ cached_read media now held news n lsn bytes same is read cached =
           (λ before. cached.sectors m found before.1)
           (held_after 0 lsn held bytes n m found (subst (λ h. held_bytes h 0 m ≡ Some found) is there));
     })
+
+-- what is held of a sector that is held
+pub bytes_held : (held : Option (List ℕ)) → IsSome held → (bytes : List ℕ) × (held ≡ Some bytes)
+bytes_held None is = cc
+bytes_held (Some bytes) is = (bytes, refl)
+
+-- a sector that has been used is held
+pub held_used : (lsn : ℕ) (held news : List Sector) → IsUsed lsn held news → IsHeld news lsn
+held_used lsn held news used = held_of_first 0 lsn 1 news used.first
+
+-- what is held of a sector is the media's
+pub held_is : (media now : Option (List ℕ)) (held : List Sector) (lsn : ℕ) (bytes : List ℕ) → now ≡ media → IsCacheOf now held → held_bytes held 0 lsn ≡ Some bytes → bytes ≡ sector_at media lsn
+held_is media now held lsn bytes same cached is = cached.sectors lsn bytes is ∙ ap (λ m. sector_at m lsn) same
 
 -- a sector has been used
 pub cached_used : (media now : Option (List ℕ)) (held news : List Sector) (lsn : ℕ) (bytes : List ℕ) → now ≡ media → news ≡ put_first held 0 lsn bytes
@@ -88,14 +101,14 @@ used_put lsn held news bytes is =
 pub still_put : (lsn : ℕ) (held news : List Sector) (bytes : List ℕ) → news ≡ put_first held 0 lsn bytes → (m : ℕ) → IsHeld held m → IsHeld news m
 still_put lsn held news bytes is m there = subst (λ h. IsHeld h m) (sym is) (still_held 0 lsn held bytes m there)
 
--- the same where only 64 are kept
-pub used_kept : (lsn : ℕ) (held news : List Sector) (bytes : List ℕ) → news ≡ take 64 (put_first held 0 lsn bytes) → IsUsed lsn held news
+-- the same where only 256 are kept
+pub used_kept : (lsn : ℕ) (held news : List Sector) (bytes : List ℕ) → news ≡ take 256 (put_first held 0 lsn bytes) → IsUsed lsn held news
 used_kept lsn held news bytes is =
     subst (IsUsed lsn held) (sym is)
     (record {
-      first = subst (λ h. IsHeld h lsn) (sym (take-take 1 64 (put_first held 0 lsn bytes) (omega arith))) (subst IsSome (sym (held_first 0 lsn held bytes 0)) refl);
+      first = subst (λ h. IsHeld h lsn) (sym (take-take 1 256 (put_first held 0 lsn bytes) (omega arith))) (subst IsSome (sym (held_first 0 lsn held bytes 0)) refl);
       others = λ n m few there.
           let next : n + 1 ≡ suc n = omega arith in
-          subst (λ h. IsHeld h m) (sym (take-take (n + 1) 64 (put_first held 0 lsn bytes) (omega arith)))
+          subst (λ h. IsHeld h m) (sym (take-take (n + 1) 256 (put_first held 0 lsn bytes) (omega arith)))
           (subst (λ k. IsHeld (take k (put_first held 0 lsn bytes)) m) (sym next) (first_still 0 lsn m n held bytes there));
     })

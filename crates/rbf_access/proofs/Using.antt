@@ -52,9 +52,9 @@ all_hits held mid descriptor segs segments from span count before half now same 
     hits (λ place low high. still (slice_index (sectors_of segs) place) here
     (subst (λ (s : List (ℕ × ℕ)). IsHeld held (slice_index (sectors_of s) place)) (sym same) (all place low (omega arith)))) ∙ hit here
 
--- the sectors of a read are held afterwards, if they are 64 at most
+-- the sectors of a read are held afterwards, if they are 256 at most
 pub all_held : (held mid news : List Sector) (descriptor : ℕ) (segs segments : List (ℕ × ℕ)) (from span count : ℕ) → segs ≡ segments → span ≡ count
-    → IsUsed descriptor held mid → StayFirst segs from span mid news → 1 + count ≤ 64 → IsHeld news descriptor × AreHeld news segments from (from + count)
+    → IsUsed descriptor held mid → StayFirst segs from span mid news → 1 + count ≤ 256 → IsHeld news descriptor × AreHeld news segments from (from + count)
 all_held held mid news descriptor segs segments from span count same spans used stay few = (
   held_of_first 0 descriptor (1 + span) news (stay.others 1 descriptor (omega arith) used.first),
   λ place low high. held_of_first 0 (slice_index (sectors_of segments) place) span news

@@ -25,13 +25,13 @@ AreHeld held segments from end =
 -- a sector has been used: it is the first one, and no other sector that was held is more than one place further back
 pub record IsUsed (lsn : ℕ) (old new : List Sector) : Type 0 where
   pub first : IsHeld (take 1 new) lsn
-  pub others : (n m : ℕ) → n < 64 → IsHeld (take n old) m → IsHeld (take (n + 1) new) m
+  pub others : (n m : ℕ) → n < 256 → IsHeld (take n old) m → IsHeld (take (n + 1) new) m
 
 -- the sectors of these segments from a place on, so many of them, have been used: they are the first ones that are
 -- held, and no other sector is further back by more places than they are
 pub record StayFirst (segments : List (ℕ × ℕ)) (from count : ℕ) (old new : List Sector) : Type 0 where
-  pub first : count ≤ 64 → AreHeld (take count new) segments from (from + count)
-  pub others : (n m : ℕ) → n + count ≤ 64 → IsHeld (take n old) m → IsHeld (take (n + count) new) m
+  pub first : count ≤ 256 → AreHeld (take count new) segments from (from + count)
+  pub others : (n m : ℕ) → n + count ≤ 256 → IsHeld (take n old) m → IsHeld (take (n + count) new) m
 
 -- how the sectors of these segments from a place on, so many of them, are read through the cache: if all of them are
 -- held, no call of the drive is made; when they have been read, they have been used

@@ -62,8 +62,8 @@ pub record AreCached (held : List Sector) (fd : ℕ) (file : DiskFile) (at room 
       (at / 256 + sector_span at (min (at + room) (length file.contents)))
 
 -- how a read of file n goes through the cache: if all its sectors are cached, no call of the drive is made; when it has
--- been read, they are cached if they are 64 at most
+-- been read, they are cached if they are 256 at most
 pub record UsesCache {A Fault : Type 0} (n : ℕ) (file : DiskFile) (at room : ℕ) (result : Result A Fault)
     (old new : List Sector) (calls calls_now : ℕ) : Type 0 where
   pub hits : AreCached old n file at room → calls_now ≡ calls
-  pub held : OnOk result (read_calls file at room ≤ 64 → AreCached new n file at room)
+  pub held : OnOk result (read_calls file at room ≤ 256 → AreCached new n file at room)

@@ -58,8 +58,8 @@ impl Volume {
             → IsHeld self.new.cache m }
         ensures counts { Counts BlockDriver-dyn (file_fault result) 1 d.old d.new }
     {
-        let bytes = self.load(d, lsn)?;
-        Ok(read_fd(&bytes))
+        self.bring(d, lsn)?;
+        Ok(read_fd(self.sector(lsn)))
     }
 
     /// Reads bytes of a file from `at` on, as many as `into` has room for and the file has there,
@@ -120,8 +120,9 @@ impl Volume {
         }
         let end = (at as usize + into.len()).div_ceil(256) as u32;
         for place in at / 256..end {
-            let bytes = self.load(d, segs.lsn_of(place).unwrap())?;
-            copy_piece(&bytes, 256 * place as usize, at as usize, into);
+            let lsn = segs.lsn_of(place).unwrap();
+            self.bring(d, lsn)?;
+            copy_piece(self.sector(lsn), 256 * place as usize, at as usize, into);
         }
         Ok(())
     }

@@ -1,9 +1,9 @@
-ghost use Rattle.std.specs.Prelude.{◌≡◌, ◌<◌, take, IfOk, OnOk, OnErr, IsSome};
+ghost use Rattle.std.specs.Prelude.{◌≡◌, ◌<◌, Some, take, IfOk, OnOk, OnErr, IsSome};
 ghost use Rattle.os9_outer.specs.Drive.{sector_count, sector_at, with_sector};
 ghost use Rattle.rbf_access.specs.Drive.{Counts};
 ghost use Rattle.rbf_access.specs.Faults.{file_fault};
 ghost use Rattle.rbf_access.specs.Cached.{IsCacheOf, IsHeld, IsUsed, StayHeld};
-ghost use Rattle.sector_cache.specs.Held.{put_first, without};
+ghost use Rattle.sector_cache.specs.Held.{held_bytes, put_first, without};
 ghost use Rattle.rbf_access.specs.Mounted.{kept, IsSound};
 
 use crate::faults::FileFault;
@@ -42,16 +42,48 @@ impl Volume {
         ensures still { StayHeld lsn self.old.cache self.new.cache }
         ensures counts { Counts BlockDriver-dyn (file_fault result) 1 d.old d.new }
     {
-        let mut bytes = [0; 256];
-        if self.cache.get(0, lsn, &mut bytes) {
-            return Ok(bytes);
+        self.bring(d, lsn)?;
+        Ok(*self.sector(lsn))
+    }
+
+    /// Brings a sector of the volume into its cache, if it is not there.
+    ///
+    /// # Errors
+    ///
+    /// `Device` if the drive's read fails.
+    pub fn bring(&mut self, d: &mut dyn BlockDriver, lsn: u32) -> Result<(), FileFault>
+        requires on { lsn < sector_count (media d.old) }
+        requires cached { IsCacheOf (media d.old) self.old.cache }
+        ensures device { OnErr result (IsSome (file_fault result)) }
+        ensures media_kept { media d.new ≡ media d.old }
+        ensures volume_kept { kept self.new ≡ kept self.old }
+        ensures cached { IsCacheOf (media d.new) self.new.cache }
+        ensures hit { IsHeld self.old.cache lsn → drive_calls d.new ≡ drive_calls d.old }
+        ensures used { OnOk result (IsUsed lsn self.old.cache self.new.cache) }
+        ensures left { OnErr result (self.new.cache ≡ self.old.cache) }
+        ensures still { StayHeld lsn self.old.cache self.new.cache }
+        ensures counts { Counts BlockDriver-dyn (file_fault result) 1 d.old d.new }
+    {
+        if self.cache.touch(0, lsn) {
+            return Ok(());
         }
         match read_sector(d, lsn) {
             Ok(bytes) => {
                 self.cache.keep(0, lsn, &bytes);
-                Ok(bytes)
+                Ok(())
             }
             Err(fault) => Err(FileFault::Device(fault.number())),
+        }
+    }
+
+    /// The bytes of a sector that is in the cache.
+    pub fn sector(&self, lsn: u32) -> &[u8; 256]
+        requires { IsHeld self.now.cache lsn }
+        ensures { held_bytes self.now.cache 0 lsn ≡ Some result.now }
+    {
+        match self.cache.bytes(0, lsn) {
+            Some(bytes) => bytes,
+            None => unreachable!(),
         }
     }
 
@@ -76,7 +108,7 @@ impl Volume {
         ensures volume_kept { kept self.new ≡ kept self.old }
         ensures cached { IsCacheOf (media d.new) self.new.cache }
         ensures first { OnOk result
-            (self.new.cache ≡ take 64 (put_first self.old.cache 0 lsn from.now)) }
+            (self.new.cache ≡ take 256 (put_first self.old.cache 0 lsn from.now)) }
         ensures forgotten { OnErr result (self.new.cache ≡ without self.old.cache 0 lsn) }
         ensures counts { Counts BlockDriver-dyn (file_fault result) 1 d.old d.new }
     {

@@ -17,6 +17,13 @@ covered start at size from bytes covers q old low =
     let place : start - at + q ≡ start + q - at = omega arith in
     covers.each q low ∙ ap (λ j. get_or from j 0) place ∙ sym (laid_in size at from (start + q) old (omega arith) (omega arith))
 
+-- a sector of zeros, whatever it had
+pub all_zeros : (start at size : ℕ) (from : List ℕ) → (size ≤ start) × (start + 256 ≤ at) → (q old : ℕ) → q < 256 → get_or (zeros 256) q 0 ≡ laid_byte size at from (start + q) old
+all_zeros start at size from within q old low =
+    let begins = within.0 in
+    let ends = within.1 in
+    zeros_are 256 q ∙ sym (laid_zero size at from (start + q) old (omega arith) (omega arith))
+
 -- zeros put over a part of a sector
 pub cleared : (first end : ℕ) (old new zeros : List ℕ) → length old ≡ 256 → first ≤ 256 → end ≤ 256
     → length zeros ≡ end - first → ((q : ℕ) → q < length zeros → get_or zeros q 0 ≡ 0) → new ≡ put_at old first zeros

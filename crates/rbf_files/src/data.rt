@@ -10,7 +10,7 @@ ghost use Rattle.rbf_access.specs.Faults.{file_fault};
 ghost use Rattle.rbf_access.specs.Mounted.{IsMounted, IsSound, Represents, kept};
 ghost use Rattle.rbf_files.specs.Laid.{MayLay, IsDataOf, Fills, LaysSector};
 
-use crate::sector::{lay, whole_sector};
+use crate::sector::{is_zeros, lay, whole_sector};
 use os9_outer::drive::BlockDriver;
 use rbf_access::{FileFault, Volume};
 use rbf_segs::Segs;
@@ -51,7 +51,7 @@ pub fn fill(
 }
 
 // Lays bytes over those of one sector, whose first byte is the one in place `start` of the file. A
-// sector is not read if all of its bytes are laid.
+// sector is not read if all of its bytes are laid, or are zeros then.
 fn fill_sector(
     volume: &mut Volume,
     d: &mut dyn BlockDriver,
@@ -73,6 +73,9 @@ fn fill_sector(
     ensures cached { IsCacheOf (media d.new) volume.new.cache }
     ensures counts { Counts BlockDriver-dyn (file_fault result) 2 d.old d.new }
 {
+    if is_zeros(start, size, at) {
+        return volume.store(d, lsn, &[0; 256]);
+    }
     if let Some(whole) = whole_sector(start, at, from) {
         return volume.store(d, lsn, &whole);
     }

@@ -1,7 +1,14 @@
-ghost use Rattle.std.specs.Prelude.{◌≡◌, ℕ, ◌+◌, ◌-◌, ◌<◌, ◌≤◌, length, min, slice_index, IfSome};
+ghost use Rattle.std.specs.Prelude.{◌≡◌, ℕ, ◌+◌, ◌-◌, ◌<◌, ◌≤◌, length, min, slice_index, true, IfSome};
 ghost use Rattle.rbf_model.specs.Writes.{put_at};
 ghost use Rattle.rbf_files.specs.Laid.{laid_byte};
 ghost use Rattle.rbf_files.specs.Sector.{CoversSector, IsCleared, IsPartIn};
+
+// Do all bytes of a sector that begins in place `start` of the file lie from `size` up to `at`?
+pub fn is_zeros(start: u32, size: u32, at: u32) -> bool
+    ensures { result ≡ true → (size ≤ start) × (start + 256 ≤ at) }
+{
+    size <= start && at.saturating_sub(start) >= 256
+}
 
 // The bytes of a sector if all of them are laid, from place `start` of the file on.
 pub fn whole_sector(start: u32, at: u32, from: &[u8]) -> Option<[u8; 256]>

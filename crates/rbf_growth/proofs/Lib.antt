@@ -4,3 +4,4 @@ pub mod Gaining
 pub mod Marking
 pub mod Written
 pub mod Growing
+pub mod NoneGrown

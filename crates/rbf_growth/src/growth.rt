@@ -41,6 +41,9 @@ pub fn grow(
     ensures marks { OnVolume (media d.old) (λ v. Counts BlockDriver-dyn
         (file_fault result) (growth_calls v count segs.now result) d.old d.new) }
 {
+    if count == 0 {
+        return Ok(*segs);
+    }
     let k = volume.ident.cluster;
     let longer = gain(&mut volume.map, k, segs, count)?;
     let first = segs.sectors();

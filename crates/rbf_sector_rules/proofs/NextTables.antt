@@ -1,8 +1,8 @@
 -- Tables of the next number that has a property, filled from the end.
-use Rattle.std.proofs.Common.{◌≡◌, ℕ, ◌+◌, ◌-◌, ◌<◌, ◌≤◌, true, List, length, get_or, set, Option, Some, None, MatchOption, sym, ap, ◌∙◌, subst, ⊎_elim, arith}
+use Rattle.std.proofs.Common.{◌≡◌, ℕ, ◌+◌, ◌-◌, ◌<◌, ◌≤◌, true, List, length, get_or, set, replicate, Option, Some, None, MatchOption, sym, ap, ◌∙◌, subst, ⊎_elim, arith}
 use Rattle.std.specs.List.{range_with_len}
 use Rattle.std.proofs.lemmas.Bool.{cases_lt, cases_eq}
-use Rattle.std.proofs.lemmas.List.{get_or-set_same, get_or-set_other, length-set}
+use Rattle.std.proofs.lemmas.List.{get_or-set_same, get_or-set_other, get_or-replicate, length-replicate, length-set}
 use Rattle.rbf_model.specs.Segments.{has}
 use Rattle.rbf_model.proofs.Segments.{range_has, has_range}
 use Rattle.rbf_reach.specs.Least.{IsLeast}
@@ -20,6 +20,17 @@ module _ (B : ℕ → Type 0) (limit : ℕ) where
     size = size;
     here = record { after = omega arith; within = omega arith; is = λ low. absurd (omega arith); least = λ t from low. absurd (omega arith) };
     each = λ t from low. absurd (omega arith);
+  }
+
+  -- or it holds the limit throughout, and no number from s on has the property
+  pub filled_from : (nexts : List ℕ) (s : ℕ) → nexts ≡ replicate limit limit → s ≤ limit → ((t : ℕ) → s ≤ t → t < limit → B t → ⊥) → IsFilled B limit nexts s limit
+  filled_from nexts s all within none = record {
+    size = ap length all ∙ length-replicate limit limit;
+    here = record { after = within; within = omega arith; is = λ low. absurd (omega arith); least = none };
+    each = λ t from low.
+        let P : ℕ → Type 0 = λ n. IsNextSuch B limit t n in
+        subst P (sym (ap (λ xs. get_or xs t 0) all ∙ get_or-replicate limit t limit 0 low))
+        (record { after = omega arith; within = omega arith; is = λ less. absurd (omega arith); least = λ u over below. none u (omega arith) below });
   }
 
   -- the number in front has the property, or not

@@ -27,7 +27,23 @@ fn is_bad_position(image: &IdentifiedImage<'_>, e: u32) -> bool
     entry.lsn == 0 || entry.lsn >= image.ident.total
 }
 
-// For each position the first such position from it on, or how many positions there are.
+// The place behind the last such position; 0 if there is none.
+fn end_of_bad(image: &IdentifiedImage<'_>) -> u32
+    ensures within { result ≤ 8 * image.now.ident.total }
+    ensures none { (e : ℕ) → result ≤ e → e < 8 * image.now.ident.total
+        → ¬ IsBadPosition (disk_on image.now) e }
+{
+    let positions = 8 * image.ident.total;
+    for e in (0..positions).rev() {
+        if is_bad_position(image, e) {
+            return e + 1;
+        }
+    }
+    0
+}
+
+// For each position the first such position from it on, or how many positions there are. Most images
+// have none.
 fn list_next_bad(alloc: Global, image: &IdentifiedImage<'_>) -> Result<Vec<u32>, AllocError>
     ensures { IfOk result
         (λ nexts. AreNexts (IsBadPosition (disk_on image.now))
@@ -36,7 +52,7 @@ fn list_next_bad(alloc: Global, image: &IdentifiedImage<'_>) -> Result<Vec<u32>,
     let positions = 8 * image.ident.total;
     let mut nexts = vec![in alloc; positions; positions as usize]?;
     let mut next = positions;
-    for e in (0..positions).rev() {
+    for e in (0..end_of_bad(image)).rev() {
         if is_bad_position(image, e) {
             next = e;
         }

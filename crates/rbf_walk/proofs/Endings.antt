@@ -1,5 +1,5 @@
 -- The last character of a stored name.
-use Rattle.std.proofs.Common.{◌≡◌, ℕ, ◌+◌, ◌-◌, ◌<◌, ◌≤◌, ◌*◌, ◌%◌, suc, Bool, true, false, not, ◌==◌, ◌&&◌, refl, ap, sym, ◌∙◌, subst, ⊎_elim, eq-eqb, arith}
+use Rattle.std.proofs.Common.{◌≡◌, ℕ, ◌+◌, ◌-◌, ◌<◌, ◌≤◌, ◌*◌, ◌%◌, zero, suc, Bool, true, false, not, ◌==◌, ◌&&◌, refl, ap, sym, ◌∙◌, subst, ⊎_elim, eq-eqb, arith}
 use Rattle.std.specs.Prelude.{Option, Some, None, List, [], ◌∷◌, length, map, take, drop, get_or, if◌then◌else◌, nat_eq, nat_le, nat_lt, option_map, slice_index}
 use Rattle.std.specs.List.{slice_get}
 use Rattle.std.proofs.lemmas.Bool.{and_parts, both_ways, false≢true, cases_lt, lt-ltb}
@@ -79,6 +79,55 @@ ends_alike name entry some short has = by_name (stored_name (take 29 entry)) ref
               ∙ ap (λ xs. get_or xs (length name - 1) 0) (sym agree) ∙ get_or-map lower name (length name - 1) 0 0 (omega arith);
         }
 
+-- before its last character a run has the bytes
+module _ (byte : ℕ) (bytes run : List ℕ) (k : ℕ) (low : k + 1 < length run) where
+  kept_at : (rest : List ℕ) → ((j : ℕ) → j + 1 < length rest → get_or rest j 0 ≡ get_or bytes j 0) → (i : ℕ) → i + 1 < suc (length rest) → get_or (byte ∷ rest) i 0 ≡ get_or (byte ∷ bytes) i 0
+  kept_at rest later zero under = refl
+  kept_at rest later (suc j) under = later j (omega arith)
+
+  module _ (later : (rest : List ℕ) → marked_run bytes ≡ Some rest → (j : ℕ) → j + 1 < length rest → get_or rest j 0 ≡ get_or bytes j 0) where
+    kept_by_rest : (o : Option (List ℕ)) → marked_run bytes ≡ o → option_map (λ r. byte ∷ r) o ≡ Some run → get_or run k 0 ≡ get_or (byte ∷ bytes) k 0
+    kept_by_rest None found is = cc
+    kept_by_rest (Some rest) found is =
+        let same : run ≡ byte ∷ rest = cc in
+        ap (λ xs. get_or xs k 0) same ∙ kept_at rest (later rest found) k (subst (λ (xs : List ℕ). k + 1 < length xs) same low)
+
+    kept_by_stored : (s t : Bool) → (if s then (if t then option_map (λ r. byte ∷ r) (marked_run bytes) else Some (low_bits byte ∷ [])) else None) ≡ Some run
+        → get_or run k 0 ≡ get_or (byte ∷ bytes) k 0
+    kept_by_stored false t is = cc
+    kept_by_stored true true is = kept_by_rest (marked_run bytes) refl is
+    kept_by_stored true false is =
+        let same : run ≡ low_bits byte ∷ [] = cc in
+        let short : k + 1 < 1 = subst (λ (xs : List ℕ). k + 1 < length xs) same low in
+        absurd (omega arith)
+
+runs_at : (bytes run : List ℕ) → marked_run bytes ≡ Some run → (k : ℕ) → k + 1 < length run → get_or run k 0 ≡ get_or bytes k 0
+runs_at [] run h k low = cc
+runs_at (byte ∷ bytes) run h k low = kept_by_stored byte bytes run k low (λ rest found j under. runs_at bytes rest found j under) (is_stored_character (low_bits byte)) (nat_lt byte 128) h
+
+-- an entry that has the name has its characters, with the case of letters ignored
+pub agrees_at : (name entry : List ℕ) (k : ℕ) → length name ≤ 29 → k + 1 < length name → entry_has_name name entry ≡ true → lower (get_or entry k 0) ≡ lower (get_or name k 0)
+agrees_at name entry k short low has = by_name (stored_name (take 29 entry)) refl (and_parts (not (get_or entry 0 0 == 0)) (same_names name (stored_name (take 29 entry))) has).1
+  where
+    by_name : (o : Option (List ℕ)) → stored_name (take 29 entry) ≡ o → same_names name o ≡ true → lower (get_or entry k 0) ≡ lower (get_or name k 0)
+    by_name None found same = absurd (false≢true same)
+    by_name (Some other) found same =
+        let agree : map lower name ≡ map lower other = (bytes_eq-Decides (map lower name) (map lower other)).0 same in
+        let size : length name ≡ length other = sym (length-map name lower) ∙ ap length agree ∙ length-map other lower in
+        let byte : get_or other k 0 ≡ get_or entry k 0 = runs_at (take 29 entry) other (run_is (take 29 entry) other found) k (omega arith) ∙ get_or-take 29 entry k 0 (omega arith) in
+        ap lower (sym byte) ∙ sym (get_or-map lower other k 0 0 (omega arith)) ∙ ap (λ xs. get_or xs k 0) (sym agree) ∙ get_or-map lower name k 0 0 (omega arith)
+
+-- a byte that differs from such a character
+pub differs_at : (name entry : List ℕ) (k here wanted byte character : ℕ) → IsName name → k + 1 < length name → byte ≡ slice_index entry k → slice_get name k ≡ Some character
+    → here ≡ lower byte → wanted ≡ lower character → (here ≡ wanted → ⊥) → entry_has_name name entry ≡ true → false ≡ true
+differs_at name entry k here wanted byte character valid low is at left right differ has =
+    absurd (differ (left ∙ ap lower is ∙ agrees_at name entry k valid.short low has ∙ ap lower (get_or_from_slice_get name k character 0 at) ∙ sym right))
+
+-- what fails a test that each entry with the name passes has it not
+pub fails_test : (has passed : Bool) → (has ≡ true → passed ≡ true) → passed ≡ false → false ≡ has
+fails_test true passed test fails = sym fails ∙ test refl
+fails_test false passed test fails = refl
+
 -- a byte of an entry is one of the sector
 pub entry_byte : (sector : List ℕ) (i at place : ℕ) → at < 32 → place ≡ 32 * i + at → get_or (directory_entry sector i) at 0 ≡ get_or sector place 0
 entry_byte sector i at place low is = get_or-take 32 (drop (32 * i) sector) at 0 low ∙ get_or-drop (32 * i) sector at 0 ∙ ap (λ k. get_or sector k 0) (sym is)
@@ -94,7 +143,6 @@ module _ (name entry : List ℕ) (len byte : ℕ) (is : len ≡ length name) (va
   pub unmarked_differs : byte < 128 → entry_has_name name entry ≡ true → false ≡ true
   unmarked_differs low has = let high : 128 ≤ get_or entry (length name - 1) 0 = (alike has).marked in absurd (omega (arith, place_is))
 
-  pub last_agrees : (character a b : ℕ) → slice_get name (len - 1) ≡ Some character → a ≡ lower (byte % 128) → b ≡ lower character → entry_has_name name entry ≡ true → nat_eq a b ≡ true
-  last_agrees character a b at left right has =
-      eq-eqb a b
-      (left ∙ ap (λ x. lower (x % 128)) place_is ∙ (alike has).last ∙ ap (λ k. lower (get_or name (k - 1) 0)) (sym is) ∙ ap lower (get_or_from_slice_get name (len - 1) character 0 at) ∙ sym right)
+  pub last_agrees : (a b : ℕ) → a ≡ lower (byte % 128) → b ≡ lower (slice_index name (len - 1)) → entry_has_name name entry ≡ true → nat_eq a b ≡ true
+  last_agrees a b left right has =
+      eq-eqb a b (left ∙ ap (λ x. lower (x % 128)) place_is ∙ (alike has).last ∙ ap (λ k. lower (get_or name (k - 1) 0)) (sym is) ∙ sym right)

@@ -1,5 +1,6 @@
 -- A directory that is searched for a name.
-use Rattle.std.specs.Prelude.{◌≡◌, ℕ, ◌+◌, ◌*◌, ◌/◌, ◌<◌, ◌≤◌, Bool, true, false, Option, Some, None, List, length}
+use Rattle.std.specs.Prelude.{◌≡◌, ℕ, ◌+◌, ◌*◌, ◌/◌, ◌<◌, ◌≤◌, Bool, true, false, Option, Some, None, List, length, slice_index}
+use Rattle.os9_base.specs.Name.{IsName, lower}
 use Rattle.rbf_model.specs.Fields.{directory_entry, descriptor_field}
 use Rattle.rbf_model.specs.File.{DiskFile}
 use Rattle.rbf_model.specs.Walk.{entry_has_name, look_up}
@@ -9,6 +10,7 @@ use Rattle.rbf_change.specs.Names.{entry_place, place_of}
 use Rattle.rbf_sector.specs.declared.fd.Fd.{Fd}
 use Rattle.rbf_access.specs.Mounted.{Represents}
 use Rattle.rbf_access.specs.Reading.{IsFdOf}
+use Rattle.rbf_walk.specs.declared.sector.NameEnd.{NameEnd}
 use Rattle.rbf_walk.specs.declared.directory.Searched.{Searched}
 use Rattle.rbf_walk.specs.declared.directory.Searched.TheVariants.{Found, Absent}
 
@@ -21,6 +23,12 @@ pub record IsFirst (test : List ℕ → Bool) (bytes : List ℕ) (count i : ℕ)
   pub below : i < count
   pub passes : test (directory_entry bytes i) ≡ true
   pub before : NonePasses test bytes i
+
+-- the end of a name: the place of its last character, and that in lower case
+pub record IsEndOf (name : List ℕ) (end : NameEnd) : Type 0 where
+  pub is_name : IsName name
+  pub place : end.at + 1 ≡ length name
+  pub character : end.last ≡ lower (slice_index name end.at)
 
 -- the descriptor is that of a file of the volume that the media represents
 pub record IsFdOn (media : Option (List ℕ)) (fd : Fd) : Type 0 where

@@ -50,15 +50,17 @@ pub fn search(
     let entries = dir.size / 32;
     let mut free = None;
     for place in 0..entries.div_ceil(8) {
-        let bytes = v.load(d, dir.segs.lsn_of(place).unwrap())?;
+        let lsn = dir.segs.lsn_of(place).unwrap();
+        v.bring(d, lsn)?;
+        let bytes = v.sector(lsn);
         let count = entries_in(entries, place);
-        if let Some(i) = named_in(&bytes, count, name) {
+        if let Some(i) = named_in(bytes, count, name) {
             return Ok(Searched::Found {
                 place: 8 * place + i,
-                descriptor: descriptor_in(&bytes, i),
+                descriptor: descriptor_in(bytes, i),
             });
         }
-        free = first_free(free, &bytes, count, place);
+        free = first_free(free, bytes, count, place);
     }
     Ok(Searched::Absent {
         free: free.unwrap_or(entries),

@@ -1,11 +1,18 @@
-ghost use Rattle.std.specs.Prelude.{◌≡◌, ◌-◌, ◌*◌, ◌^◌, ◌<◌, ◌≤◌, ◌+◌, true, min, not, slice_index, IfSome, MatchOption, Some, None};
+ghost use Rattle.std.specs.Prelude.{◌≡◌, ℕ, List, ◌-◌, ◌*◌, ◌^◌, ◌<◌, ◌≤◌, ◌+◌, true, min, not, slice_index, IfSome, MatchOption, Some, None};
 ghost use Rattle.os9_base.specs.Name.{lower as lower_lem};
 ghost use Rattle.rbf_model.specs.Fields.{directory_entry, descriptor_field, is_used};
 ghost use Rattle.rbf_model.specs.Walk.{entry_has_name};
-ghost use Rattle.rbf_walk.specs.Search.{NonePasses, IsFirst};
+ghost use Rattle.rbf_walk.specs.Search.{NonePasses, IsFirst, IsEndOf};
 
 use os9_base::name::{Name, header_name, same_name};
 use rbf_sector::read_entry;
+
+// The end of a name: the place of its last character, and that in lower case.
+#[derive(Clone, Copy, Debug)]
+pub struct NameEnd {
+    pub at: u8,
+    pub last: u8,
+}
 
 // How many of a directory's entries are in the sector in this place.
 pub fn entries_in(entries: u32, place: u32) -> u32
@@ -22,12 +29,24 @@ pub fn named_in(sector: &[u8; 256], count: u32, name: &Name) -> Option<u32>
         (NonePasses (entry_has_name name.now) sector.now count)
         (IsFirst (entry_has_name name.now) sector.now count) }
 {
+    let end = end_of(name);
     for i in 0..count {
-        if has_name_at(sector, i, name) {
+        if has_name_at(sector, i, name, end) {
             return Some(i);
         }
     }
     None
+}
+
+// The end of a name.
+fn end_of(name: &Name) -> NameEnd
+    ensures { IsEndOf name.now result }
+{
+    let at = name.len() - 1;
+    NameEnd {
+        at,
+        last: lower(name.byte(at)),
+    }
 }
 
 // The first of the entries of a sector that is free.
@@ -54,11 +73,15 @@ pub fn descriptor_in(sector: &[u8; 256], i: u32) -> u32
 }
 
 // Is the entry in a place of a sector used, and has it this name, with the case of letters ignored?
-fn has_name_at(sector: &[u8; 256], i: u32, name: &Name) -> bool
-    requires { i < 8 }
+fn has_name_at(sector: &[u8; 256], i: u32, name: &Name, end: NameEnd) -> bool
+    requires entry { i < 8 }
+    requires end { IsEndOf name.now end }
     ensures { result ≡ entry_has_name name.now (directory_entry sector.now i) }
 {
-    if !ends_alike(sector, i, name) {
+    if !ends_alike(sector, i, end) {
+        return false;
+    }
+    if !begins_alike(sector, i, name) {
         return false;
     }
     has_name(&entry_at(sector, i), name)
@@ -66,16 +89,35 @@ fn has_name_at(sector: &[u8; 256], i: u32, name: &Name) -> bool
 
 // Does an entry end where the name does, and with that character? No other one has the name, so most
 // entries need no further look.
-fn ends_alike(sector: &[u8; 256], i: u32, name: &Name) -> bool
+fn ends_alike(sector: &[u8; 256], i: u32, end: NameEnd) -> bool
+    requires entry { i < 8 }
+    requires within { end.at < 32 }
+    ensures { (name : List ℕ) → IsEndOf name end
+        → entry_has_name name (directory_entry sector.now i) ≡ true → result ≡ true }
+{
+    let byte = byte_at(sector, i, end.at);
+    if byte < 128 {
+        return false;
+    }
+    lower(byte % 128) == end.last
+}
+
+// Has an entry the characters of the name before the last one? No other one has the name. They differ
+// near the end most often.
+fn begins_alike(sector: &[u8; 256], i: u32, name: &Name) -> bool
     requires { i < 8 }
     ensures { entry_has_name name.now (directory_entry sector.now i) ≡ true → result ≡ true }
 {
     let last = name.len() - 1;
-    let byte = byte_at(sector, i, last);
-    if byte < 128 {
-        return false;
+    for behind in 0..last {
+        let at = last - 1 - behind;
+        let here = lower(byte_at(sector, i, at));
+        let wanted = lower(name.byte(at));
+        if here != wanted {
+            return false;
+        }
     }
-    lower(byte % 128) == lower(name.byte(last))
+    true
 }
 
 // A letter in lower case, any other character as it is.

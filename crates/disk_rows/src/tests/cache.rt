@@ -8,20 +8,23 @@ use rbf_check::check;
 use std::alloc::{AllocError, Global};
 use std::test::Fail;
 
-// What differs from the smallest volume: there are 128 sectors, and the root has 66 of them.
-const LONG_ROOT: [(usize, u8); 6] = [
-    (2, 128),
-    (5, 16),
-    (264, 0xF8),
-    (523, 66),
+// What differs from the smallest volume: there are 320 sectors, and the root has 258 of them.
+const LONG_ROOT: [(usize, u8); 9] = [
+    (1, 1),
+    (2, 64),
+    (5, 40),
+    (288, 0xF8),
+    (522, 1),
+    (523, 2),
     (524, 0),
-    (532, 66),
+    (531, 1),
+    (532, 2),
 ];
 
 fn image_with_long_root(alloc: Global) -> Result<Vec<u8>, AllocError> {
     let mut image = smallest(alloc)?;
-    image.extend_from_slice(&vec![in alloc; 0u8; 28_672]?)?;
-    for byte in image.iter_mut().skip(256).take(8) {
+    image.extend_from_slice(&vec![in alloc; 0u8; 77_824]?)?;
+    for byte in image.iter_mut().skip(256).take(32) {
         *byte = 0xFF;
     }
     put(&mut image, &LONG_ROOT);
@@ -34,7 +37,7 @@ fn read_sectors(
     alloc: Global,
     image: &[u8],
     d: &mut dyn BlockDriver,
-    places: &[u8],
+    places: &[u16],
 ) -> Result<(), Fail>
     requires { media d.old ≡ Some image.now }
 {
@@ -49,8 +52,8 @@ fn read_sectors(
 }
 
 // The first sector of the root, so many others, and the first one again.
-fn first_again(alloc: Global, others: u8) -> Result<Vec<u8>, AllocError> {
-    let mut places = vec![in alloc; 0u8]?;
+fn first_again(alloc: Global, others: u16) -> Result<Vec<u16>, AllocError> {
+    let mut places = vec![in alloc; 0u16]?;
     for place in 0..others {
         places.push(place.saturating_add(1))?;
     }
@@ -59,13 +62,13 @@ fn first_again(alloc: Global, others: u8) -> Result<Vec<u8>, AllocError> {
 }
 
 // A mount makes two calls of the drive, and the first read two: for the descriptor, and for the
-// sector. With the descriptor 64 sectors are held, so the first one still is behind 62 others, and
-// is not behind 64.
+// sector. With the descriptor 256 sectors are held, so the first one still is behind 254 others, and
+// is not behind 256.
 #[test]
 fn cache_and_free_list(rt: HostRuntime) -> Result<(), Fail> {
-    for (others, calls) in [(0, 4), (1, 5), (62, 66), (64, 69)] {
+    for (others, calls) in [(0, 4), (1, 5), (254, 258), (256, 261)] {
         let image = image_with_long_root(rt.alloc())?;
-        let mut drive = drive_with(rt.alloc(), &image, 99)?;
+        let mut drive = drive_with(rt.alloc(), &image, 999)?;
         read_sectors(
             rt.alloc(),
             &image,

@@ -93,15 +93,18 @@ fn bytes_past_the_clusters_are_kept(rt: HostRuntime) -> Result<(), Fail> {
 #[test]
 fn held_sectors(rt: HostRuntime) -> Result<(), Fail> {
     let mut cache = SectorCache::new(rt.alloc())?;
-    let mut bytes = [0; 256];
-    let before = cache.get(0, 7, &mut bytes);
+    let before = cache.touch(0, 7);
     cache.keep(0, 7, &[9; 256]);
-    let kept = cache.get(0, 7, &mut bytes);
-    let of_another_drive = cache.get(1, 7, &mut bytes);
+    let kept = cache.touch(0, 7);
+    let last = match cache.bytes(0, 7) {
+        Some(bytes) => bytes[255],
+        None => 0,
+    };
+    let of_another_drive = cache.touch(1, 7);
     cache.forget(0, 7);
-    let forgotten = cache.get(0, 7, &mut bytes);
+    let forgotten = cache.touch(0, 7);
     assert_eq!(rt;
-        (before, kept, of_another_drive, forgotten, bytes[255]),
+        (before, kept, of_another_drive, forgotten, last),
         (false, true, false, false, 9)
     );
     Ok(())

@@ -79,7 +79,7 @@ fn write_driver_calls(rt: HostRuntime) -> Result<(), Fail> {
     Ok(())
 }
 
-// Eleven clusters are free. No bytes make no call.
+// Eleven clusters are free. Three sectors of a gap are not read. No bytes make no call.
 #[test]
 fn writes_of_many_and_of_no_bytes(rt: HostRuntime) -> Result<(), Fail> {
     let full = Err(FileFault::NoCluster);
@@ -87,7 +87,7 @@ fn writes_of_many_and_of_no_bytes(rt: HostRuntime) -> Result<(), Fail> {
         (0, &[7; 2816], Ok(()), 16, 2816),
         (0, &[7; 2817], full, 3, 0),
         (4_294_967_295, &[7; 2], full, 3, 0),
-        (1000, &[7], Ok(()), 13, 1001),
+        (1000, &[7], Ok(()), 10, 1001),
         (9, &[], Ok(()), 2, 0),
     ];
     for (at, bytes, answer, calls, size) in rows {

@@ -1,11 +1,23 @@
 use Rattle.std.proofs.Common.{◌+◌, slice_index, refl, ap, ◌∙◌, arith}
+use Rattle.std.proofs.lemmas.List.{length-replicate}
 use Rattle.os9_outer.specs.Drive.{with_sector}
 use Rattle.rbf_files.specs.Laid.{laid_byte}
-use Rattle.rbf_files.proofs.LaidSector.{covered}
+use Rattle.rbf_files.proofs.LaidBytes.{zeros}
+use Rattle.rbf_files.proofs.LaidSector.{all_zeros, covered}
 use Rattle.rbf_files.proofs.data.fill_sector.Goals as goal
 
 pub store-requires-clause-sound : goal.store-requires-clause-sound
 store-requires-clause-sound g c =
+    c.requires.sound _
+    (record {
+      bytes = zeros 256;
+      whole = length-replicate 256 0;
+      each = λ q low. all_zeros c.args.start c.args.at c.args.size c.args.from.now (c.is_zeros.ensures c.if-is_zeros.true) q _ low;
+      media = refl;
+    })
+
+pub store-requires-2-clause-sound : goal.store-requires-2-clause-sound
+store-requires-2-clause-sound g c =
     c.requires.sound _
     (record {
       bytes = c.in-Some.whole;
@@ -14,8 +26,8 @@ store-requires-clause-sound g c =
       media = refl;
     })
 
-pub store-requires-2-clause-sound : goal.store-requires-2-clause-sound
-store-requires-2-clause-sound g c =
+pub store-requires-3-clause-sound : goal.store-requires-3-clause-sound
+store-requires-3-clause-sound g c =
     c.requires.sound _
     (record {
       bytes = c.lay.new.bytes;

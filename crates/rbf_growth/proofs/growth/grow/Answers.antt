@@ -7,12 +7,24 @@ use Rattle.rbf_model.specs.Geometry.{map_sectors}
 use Rattle.rbf_change.specs.Calls.{shape, cluster_size}
 use Rattle.rbf_access.specs.MapMarks.{has_mark_of}
 use Rattle.rbf_access.proofs.Mounting.{free_total_is}
-use Rattle.rbf_growth.specs.Grown.{is_gained}
+use Rattle.rbf_growth.specs.Grown.{IsGrown, is_gained}
 use Rattle.rbf_growth.specs.Gained.{ArePlaces, AreSizes, IsGivenBack}
 use Rattle.rbf_growth.specs.Marked.{AllWritten}
 use Rattle.rbf_growth.proofs.Gaining.{places_gained, those_gained}
 use Rattle.rbf_growth.proofs.Growing.{agrees_on, mounted_same, sizes_are, apart_is, too_many_is, marked_fresh, grown, grown_agrees, ended, back_agrees, mounted_where, full_is, if_some, sizes_after, enough_free, wanted_all, wanted_gained, wanted_calls, at_most_all, at_most_count, at_most_wanted}
+use Rattle.rbf_growth.proofs.NoneGrown.{none_grown}
 use Rattle.rbf_growth.proofs.growth.grow.Goals as goal
+
+pub returns-then-count-eq0-clause-grows : goal.returns-then-count-eq0-clause-grows
+returns-then-count-eq0-clause-grows g c v on = record {
+  grown = subst (λ n. IsGrown v n _ _ c.args.segs.now c.args.segs.now) (sym c.if-count-eq0.true) (none_grown v _ on c.args.segs.now c.requires.few);
+  full = (λ is. cc, λ low. absurd (omega (arith, low, c.if-count-eq0.true)));
+  runs = search rules;
+  ends = search rules;
+}
+
+pub returns-then-count-eq0-clause-mounted : goal.returns-then-count-eq0-clause-mounted
+returns-then-count-eq0-clause-mounted g c = c.requires.mounted
 
 pub gain-requires-clause-sizes : goal.gain-requires-clause-sizes
 gain-requires-clause-sizes g c =

@@ -4,13 +4,14 @@ use Rattle.rbf_model.specs.Geometry.{sector}
 use Rattle.rbf_sector.specs.Ident.{geometry_of}
 use Rattle.rbf_sector_rules.specs.Rules.{IsBadPosition}
 use Rattle.rbf_sector_rules.specs.Nexts.{IsNextSuch}
-use Rattle.rbf_sector_rules.proofs.NextTables.{IsFilled, filled_none, filled_more, filled_all, next_with, next_without}
+use Rattle.rbf_sector_rules.proofs.NextTables.{IsFilled, filled_from, filled_more, filled_all, next_with, next_without}
 use Rattle.rbf_sector_rules.proofs.numbers.list_next_bad.Goals as goal
 use Rattle.rbf_sector_rules.proofs.numbers.list_next_bad.Goals.{then-is_bad_position, else-is_bad_position}
 
 pub loop-e-init : goal.loop-e-init
 loop-e-init c =
-    filled_none (IsBadPosition (disk_of (geometry_of c.args.image.now.ident) (sector c.args.image.now.bytes.now))) (8 * c.args.image.now.ident.total) c.in_ok-nexts.nexts.items (search (rules, c.in_ok-nexts.ensures.len, c.in_ok-nexts.nexts.ok.0))
+    filled_from (IsBadPosition (disk_of (geometry_of c.args.image.now.ident) (sector c.args.image.now.bytes.now))) (8 * c.args.image.now.ident.total) c.in_ok-nexts.nexts.items c.end_of_bad.result
+    (c.in_ok-nexts.ensures.items_if_clones_equal (search rules)) c.end_of_bad.ensures.within c.end_of_bad.ensures.none
 
 pub loop-e-preserved : goal.loop-e-preserved
 loop-e-preserved c =

@@ -1,13 +1,18 @@
+use Rattle.std.proofs.Common.{◌≡◌, ◌+◌, ◌-◌, slice_index, ap, ◌∙◌, arith}
+use Rattle.os9_base.specs.Name.{lower}
+use Rattle.rbf_model.specs.Fields.{directory_entry}
 use Rattle.rbf_walk.proofs.Endings.{unmarked_differs, last_agrees}
 use Rattle.rbf_walk.proofs.sector.ends_alike.Goals as goal
-use Rattle.rbf_model.specs.Fields.{directory_entry}
 
 pub returns-then-byte-lt128 : goal.returns-then-byte-lt128
-returns-then-byte-lt128 c =
-    unmarked_differs c.args.name.now (directory_entry c.args.sector.now c.args.i) c.len-last.result c.byte_at-byte.result c.len-last.ensures.length c.len-last.ensures.name
-    c.byte_at-byte.ensures c.if-byte-lt128.true
+returns-then-byte-lt128 c name end =
+    let entry = directory_entry c.args.sector.now c.args.i in
+    let place : c.args.end.at ≡ c.args.end.at + 1 - 1 = omega arith in
+    unmarked_differs name entry (c.args.end.at + 1) c.byte_at-byte.result end.place end.is_name (c.byte_at-byte.ensures ∙ ap (λ k. slice_index entry k) place) c.if-byte-lt128.true
 
 pub returns : goal.returns
-returns c =
-    last_agrees c.args.name.now (directory_entry c.args.sector.now c.args.i) c.len-last.result c.byte_at-byte.result c.len-last.ensures.length c.len-last.ensures.name c.byte_at-byte.ensures
-    c.byte.result c.lower.result c.lower-2.result c.byte.ensures c.lower.ensures c.lower-2.ensures
+returns c name end =
+    let entry = directory_entry c.args.sector.now c.args.i in
+    let place : c.args.end.at ≡ c.args.end.at + 1 - 1 = omega arith in
+    last_agrees name entry (c.args.end.at + 1) c.byte_at-byte.result end.place end.is_name (c.byte_at-byte.ensures ∙ ap (λ k. slice_index entry k) place) c.lower.result c.args.end.last
+    c.lower.ensures (end.character ∙ ap (λ k. lower (slice_index name k)) place)

@@ -34,15 +34,15 @@ use Rattle.os9_kernel.proofs.Calling.{end-tied, goes-on, lives-so}
 use Rattle.os9_kernel.proofs.Changing.{keeps-attempt, keeps-drives}
 use Rattle.os9_kernel.proofs.Counting.{attempt-within-at, leaves-drives}
 use Rattle.os9_kernel.proofs.Holding.{holds-still}
-use Rattle.os9_kernel.proofs.PathCalls.{attempt-tick, cases-memory, is-clock, is-sound, lives-on, now-here, wants-so}
+use Rattle.os9_kernel.proofs.PathCalls.{attempt-tick, cases-memory, is-clock, is-sound, lives-on, now-here, time-for, time-shown, wants-so}
 use Rattle.os9_kernel.proofs.Pending.{attempt-lowers}
 use Rattle.os9_kernel.proofs.Represented.{no-call}
 use Rattle.os9_kernel.proofs.Serving.{path-served}
 use Rattle.os9_kernel.proofs.Waiting.{cause-so, code-held, records-kept, waits-so}
 use Rattle.os9_kernel.proofs.kernel.Kernel.path_call.Goals as goal
 
-pub now-time-requires : goal.now-time-requires
-now-time-requires g c =
+pub time_for-time-requires : goal.time_for-time-requires
+time_for-time-requires g c =
     let (s, tied) = c.requires.stands in
     is-clock c.args.self.now _ s tied
 
@@ -68,7 +68,7 @@ pub returns-clause-event : goal.returns-clause-event
 returns-clause-event g c =
     let old = c.args.self.now in
     let new = c.tell_end.new.self in
-    let time = c.now-time.result in
+    let made = c.time_for-time.result in
     let p = c.args.p in
     let act = Attempt c.args.code in
     let next = c.requires.next in
@@ -77,9 +77,11 @@ returns-clause-event g c =
     let after : Outside = outside (λ table. (g.dyn-1.0.entry table).1) c.attempt-end.new.devices.drives.items (λ table. (g.dyn-2.0.entry table).1) c.attempt-end.new.devices.terms.items in
     let other : c.event_end.result ≢ EventEnd.NoMemory → c.attempt-end.result ≢ NoMemory = (λ other out. other (c.event_end.ensures ∙ ap event_end_of out)) in
     let same_drives : c.attempt-end.result ≡ NoMemory → after.drives ≡ before.drives = (λ out. ap (λ drives. drive_views (λ table. (g.dyn-1.0.entry table).1) drives.items) (c.attempt-end.ensures.drives_kept out)) in
-    let (s0, tied0) = c.requires.stands in record {
+    let (s0, tied0) = c.requires.stands in
+    let (time, is_time) = time-shown old before s0 tied0 in
+    let fits = time-for old.clock old.processes.tick c.args.call made time c.time_for-time.ensures is_time in record {
       step = λ ran s tied.
-          let it = ((c.attempt-end.ensures.call s.inner s.files tied.inner tied.files tied.running.kinds).attempted (other ran)).attempts in
+          let it = ((c.attempt-end.ensures.call time fits s.inner s.files tied.inner tied.files tied.running.kinds).attempted (other ran)).attempts in
           let (there, same) = c.tell_end.ensures.told s.inner it.result it.comes in
           let attempt : FileAttempts c.args.call s.inner s.files time p.0 it.result it.left s.terms after.terms = subst (λ (terms : List TerminalState). FileAttempts c.args.call s.inner s.files time p.0 it.result it.left terms after.terms) (sym (terms-are old p act next before s tied)) it.attempt in
           let stands : StandsFor new.files after.drives it.left = subst (λ (files : FileState). StandsFor files after.drives it.left) (sym c.tell_end.ensures.files) it.stands in
@@ -87,7 +89,7 @@ returns-clause-event g c =
           event-then old p act next before s tied new after _ (after_attempt s.inner p.0 it.result) it.left s.clock after.terms c.tell_end.ensures.chosen there stands (clock-is old p act next before s tied ∙ sym c.tell_end.ensures.clock) refl (
             it.result,
             rest,
-            (time, now-here old before s tied time c.now-time.ensures, subst (λ (service : Service). Serves service s time p.0 it.result rest) (sym c.requires.serves) (attempt, refl)),
+            (time, now-here old before s tied time is_time, subst (λ (service : Service). Serves service s time p.0 it.result rest) (sym c.requires.serves) (attempt, refl)),
             c.event_end.ensures ∙ ap event_end_of same ∙ end-tied it.result,
             refl,
           );
@@ -101,15 +103,15 @@ returns-clause-event g c =
             call = c.args.call;
             is_call = coded.1;
             now = time;
-            is_now = now-here old before s tied time c.now-time.ensures;
+            is_now = now-here old before s tied time is_time;
             lacks =
-                subst (λ (terms : List TerminalState). LacksMemory c.args.call s.inner s.files time p.0 terms after.terms) (sym (terms-are old p act next before s tied)) ((c.attempt-end.ensures.call s.inner s.files tied.inner tied.files tied.running.kinds).memory is);
+                subst (λ (terms : List TerminalState). LacksMemory c.args.call s.inner s.files time p.0 terms after.terms) (sym (terms-are old p act next before s tied)) ((c.attempt-end.ensures.call time fits s.inner s.files tied.inner tied.files tied.running.kinds).memory is);
             drives = holds-still old before s tied after (same_drives is);
           };
       waits = λ is.
           let waiting = waits-so c.attempt-end.result (sym c.event_end.ensures ∙ is) in
           let now = c.attempt-end.new.s in
-          let it = ((c.attempt-end.ensures.call s0.inner s0.files tied0.inner tied0.files tied0.running.kinds).attempted (λ out. let no : Wait ≡ NoMemory = sym waiting ∙ out in cc)).attempts in
+          let it = ((c.attempt-end.ensures.call time fits s0.inner s0.files tied0.inner tied0.files tied0.running.kinds).attempted (λ out. let no : Wait ≡ NoMemory = sym waiting ∙ out in cc)).attempts in
           let effect = io_effect it.attempt.effect in
           let came : Comes s0.inner p.0 (result_of s0.inner p.0 effect) Wait now = subst (λ (result : CallResult). Comes s0.inner p.0 result Wait now) it.attempt.result_is (subst (λ (end : CallEnd). Comes s0.inner p.0 it.result end now) waiting it.comes) in
           let same : old.processes.table ≡ now.table = sym (records-kept s0.inner p.0 effect now came ∙ ap (λ (m : Inner). m.records) tied0.inner.is) in record {
@@ -124,7 +126,7 @@ returns-clause-event g c =
           };
       going = λ ran. (p, c.tell_end.ensures.chosen ∙ next.chosen, lives-so c.attempt-end.result new.processes.table p.0 (sym c.event_end.ensures ∙ ran) c.tell_end.ensures.lives);
       count = λ ran.
-          let it = ((c.attempt-end.ensures.call s0.inner s0.files tied0.inner tied0.files tied0.running.kinds).attempted (other ran)).attempts in
+          let it = ((c.attempt-end.ensures.call time fits s0.inner s0.files tied0.inner tied0.files tied0.running.kinds).attempted (other ran)).attempts in
           let (there, same) = c.tell_end.ensures.told s0.inner it.result it.comes in
           sym (ap (λ (m : Inner). m.tick) there.is)
           ∙ attempt-tick c.args.call s0.inner s0.files time p.0 it.result it.left before.terms after.terms it.attempt
@@ -134,13 +136,13 @@ returns-clause-event g c =
             | inl out ↦
                 leaves-drives old before after (same_drives out) s now tied is
             | inr there ↦
-                attempt-within-at old p c.args.code next before s tied (on_paths c.args.call) c.requires.serves time now after (now-here old before s tied time c.now-time.ensures) is ((c.attempt-end.ensures.call s.inner s.files tied.inner tied.files tied.running.kinds).attempted there).calls
+                attempt-within-at old p c.args.code next before s tied (on_paths c.args.call) c.requires.serves time now after (now-here old before s tied time is_time) is ((c.attempt-end.ensures.call time fits s.inner s.files tied.inner tied.files tied.running.kinds).attempted there).calls
           ];
       images = λ s drive tied unasked.
           elim (cases-memory c.attempt-end.result) [
             | inl out ↦ keeps-drives old before after (same_drives out) s drive tied unasked
             | inr there ↦
-                keeps-attempt old p c.args.code next before s tied c.args.call c.requires.serves time (now-here old before s tied time c.now-time.ensures) c.attempt-end.result after drive ((c.attempt-end.ensures.call s.inner s.files tied.inner tied.files tied.running.kinds).attempted there).drives unasked
+                keeps-attempt old p c.args.code next before s tied c.args.call c.requires.serves time (now-here old before s tied time is_time) c.attempt-end.result after drive ((c.attempt-end.ensures.call time fits s.inner s.files tied.inner tied.files tied.running.kinds).attempted there).drives unasked
           ];
     }
 
@@ -150,8 +152,10 @@ returns-clause-progress g c ran =
     let new = c.tell_end.new.self in
     let p = c.args.p in
     let (s, tied) = c.requires.stands in
+    let (time, is_time) = time-shown old _ s tied in
+    let fits = time-for old.clock old.processes.tick c.args.call c.time_for-time.result time c.time_for-time.ensures is_time in
     let other : c.attempt-end.result ≢ NoMemory = (λ out. let no : EventEnd.Ran ≡ EventEnd.NoMemory = sym ran ∙ c.event_end.ensures ∙ ap event_end_of out in cc) in
-    let it = ((c.attempt-end.ensures.call s.inner s.files tied.inner tied.files tied.running.kinds).attempted other).attempts in
+    let it = ((c.attempt-end.ensures.call time fits s.inner s.files tied.inner tied.files tied.running.kinds).attempted other).attempts in
     let (there, same) = c.tell_end.ensures.told s.inner it.result it.comes in
     let (t, regs, is) = goes-on it.result (sym (c.event_end.ensures ∙ ap event_end_of same) ∙ ran) s.inner p.0 in
     let none = no-call new.processes t p.0 regs c.requires.next.process.1 (subst (λ (m : Inner). RepresentsProcesses new.processes m) is there) in
@@ -160,6 +164,8 @@ returns-clause-progress g c ran =
 pub returns-clause-drives : goal.returns-clause-drives
 returns-clause-drives g c =
     let (s, tied) = c.requires.stands in
+    let (time, is_time) = time-shown c.args.self.now _ s tied in
+    let fits = time-for c.args.self.now.clock c.args.self.now.processes.tick c.args.call c.time_for-time.result time c.time_for-time.ensures is_time in
     let was = c.args.devices.now.drives in
     let now = c.attempt-end.new.devices.drives in
     let view = boxed_drive_view (λ table. (g.dyn-1.0.entry table).1) in
@@ -167,6 +173,6 @@ returns-clause-drives g c =
       | inl out ↦ ap (λ drives. vec_len drives) (c.attempt-end.ensures.drives_kept out)
       | inr other ↦
           now.ok.0 ∙ sym (length-map now.items view)
-          ∙ ((c.attempt-end.ensures.call s.inner s.files tied.inner tied.files tied.running.kinds).attempted other).calls.as_many
+          ∙ ((c.attempt-end.ensures.call time fits s.inner s.files tied.inner tied.files tied.running.kinds).attempted other).calls.as_many
           ∙ length-map was.items view ∙ sym was.ok.0
     ]

@@ -22,7 +22,7 @@ pub returns-clause-place : goal.returns-clause-place
 returns-clause-place c =
     let many = c.requires.sound.places_are in
     let last = sym c.in-Some-peek_lru.ensures in
-    let low = of_last (λ k. k < 64) c.in-Some-peek_lru.n.now c.args.order.now.entries (last_is c.in-Some-peek_lru.n.now c.args.order.now.entries last) c.requires.sound.numbers.below in
+    let low = of_last (λ k. k < 256) c.in-Some-peek_lru.n.now c.args.order.now.entries (last_is c.in-Some-peek_lru.n.now c.args.order.now.entries last) c.requires.sound.numbers.below in
     let full : AreFull c.args.self.now.sectors.items = elim c.if-not-self.branch [
       | then-not-self+in_default-empty_place w ↦ subst AreFull w.deref.ensures.value w.in_default-empty_place.ensures.full
       | else-not-self w ↦ c.requires.indexed.none_empty w.if-not-self.false
