@@ -27,7 +27,7 @@ pub record Placed : Type 0 where
 abbrev pub placed_at : ℕ → Action → Placed
 placed_at offset action = record { offset = offset; action = action }
 
--- the statements of lines, the first at this offset; each follows the one before
+-- the statements of lines, the first at this offset, each after the one before
 abbrev pub placed_from : ℕ → List LineRead → List Placed
 placed_from offset [] = []
 placed_from offset (skipped ∷ ls) = placed_from offset ls
@@ -38,14 +38,14 @@ placed_from offset (stated s ∷ ls) =
 abbrev pub placed : List ℕ → List Placed
 placed source = placed_from 0 (source_lines source)
 
--- the statements alone
+-- the statements without their offsets
 abbrev pub actions_of : List LineRead → List Action
 actions_of [] = []
 actions_of (skipped ∷ ls) = actions_of ls
 actions_of (broken name ∷ ls) = actions_of ls
 actions_of (stated s ∷ ls) = s.action ∷ actions_of ls
 
--- ---- what statements stand for, where the whole source reaches this
+-- ---- what statements mean, if the whole source reaches this
 
 -- the value of an expression at an offset, 0 if it has none
 abbrev pub value_there : Reached → ℕ → List ℕ → ℤ
@@ -57,7 +57,7 @@ byte_there all offset text = modulo 256 (value_there all offset text)
 abbrev pub word_there : Reached → ℕ → List ℕ → ℕ
 word_there all offset text = modulo 65536 (value_there all offset text)
 
--- the instruction that a shape is at an offset, if its value is known and in range
+-- the instruction of a shape at an offset, if its value is known and in range
 abbrev pub instr_there : Reached → ℕ → Shape → Option Instr
 instr_there all offset s =
     option_map (with_tail s)
@@ -97,7 +97,7 @@ abbrev pub is_empty : List Action → Bool
 is_empty [] = true
 is_empty (action ∷ actions) = false
 
--- of these statements the last is `emod`, and no other one is `mod` or `emod`
+-- the last of these statements is `emod`, and no other one is `mod` or `emod`
 abbrev pub is_closed : List Action → Bool
 is_closed [] = false
 is_closed (action ∷ actions) =
@@ -122,7 +122,7 @@ is_filled all p =
 abbrev pub kind_of : ModuleFields → ℕ
 kind_of m = modulo 256 (constant_value m.kind)
 
--- the header that `mod` gives, of a module that begins at this offset
+-- the header that `mod` gives, of a module with this entry
 abbrev pub header_with : Reached → ModuleFields → ℕ → Header
 header_with all m entry = record {
   kind = kind_of m;
@@ -140,15 +140,15 @@ abbrev pub offset_below : ℕ → Option ℤ → Option ℕ
 offset_below end (Some (pos n)) = if nat_lt n end then Some n else None
 offset_below end _ = None
 
--- where a module of this type begins that ends there, if it can: a program at `start`, which lies before the CRC;
--- another one nowhere
+-- the entry of a module of this type that ends there: for a program the label `start`, if it is before the CRC; for
+-- another module 0
 abbrev pub entry_at : Reached → ℕ → ℕ → Option ℕ
 entry_at all kind end = if is_program_kind kind then offset_below end (start_value all) else Some 0
 
 abbrev pub entry_of : Reached → ModuleFields → List ℕ → Option ℕ
 entry_of all m code = entry_at all (kind_of m) (code_offset m.name (kind_of m) + length code)
 
--- the module of this code, if it has a name, is not too long and can begin
+-- the module of this code, if it has a valid name, is not too long and has an entry
 abbrev pub module_with : Reached → ModuleFields → List ℕ → Option (List ℕ)
 module_with all m code =
     if is_module_name m.name && nat_le (guest_size m.name (kind_of m) code) MOST_GROUP_BYTES
@@ -166,7 +166,7 @@ module_of all ls =
     (λ m. option_and_then (module_with all m) (code_if_filled all (placed_from 0 ls))) (first_start (actions_of ls))
     else None
 
--- the module, or that there is none
+-- the module, or the fault that there is none
 abbrev pub or_no_module : Option (List ℕ) → Result (List ℕ) SourceFault
 or_no_module (Some bytes) = Ok bytes
 or_no_module None = Err (fault_on 0 NoModule)
@@ -175,20 +175,20 @@ abbrev pub or_fault : Option SourceFault → Option (List ℕ) → Result (List 
 or_fault (Some fault) made = Err fault
 or_fault None made = or_no_module made
 
--- the module that a source makes, or the first line that breaks a rule with the least one; line 0 if all lines are
--- right and make no module
+-- the module that a source makes, or the first line that breaks a rule and the least rule that it breaks; line 0 if no
+-- line breaks a rule but there is no module
 unfoldable pub outcome_of : List ℕ → Result (List ℕ) SourceFault
 outcome_of source =
     let lines = source_lines source in or_fault (source_fault source) (module_of (reached_from start lines) lines)
 
 -- ---- the law
 
--- these bytes stand at an offset
+-- these bytes are at an offset
 abbrev pub StandAt : List ℕ → ℕ → List ℕ → Type 0
 StandAt bytes offset part = take (length part) (drop offset bytes) ≡ part
 
--- a statement stands at its offset: an instruction is read there as what it spells, `mod` has its name behind the
--- header, `emod` is the CRC of what is above it, and another statement has its bytes there
+-- a statement stands at its offset: an instruction is read there as what it spells, `mod` has its name after the
+-- header, `emod` is the CRC of the bytes above it, and another statement has its bytes there
 abbrev pub action_stands : Reached → List ℕ → ℕ → Action → Type 0
 action_stands all bytes offset (instruction s) =
     IsSomeAnd (instr_there all offset s) (λ i. reading (drop offset bytes) ≡ Ok (i, shape_length s))
@@ -216,12 +216,12 @@ reached_by source = reached_from start (source_lines source)
 pub record Assembled (source bytes : List ℕ) : Type 0 where
   -- no line breaks a rule
   pub right : source_fault source ≡ None
-  -- the bytes are a module, as many as its header says
+  -- the bytes are a module of the length in its header
   pub is_module : IsModule bytes
   -- the header says what the first statement does
   pub says : IsSomeAnd (first_start (actions_of (source_lines source)))
       (λ m. Says (reached_by source) m (info_at 0 bytes))
   -- each statement stands at its offset
   pub stands : All (Stands (reached_by source) bytes) (placed source)
-  -- and nothing stands between or behind them
+  -- and there is nothing between or after them
   pub ends : sum_by (λ p. action_length p.action) (placed source) ≡ length bytes

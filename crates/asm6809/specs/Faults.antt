@@ -1,4 +1,4 @@
--- Answers that name a line, and the numbers of errors.
+-- Answers with a line, and the numbers of errors.
 use Rattle.std.specs.Prelude.{ℕ, Result, Ok, Err}
 use Rattle.asm_model.specs.declared.error.AsmError.{AsmError}
 use Rattle.asm_model.specs.declared.error.AsmError.TheVariants.{Syntax, UnknownName, Twice, Range, NoModule}
@@ -11,7 +11,7 @@ OnLine (Ok value) P = Unit {0}
 OnLine (Err (Line line error)) P = P line error
 OnLine (Err OutOfMemory) P = Unit {0}
 
--- the number of an error, which its message names
+-- the number of an error, which its message reports
 abbrev pub error_number : AsmError → ℕ
 error_number Syntax = 1
 error_number UnknownName = 2

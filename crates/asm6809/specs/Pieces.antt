@@ -14,7 +14,7 @@ line_bytes all offset skipped = []
 line_bytes all offset (broken name) = []
 line_bytes all offset (stated s) = placed_bytes all (placed_at offset s.action)
 
--- the offset behind a line
+-- the offset after a line
 abbrev pub line_end : ℕ → LineRead → ℕ
 line_end offset skipped = offset
 line_end offset (broken name) = offset

@@ -1,4 +1,4 @@
--- Sources with the modules that an outside program makes of them, or the faults that it finds.
+-- Sources with the modules that an outside program makes from them, or the faults that it finds.
 use Rattle.std.specs.Prelude.{ℕ, Result, Ok, Err, List, [], ◌∷◌, ◌++◌, codes}
 use Rattle.asm_model.specs.declared.error.AsmError.{AsmError}
 use Rattle.asm_model.specs.declared.error.AsmError.TheVariants.{NoModule}

@@ -1,4 +1,4 @@
--- Where the statements of a module are read.
+-- The parts of a source in which its statements are read.
 use Rattle.std.specs.Prelude.{Bool, Option, Some, None, List}
 use Rattle.asm_model.specs.Statements.{Action, module_start, module_end, LineRead, skipped, broken, stated}
 use Rattle.asm6809.specs.declared.module.Stage.{Stage}
@@ -14,19 +14,19 @@ abbrev pub before_behind : Action → Option Stage
 before_behind (module_start m) = Some Within
 before_behind _ = None
 
--- the stage behind a statement, if it may be there
+-- the stage after a statement, if the statement is allowed there
 abbrev pub stage_behind : Stage → Action → Option Stage
 stage_behind Before action = before_behind action
 stage_behind Within action = within_behind action
 stage_behind Behind action = None
 
--- the stage behind a line, if its statement may be there
+-- the stage after a line, if its statement is allowed there
 abbrev pub stage_after : Stage → LineRead → Option Stage
 stage_after stage skipped = Some stage
 stage_after stage (broken name) = Some stage
 stage_after stage (stated s) = stage_behind stage s.action
 
--- the statements that are left are right at a stage
+-- the remaining statements are valid at a stage
 abbrev pub is_rest : Stage → List Action → Bool
 is_rest Before actions = is_framed actions
 is_rest Within actions = is_closed actions

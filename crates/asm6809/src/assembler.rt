@@ -15,7 +15,7 @@ use thiserror::Error;
 #[derive(Clone, Copy, Debug, PartialEq, Eq, Error)]
 pub enum AsmFault {
     /// The line of this number, from 1, is the first that breaks a rule, and this is the least
-    /// rule that it breaks. Line 0 with `NoModule`: all lines are right, and make no module.
+    /// rule that it breaks. Line 0 with `NoModule`: no line breaks a rule, but there is no module.
     #[error("line {0}")]
     Line(u64, AsmError),
     /// Out of memory.
@@ -43,7 +43,7 @@ impl From<AllocError> for AsmFault {
     }
 }
 
-/// The number of an error, which its message names.
+/// The number of an error, which its message reports.
 pub fn error_number(error: AsmError) -> u8
     ensures { result ≡ error_number_lem error }
 {
@@ -59,13 +59,13 @@ pub fn error_number(error: AsmError) -> u8
 /// Assembles a source to the one module that it describes (this project's own language, in the
 /// manner of the usual assemblers of the 6809).
 ///
-/// Lines end with a line feed, which the last may lack. The time is in proportion to the length of
-/// the source, and the memory to the number of its lines.
+/// Each line ends with a line feed; the last line may lack it. The time is proportional to the
+/// length of the source, and the memory to the number of its lines.
 ///
 /// # Errors
 ///
-/// `Line` exactly if the source breaks a rule: with the first line that does, and the least rule
-/// that it breaks. `OutOfMemory` for the lines, the labels, the code or the module.
+/// `Line` if and only if the source breaks a rule: with the first line that does, and the least
+/// rule that it breaks. `OutOfMemory` for the lines, the labels, the code or the module.
 pub fn assemble(alloc: Global, source: &[u8]) -> Result<Vec<u8>, AsmFault>
     ensures law { IfOk result (λ bytes. Assembled source.now bytes.items) }
     ensures bytes { IfOk result (λ bytes. outcome_of source.now ≡ Ok bytes.items) }

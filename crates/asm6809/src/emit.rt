@@ -35,7 +35,7 @@ pub(crate) fn word_at(place: Place, text: &[u8]) -> u16
     low_word(value_at(place, text).unwrap_or(0))
 }
 
-// Puts a byte behind these.
+// Adds a byte at the end of these.
 fn push_byte(code: &mut Vec<u8>, byte: u8) -> Result<(), AllocError>
     ensures { IfOk result (λ _. code.new.items ≡ code.old.items ++ byte ∷ []) }
 {
@@ -43,14 +43,14 @@ fn push_byte(code: &mut Vec<u8>, byte: u8) -> Result<(), AllocError>
     Ok(())
 }
 
-// Puts a word, high byte first, behind these bytes.
+// Adds a word, high byte first, at the end of these bytes.
 fn push_word(code: &mut Vec<u8>, word: u16) -> Result<(), AllocError>
     ensures { IfOk result (λ _. code.new.items ≡ code.old.items ++ word_bytes word) }
 {
     code.extend_from_slice(&word.to_be_bytes())
 }
 
-// Puts the bytes of an instruction behind these, if it is one.
+// Adds the bytes of an instruction at the end of these, if the shape is one.
 fn push_shape(
     code: &mut Vec<u8>,
     place: Place,
@@ -75,7 +75,7 @@ fn push_shape(
     Ok(())
 }
 
-// Puts the bytes of expressions with commas between them behind these.
+// Adds the bytes of expressions, separated by commas, at the end of these.
 fn push_bytes(code: &mut Vec<u8>, place: Place, text: &[u8]) -> Result<(), OutOfMemory>
     ensures { IfOk result (λ _. code.new.items ≡ code.old.items
         ++ map (byte_in place.entry.labels.now place.entry.offset)
@@ -87,7 +87,7 @@ fn push_bytes(code: &mut Vec<u8>, place: Place, text: &[u8]) -> Result<(), OutOf
     Ok(())
 }
 
-// Puts the words of expressions with commas between them behind these.
+// Adds the words of expressions, separated by commas, at the end of these.
 fn push_words(code: &mut Vec<u8>, place: Place, text: &[u8]) -> Result<(), OutOfMemory>
     ensures { IfOk result (λ _. code.new.items ≡ code.old.items
         ++ flat_map (λ t. word_bytes (word_in place.entry.labels.now place.entry.offset t))
@@ -99,7 +99,7 @@ fn push_words(code: &mut Vec<u8>, place: Place, text: &[u8]) -> Result<(), OutOf
     Ok(())
 }
 
-// Puts characters behind these bytes, the last with bit 7.
+// Adds characters at the end of these bytes, the last with bit 7.
 fn push_marked(code: &mut Vec<u8>, text: &[u8]) -> Result<(), OutOfMemory>
     ensures { IfOk result (λ _. code.new.items ≡ code.old.items ++ marked_name text.now) }
 {
@@ -110,7 +110,7 @@ fn push_marked(code: &mut Vec<u8>, text: &[u8]) -> Result<(), OutOfMemory>
     Ok(())
 }
 
-// Puts bytes behind these.
+// Adds bytes at the end of these.
 fn push_texts(code: &mut Vec<u8>, text: &[u8]) -> Result<(), OutOfMemory>
     ensures { IfOk result (λ _. code.new.items ≡ code.old.items ++ text.now) }
 {
@@ -118,7 +118,7 @@ fn push_texts(code: &mut Vec<u8>, text: &[u8]) -> Result<(), OutOfMemory>
     Ok(())
 }
 
-// Puts the bytes of a statement at an offset behind these.
+// Adds the bytes of a statement at an offset at the end of these.
 fn push_action(
     code: &mut Vec<u8>,
     place: Place,
@@ -142,15 +142,15 @@ fn push_action(
     }
 }
 
-// The offset behind a statement.
+// The offset after a statement.
 fn next_offset(offset: u64, action: &Action) -> Result<u64, OutOfMemory>
     ensures { IfOk result (λ next. next ≡ offset + action_length (action_said action.now)) }
 {
     offset_behind(Some(offset), action)?.ok_or(OutOfMemory)
 }
 
-// Puts the bytes of a statement at an offset behind these. The offset behind it, if its values are
-// known and in range.
+// Adds the bytes of a statement at an offset at the end of these. Returns the offset after it, if
+// its values are known and in range.
 fn push_statement(
     code: &mut Vec<u8>,
     all: &Reached,
@@ -176,8 +176,8 @@ fn push_statement(
     }
 }
 
-// Puts the bytes of a line at an offset behind these. The offset behind it, if its values are known
-// and in range.
+// Adds the bytes of a line at an offset at the end of these. Returns the offset after it, if its
+// values are known and in range.
 fn push_line(
     code: &mut Vec<u8>,
     all: &Reached,
@@ -196,7 +196,7 @@ fn push_line(
 }
 
 /// The bytes of the statements of lines, each at its offset, if their values are known and in
-/// range, where all lines reach this.
+/// range; `all` is what all lines reach.
 ///
 /// # Errors
 ///

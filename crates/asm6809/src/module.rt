@@ -44,18 +44,18 @@ fn first_start<'a>(lines: &[Line<'a>]) -> Option<ModuleFields<'a>>
     None
 }
 
-// Where the statements of a module are read.
+// The part of a source in which a statement is read.
 #[derive(Clone, Copy)]
 enum Stage {
     /// Before `mod`.
     Before,
     /// Between `mod` and `emod`.
     Within,
-    /// Behind `emod`.
+    /// After `emod`.
     Behind,
 }
 
-// The stage behind a statement, if it may be there.
+// The stage after a statement, if the statement is allowed there.
 fn stage_behind(stage: Stage, action: &Action) -> Option<Stage>
     ensures { result ≡ stage_behind_lem stage (action_said action.now) }
 {
@@ -68,7 +68,7 @@ fn stage_behind(stage: Stage, action: &Action) -> Option<Stage>
     }
 }
 
-// The stage behind a line, if its statement may be there.
+// The stage after a line, if its statement is allowed there.
 fn stage_after(stage: Stage, line: &Line) -> Option<Stage>
     ensures { result ≡ stage_after_lem stage (line_said line.now) }
 {
@@ -92,7 +92,7 @@ fn is_framed(lines: &[Line]) -> bool
     matches!(stage, Stage::Behind)
 }
 
-// The name, if it is one of a module.
+// The name, if it is valid for a module.
 fn module_name(text: &[u8]) -> Option<Name>
     ensures { result ≡ (if is_module_name_lem text.now then Some text.now else None) }
 {
@@ -110,7 +110,7 @@ fn kind_of(fields: ModuleFields) -> u8
     low_byte(constant_value(fields.kind))
 }
 
-// Where a module begins that ends at this offset: a program at the label `start`.
+// The entry of a module that ends at this offset: for a program the label `start`, otherwise 0.
 fn entry_of(all: &Reached, kind: u8, end: u16) -> Option<u16>
     requires { 0 < end }
     ensures entry { (m : ReachedOf) → IsReached all.now m → result ≡ entry_at m kind end }
@@ -142,7 +142,7 @@ fn crc_offset(name: &Name, kind: u8, code: &[u8]) -> Option<u16>
     }
 }
 
-// The module of this code, if it is one.
+// The module with this code, if there is one.
 fn make(
     alloc: Global,
     all: &Reached,
@@ -177,8 +177,8 @@ fn make(
 }
 
 /// The module of the statements of lines, if `mod` is the first of them and `emod` the last, each
-/// once, their values are known and in range, and a program begins within it, where all lines
-/// reach this.
+/// once, their values are known and in range, and a program begins within it; `all` is what all
+/// lines reach.
 ///
 /// # Errors
 ///

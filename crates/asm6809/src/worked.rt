@@ -1,4 +1,4 @@
-//! Sources with what they make, as laws that the check computes from the definitions. The expected
+//! Sources with their modules, as laws that the check computes from the definitions. The expected
 //! values are those of an outside program.
 
 ghost use Rattle.std.specs.Prelude.{◌≡◌, map};

@@ -34,7 +34,7 @@ pub record MakesModule (source bytes : List ℕ) : Type 0 where
   pub is : outcome_of source ≡ Ok bytes
   pub law : Assembled source bytes
 
--- a source made a module, and this came of it
+-- a source made a module, with this outcome
 pub record MakesThen (source : List ℕ) (then_ : List ℕ → Type 0) : Type 0 where
   pub bytes : List ℕ
   pub made : MakesModule source bytes
@@ -50,7 +50,7 @@ HasModule asm before after bytes = IfObserved (WritesAll (asm_outputs asm) (byte
 abbrev pub HasPart : AsmWords → World → World → List ℕ → Type 0
 HasPart asm before after bytes = IfObserved (WritesUpTo 0 (asm_outputs asm) (bytes ∷ [])) before.files after.files
 
--- what comes of it, by how it ends
+-- its outcome, by its end
 abbrev pub AsmComesTo : Files → AsmWords → World → World → End → Type 0
 AsmComesTo files asm before after Ended = MakesThen (file_contents files asm.source) (HasModule asm before after)
 AsmComesTo files asm before after CannotWriteFile =

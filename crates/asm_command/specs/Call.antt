@@ -9,11 +9,11 @@ use Rattle.command_files.specs.declared.status.End.{End}
 use Rattle.asm_command.specs.Asm.{AsmComesTo, asm_file_name, asm_inputs}
 use Rattle.asm_command.specs.Left.{AsmLeaves, AsmLeavesFiles, AsmMayEnd, AsmWrites}
 
--- it was done, and ended so
+-- it was done, with this end
 pub record AsmCall (asm : AsmWords) (before after : World) (end : End) : Type 0 where
-  -- what came of it, where that can be observed
+  -- its outcome, if that can be observed
   pub comes : IfSome before.files (λ files. AsmComesTo files asm before after end)
-  -- and what is so, observed or not
+  -- and what holds, observed or not
   pub may : AsmMayEnd end
   pub devices : AsmLeaves before after end
   pub host : FailsAsTold (asm_file_name asm) end before after

@@ -12,7 +12,7 @@ use Rattle.asm_command.specs.Asm.{asm_outputs}
 
 -- ---- how it may end
 
--- it reads SOURCE alone
+-- it reads only SOURCE
 abbrev pub AsmMayEnd : End → Type 0
 AsmMayEnd Ended = ⊤
 AsmMayEnd (CannotRead input) = input ≡ Source
@@ -23,19 +23,19 @@ AsmMayEnd end = ⊥
 
 -- ---- what it leaves
 
--- the output and the devices are as they were, whatever its end
+-- the output and the devices are unchanged, whatever its end
 abbrev pub AsmLeaves : World → World → End → Type 0
 AsmLeaves before after end = IsSilent before after
 
--- of the files: only behind a source that was accepted it writes one
+-- of the files: it writes one only after a source was accepted
 abbrev pub AsmLeavesFiles : AsmWords → World → World → End → Type 0
 AsmLeavesFiles asm before after Ended = IfObserved (ChangesOnly (asm_outputs asm)) before.files after.files
 AsmLeavesFiles asm before after CannotWriteFile = IfObserved (ChangesOnly (asm_outputs asm)) before.files after.files
 AsmLeavesFiles asm before after NoMemory = IfObserved (ChangesOnly (asm_outputs asm)) before.files after.files
 AsmLeavesFiles asm before after end = after.files ≡ before.files
 
--- the files that it has written: OUT when it is done or that could not be written, it or none if memory was out, and
--- else none
+-- the files that it has written: OUT if it is done or OUT could not be written, OUT or none if memory was out, and else
+-- none
 abbrev pub AsmWrites : AsmWords → End → List (List ℕ) → Type 0
 AsmWrites asm Ended written = written ≡ asm_outputs asm
 AsmWrites asm CannotWriteFile written = written ≡ asm_outputs asm

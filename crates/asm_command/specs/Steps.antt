@@ -1,4 +1,4 @@
--- The steps of `asm` behind the read: the source is assembled, and the module is written.
+-- The steps of `asm` after the read: the source is assembled, and the module is written.
 use Rattle.std.specs.Prelude.{◌≡◌, ℕ, ⊤, Err, List}
 use Rattle.os9_words.specs.Notes.{HasWritten, Notes}
 use Rattle.os9_words.specs.declared.asm_words.AsmWords.{AsmWords}
@@ -11,7 +11,7 @@ use Rattle.command_files.specs.declared.status.End.TheVariants.{Ended, CannotWri
 use Rattle.asm_command.specs.Asm.{HasModule, HasPart}
 use Rattle.asm_command.specs.Left.{AsmWrites}
 
--- the source was refused, with its first line that breaks a rule; or memory was out
+-- the source was refused, with its first bad line; or memory was out
 abbrev pub RefusesSource : List ℕ → End → Type 0
 RefusesSource source (BadSource line error) = outcome_of source ≡ Err (fault_on line error)
 RefusesSource source NoMemory = ⊤
@@ -25,7 +25,7 @@ WriteEnds asm bytes before after CannotWriteFile =
 WriteEnds asm bytes before after NoMemory = HasNoFault before after × HasPart asm before after bytes
 WriteEnds asm bytes before after end = ⊥
 
--- OUT was written, whole or in part; the output and the devices are as they were
+-- OUT was written, whole or in part; the output and the devices are unchanged
 pub record WritesOut (asm : AsmWords) (bytes : List ℕ) (end : End) (before after : World) : Type 0 where
   pub ends : WriteEnds asm bytes before after end
   pub silent : IsSilent before after

@@ -18,7 +18,8 @@ use std::alloc::Global;
 
 /// `asm SOURCE OUT` (this project's own): reads SOURCE, assembles it, and writes its module as OUT.
 ///
-/// If SOURCE cannot be read or is refused, no file is written. The output and the devices are left.
+/// If SOURCE cannot be read or is refused, no file is written. The output and the devices are
+/// unchanged.
 pub fn do_asm<H: Host>(alloc: Global, asm: &AsmWords, host: &mut H) -> End
     ensures call { (devices : Outside) → AsmCall asm.now
         (world_of H.Host host.old devices) (world_of H.Host host.new devices) result }

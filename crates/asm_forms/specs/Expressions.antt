@@ -1,4 +1,4 @@
--- Expressions as the texts that they are: terms with signs between them (this project's own).
+-- The texts of expressions: terms with signs between them (this project's own).
 use Rattle.std.specs.Prelude.{◌≡◌, ℕ, Some, List, [], ◌∷◌, ◌++◌}
 use Rattle.asm_model.specs.Expressions.{Term, term}
 
@@ -9,7 +9,7 @@ pub data IsExpression : List ℕ → Type 0 where
   plus : {e : List ℕ} {t : Term} (text : List ℕ) → IsExpression e → term text ≡ Some t → IsExpression (e ++ (43 ∷ text))
   less : {e : List ℕ} {t : Term} (text : List ℕ) → IsExpression e → term text ≡ Some t → IsExpression (e ++ (45 ∷ text))
 
--- one or more expressions with commas between them
+-- one or more expressions, separated by commas
 pub data IsExpressionList : List ℕ → List (List ℕ) → Type 0 where
   last : {e : List ℕ} → IsExpression e → IsExpressionList e (e ∷ [])
   more : {list : List ℕ} {es : List (List ℕ)} (e : List ℕ) → IsExpression e → IsExpressionList list es

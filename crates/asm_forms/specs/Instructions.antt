@@ -1,4 +1,4 @@
--- Lines that are an instruction, as the texts that they are (this project's own, in the manner of the usual assemblers
+-- The lines that are an instruction, by their texts (this project's own, in the manner of the usual assemblers
 -- of the 6809).
 use Rattle.std.specs.Prelude.{◌≡◌, ℕ, ◌+◌, true, false, Some, List, [], ◌∷◌, ◌++◌, length}
 use Rattle.std.specs.List.{list_all, list_any}
@@ -12,7 +12,7 @@ use Rattle.asm_model.specs.Mnemonics.{row_word}
 use Rattle.asm_model.specs.Instructions.{Shape, with_tail}
 use Rattle.asm_forms.specs.Operands.{IsOperand, IsTail}
 
--- a text that a space follows, or nothing
+-- nothing, or a text that begins with a space
 pub data EndsThere : List ℕ → Type 0 where
   nothing : EndsThere []
   space : {rest : List ℕ} → EndsThere (32 ∷ rest)
@@ -42,6 +42,6 @@ pub record IsInstruction (line : List ℕ) (at : ℕ) (i : Instr) : Type 0 where
   pub comment_last : operand ≡ [] → comment ≡ []
   pub shape : Shape
   pub shape_is : IsShape word operand shape
-  -- the instruction has this shape, with the operand bytes that it wants
+  -- the instruction has this shape, with the operand bytes that the shape needs
   pub with_it : with_tail shape i.tail ≡ i
   pub tail_is : IsTail (at + length (spelling i)) shape.operand.wanted shape.operand.expression i.tail

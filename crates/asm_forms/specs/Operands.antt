@@ -1,4 +1,4 @@
--- Operands as the texts that they are, with the postbyte and the operand bytes that they mean (programming manual,
+-- The texts of operands, with the postbyte and the operand bytes that they mean (programming manual,
 -- "Addressing modes").
 use Rattle.std.specs.Prelude.{◌≡◌, ℕ, ◌+◌, ◌*◌, ◌<◌, ◌≤◌, bit_or, Bool, true, false, Some, None, List, [], ◌∷◌, ◌++◌, codes, ℤ, pos, negsuc}
 use Rattle.cpu_model.specs.declared.rows.Operation.{Operation}
@@ -27,7 +27,7 @@ use Rattle.asm_forms.specs.Expressions.{IsExpression}
 
 -- ---- registers
 
--- registers of a push or pull with commas between their names, and their mask
+-- registers of a push or pull, their names separated by commas, and their mask
 pub data IsRegisterList (stack : Stack) : List ℕ → ℕ → Type 0 where
   one : {name : List ℕ} {weight : ℕ} → mask_weight (mask_registers stack) 1 name ≡ Some weight
       → IsRegisterList stack name weight
@@ -65,7 +65,7 @@ sized (Five z) indirect r e = operand (Some (32 * r + modulo 32 z)) Nothing []
 sized Eight indirect r e = operand (Some (offset8_post + 32 * r + indirect_bit indirect)) (Value field.Offset8) e
 sized Sixteen indirect r e = operand (Some (offset16_post + 32 * r + indirect_bit indirect)) (Value field.Offset16) e
 
--- a target by its distance from the next instruction: a byte with the mark `<`, else a word
+-- a target by its distance from the next instruction: a byte with the mark `<`, otherwise a word
 abbrev pub target_post : Width → ℕ
 target_post Narrow = target8_post
 target_post _ = target16_post
@@ -100,7 +100,7 @@ pub data IsIndexed : List ℕ → Operand → Type 0 where
 
 -- the operand of an operation in a mode; its expression may name labels
 pub data IsOperand (op : Operation) : Mode → List ℕ → Operand → Type 0 where
-  -- what follows the word is a comment
+  -- the text after the word is a comment
   inherent : {text : List ℕ} → IsOperand op Inherent text (operand None Nothing [])
   immediate8 : {e : List ℕ} → IsExpression e → IsOperand op Immediate8 (35 ∷ e) (operand None (Value field.Byte) e)
   registers : {list : List ℕ} {mask : ℕ} (stack : Stack) → IsPushOrPull stack op → IsRegisterList stack list mask
@@ -117,7 +117,7 @@ pub data IsOperand (op : Operation) : Mode → List ℕ → Operand → Type 0 w
       → register_code destination ≡ Some low → is_pair (16 * high + low) ≡ true
       → IsOperand op Pair (source ++ (44 ∷ destination)) (operand None (Fixed (16 * high + low)) [])
 
--- the operand bytes that are wanted, before this next instruction, if the expression has numbers alone
+-- the operand bytes that are needed, before this next instruction, if the expression has numbers alone
 pub data IsTail (next : ℕ) : Wanted → List ℕ → Tail → Type 0 where
   no_tail : {e : List ℕ} → IsTail next Nothing e Empty
   fixed_tail : {e : List ℕ} {b : ℕ} → IsTail next (Fixed b) e (Byte b)

@@ -1,4 +1,4 @@
--- Lines that are a statement, as the texts that they are (this project's own, in the manner of the usual assemblers
+-- The lines that are a statement, by their texts (this project's own, in the manner of the usual assemblers
 -- of the 6809).
 use Rattle.std.specs.Prelude.{◌≡◌, ℕ, Bool, true, false, Option, Some, None, List, [], ◌∷◌, ◌++◌, ℤ}
 use Rattle.std.specs.List.{list_all, list_any}
@@ -17,7 +17,7 @@ use Rattle.asm_forms.specs.Instructions.{EndsThere, IsShape}
 
 -- ---- operands
 
--- a text is an operand, with a comment that a space sets apart; without an operand there is no comment
+-- a text is an operand, with an optional comment after a space; without an operand there is no comment
 pub record Leads (operand text : List ℕ) : Type 0 where
   pub comment : List ℕ
   pub text_is : text ≡ operand ++ comment
@@ -25,7 +25,7 @@ pub record Leads (operand text : List ℕ) : Type 0 where
   pub comment_apart : EndsThere comment
   pub comment_last : operand ≡ [] → comment ≡ []
 
--- a text is characters in quotes, with a comment that a space sets apart
+-- a text is characters in quotes, with an optional comment after a space
 pub record IsQuoted (quote text : List ℕ) : Type 0 where
   pub comment : List ℕ
   pub text_is : text ≡ 34 ∷ (quote ++ (34 ∷ comment))
@@ -47,7 +47,7 @@ pub record IsModuleOperand (m : ModuleFields) (operand : List ℕ) : Type 0 wher
 abbrev pub Is : Directive → List ℕ → Type 0
 Is d word = same_word (directive_word d) word ≡ true
 
--- what a word and the text that follows it ask for
+-- the action of a word and the text that follows it
 pub data IsAction (word text : List ℕ) : Action → Type 0 where
   instructs : {operand : List ℕ} {s : Shape} → Leads operand text → IsShape word operand s
       → IsAction word text (instruction s)
@@ -76,7 +76,7 @@ abbrev pub may_have : Option (List ℕ) → Action → Bool
 may_have None (equals e) = false
 may_have label action = true
 
--- what follows the first column and spaces: nothing behind a label, or a word, spaces and its operand
+-- what follows the first column and spaces: nothing after a label, or a word, spaces and its operand
 pub data IsBody : List ℕ → Option (List ℕ) → Action → Type 0 where
   label_only : {name : List ℕ} → IsBody [] (Some name) label_alone
   asks : {label : Option (List ℕ)} {action : Action} (c : ℕ) (word spaces text : List ℕ)
@@ -107,7 +107,7 @@ stating name action = record { name = name; action = action }
 abbrev pub behind_label : List ℕ → List ℕ
 behind_label line = without_spaces (behind_word line)
 
--- the line behind a space states this instruction for this offset
+-- the line after a space states this instruction for this offset
 pub record States (line : List ℕ) (at : ℕ) (i : Instr) : Type 0 where
   pub its : Shape
   pub is : line_read (32 ∷ line) ≡ stated (stating None (instruction its))

@@ -1,4 +1,4 @@
--- Expressions of numbers as the texts that they are (this project's own).
+-- The texts of expressions of numbers (this project's own).
 use Rattle.std.specs.Prelude.{◌≡◌, ℕ, Some, List, ◌∷◌, ◌++◌, ℤ, pos, ◌+ℤ◌, ◌-ℤ◌}
 use Rattle.asm_model.specs.Numbers.{number}
 

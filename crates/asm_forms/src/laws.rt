@@ -7,8 +7,8 @@ ghost use Rattle.asm_model.specs.Statements.{Statement, instruction, stated, lin
 ghost use Rattle.asm_forms.specs.Instructions.{IsShape, IsInstruction};
 ghost use Rattle.asm_forms.specs.Statements.{IsStatement, stating, behind_label, States};
 
-/// A word and an operand that have a shape by their form are read as it, also if the operand names
-/// labels.
+/// A word and an operand that have a shape by their form are read as that shape, even if the
+/// operand names labels.
 pub fn operand_is_read()
     ensures { (word text : List ℕ) (s : Shape) → IsShape word text s → shape_of word text ≡ Some s }
 {}
@@ -18,7 +18,7 @@ pub fn only_operands_are_read()
     ensures { (word text : List ℕ) (s : Shape) → shape_of word text ≡ Some s → IsShape word text s }
 {}
 
-/// A line that is an instruction by its form is read as it.
+/// A line that is an instruction by its form is read as that instruction.
 pub fn instruction_is_read()
     ensures { (line : List ℕ) (at : ℕ) (i : Instr) → IsInstruction line at i
         → instr_of line at ≡ Some i }
@@ -35,8 +35,8 @@ pub fn empty_brackets_are_refused()
     ensures { (at : ℕ) (i : Instr) → ¬ IsInstruction (codes "lda []") at i }
 {}
 
-/// If a line of a source states an instruction, what stands behind its label is read as that
-/// instruction, if its expression has numbers alone.
+/// If a line of a source states an instruction whose expression has numbers alone, the part after
+/// its label is read as that instruction.
 pub fn stated_instruction_is_read()
     ensures { (line : List ℕ) (name : Option (List ℕ)) (s : Shape) (at : ℕ)
         → line_read line ≡ stated (stating name (instruction s))
@@ -48,7 +48,7 @@ pub fn instruction_is_stated()
     ensures { (line : List ℕ) (at : ℕ) (i : Instr) → IsInstruction line at i → States line at i }
 {}
 
-/// A line that is a statement by its form is read as it.
+/// A line that is a statement by its form is read as that statement.
 pub fn statement_is_read()
     ensures { (line : List ℕ) (s : Statement) → IsStatement line s → line_read line ≡ stated s }
 {}

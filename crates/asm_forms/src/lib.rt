@@ -1,4 +1,4 @@
-//! Instructions as the texts that they are: a relation, and that exactly what it says is read.
+//! The texts of instructions: a relation, and laws that exactly the texts of the relation are read.
 #![tactic(auto)]
 
 pub mod laws;

@@ -1,4 +1,4 @@
--- Labels as a table holds them, and what is read of expressions by it.
+-- Labels in a table, and the values of expressions by that table.
 use Rattle.std.specs.Prelude.{◌≡◌, ℕ, ◌+◌, Bool, true, false, Option, Some, is_some, option_map, option_and_then, unwrap_or, List, ℤ, pos}
 use Rattle.std.specs.Option.{option_map_or}
 use Rattle.std.specs.List.{list_all, list_any}
@@ -14,7 +14,7 @@ use Rattle.asm_labels.specs.declared.table.Labels.{Labels}
 use Rattle.asm_labels.specs.declared.reached.Reached.{Reached}
 use Rattle.asm_labels.specs.declared.faults.SourceFault.{SourceFault}
 
--- what a table has of a name: nothing, or its value, if that is known
+-- the table's entry for a name: nothing, or its value, if that is known
 abbrev pub value_in : Labels → List ℕ → Option (Option ℤ)
 value_in labels name = get_by (λ k. bytes_eq name k.now) labels.values
 
@@ -76,6 +76,6 @@ pub record IsReached (r : Reached) (m : model.Reached) : Type 0 where
   pub has_start : r.has_start ≡ m.has_start
   pub has_end : r.has_end ≡ m.has_end
 
--- the fault that it is
+-- the fault as the model has it
 abbrev pub fault_said : SourceFault → FaultOf
 fault_said f = fault_on f.line f.error

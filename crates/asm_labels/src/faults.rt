@@ -65,7 +65,7 @@ fn is_equals(action: &Action) -> bool
     matches!(action, Action::Equals(_))
 }
 
-// Does a statement name known labels: for `equ` those above, and else those of all lines?
+// Does a statement name known labels: for `equ` those above, otherwise those of all lines?
 fn are_names_fit(all: &Reached, above: &Reached, action: &Action) -> bool
     ensures { (m a : ReachedOf) → IsReached all.now m → IsReached above.now a
         → result ≡ names_fit m a (action_said action.now) }
@@ -77,7 +77,7 @@ fn are_names_fit(all: &Reached, above: &Reached, action: &Action) -> bool
     }
 }
 
-// Does a line above have the label already, or is it the `mod` or `emod`?
+// Does a line above already have the label, or is this a second `mod` or `emod`?
 fn is_twice(above: &Reached, statement: &Statement) -> bool
     ensures { (a : ReachedOf) → IsReached above.now a
         → result ≡ is_twice_lem a (statement_said statement.now) }
@@ -125,7 +125,7 @@ fn is_list_out(place: Place, next: u128, field: Field, text: &[u8]) -> bool
         .any(|part| is_text_out(place, next, field, part))
 }
 
-// The offset behind a statement at a place, or its length if the offset of the place is not known.
+// The offset after a statement at a place, or its length if the offset of the place is not known.
 fn next_of(place: Place, action: &Action) -> u128
     ensures { result ≡ unwrap_or place.entry.offset 0 + action_length_lem (action_said action.now) }
 {
@@ -198,7 +198,7 @@ pub fn is_filled(place: Place, action: &Action) -> bool
     }
 }
 
-// Does the module end past its most bytes?
+// Is the module longer than the greatest length of a module?
 fn is_too_long(offset: Option<u64>, action: &Action) -> bool
     ensures { result ≡ is_too_long_lem offset (action_said action.now) }
 {
@@ -269,7 +269,8 @@ fn line_fault(all: &Reached, above: &Reached, line: &Line) -> Option<AsmError>
     }
 }
 
-/// The first line that breaks a rule, with the least one, where `all` is what all lines reach.
+/// The first line that breaks a rule, and the least rule that it breaks; `all` is what all lines
+/// reach.
 ///
 /// # Errors
 ///

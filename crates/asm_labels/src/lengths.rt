@@ -10,16 +10,16 @@ use asm_terms::{Numbers, value_of};
 use asm_text::{low_byte, shape_length};
 use os9_base::call::OutOfMemory;
 
-/// The bytes of a module's CRC.
+/// The number of bytes of a module's CRC.
 pub const CRC_LENGTH: u16 = 3;
 
 /// The type of a program, in the high half of the type and language.
 pub const PROGRAM: u8 = 1;
 
-/// The bytes of a call of OS-9.
+/// The number of bytes of a call of OS-9.
 const CALL_LENGTH: u8 = 3;
 
-/// The value of an expression of numbers, 0 of another text.
+/// The value of an expression of numbers, 0 for another text.
 pub fn constant_value(text: &[u8]) -> i128
     ensures { result ≡ constant_value_lem text.now }
 {
@@ -33,7 +33,7 @@ pub fn header_length(kind: u8) -> u8
     if kind >> 4 == PROGRAM { 13 } else { 9 }
 }
 
-// The number of texts with commas between them.
+// The number of texts separated by commas.
 fn count_texts(text: &[u8]) -> u128
     ensures count { result ≡ length (slice_split is_comma text.now) }
     ensures most { result < 2 ^ 65 }
@@ -41,7 +41,7 @@ fn count_texts(text: &[u8]) -> u128
     text.split(|c| *c == b',').count() as u128
 }
 
-// The number of characters of a text, the last of which gets bit 7.
+// The number of bytes that a text makes; its last character gets bit 7.
 fn marked_length(text: &[u8]) -> u128
     ensures length { result ≡ length (marked_name text.now) }
     ensures most { result < 2 ^ 65 }
@@ -49,7 +49,7 @@ fn marked_length(text: &[u8]) -> u128
     text.len() as u128
 }
 
-/// The number of bytes that a statement stands for.
+/// The number of bytes of a statement.
 pub fn action_length(action: &Action) -> u128
     ensures length { result ≡ action_length_lem (action_said action.now) }
     ensures most { result < 2 ^ 66 }
@@ -70,11 +70,11 @@ pub fn action_length(action: &Action) -> u128
     }
 }
 
-/// The offset behind a statement at this offset, if that is known.
+/// The offset after a statement at this offset, if that is known.
 ///
 /// # Errors
 ///
-/// `OutOfMemory` if the offset does not fit 64 bits, which asks for a source of more than 2 ^ 60
+/// `OutOfMemory` if the offset does not fit 64 bits, which needs a source of more than 2 ^ 60
 /// bytes.
 pub fn offset_behind(offset: Option<u64>, action: &Action) -> Result<Option<u64>, OutOfMemory>
     ensures { IfOk result (λ behind. behind

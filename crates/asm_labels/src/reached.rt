@@ -11,7 +11,7 @@ use asm_lines::{Action, Line, Statement};
 use os9_base::call::OutOfMemory;
 use std::alloc::Global;
 
-/// What lines reach: their labels, the offset behind them, if no line is broken, and whether `mod`
+/// What lines reach: their labels, the offset after them, if no line is broken, and whether `mod`
 /// and `emod` are among them.
 #[derive(Drop)]
 pub struct Reached<'a> {
@@ -21,7 +21,7 @@ pub struct Reached<'a> {
     pub has_end: bool,
 }
 
-// What no lines reach.
+// What is reached before the first line.
 pub(crate) fn nothing<'a>(alloc: Global) -> Reached<'a>
     ensures { IsReached result start_lem }
 {
@@ -79,7 +79,7 @@ fn add_label<'a>(
     }
 }
 
-// Goes on over a statement.
+// Adds a statement to what is reached.
 fn add_statement<'a>(reached: &mut Reached<'a>, statement: Statement<'a>) -> Result<(), OutOfMemory>
     ensures { IfOk result (λ _. (m : ReachedOf) → IsReached reached.old m
         → IsReached reached.new (after m (stated (statement_said statement.entry)))) }
@@ -93,7 +93,7 @@ fn add_statement<'a>(reached: &mut Reached<'a>, statement: Statement<'a>) -> Res
     Ok(())
 }
 
-// Goes on over a line.
+// Adds a line to what is reached.
 pub(crate) fn add_line<'a>(reached: &mut Reached<'a>, line: Line<'a>) -> Result<(), OutOfMemory>
     ensures { IfOk result (λ _. (m : ReachedOf) → IsReached reached.old m
         → IsReached reached.new (after m (line_said line.entry))) }

@@ -6,7 +6,7 @@ use os9_base::call::OutOfMemory;
 use std::alloc::Global;
 use std::collections::HashMap;
 
-/// Labels, each with its value, if that is known.
+/// Labels, each with its value, if the value is known.
 #[derive(Drop)]
 pub struct Labels<'a> {
     values: HashMap<&'a [u8], Option<i64>>,
@@ -22,14 +22,14 @@ impl<'a> Labels<'a> {
         }
     }
 
-    /// What a label means: nothing if there is no such label, and else its value, if that is known.
+    /// The meaning of a label: nothing if there is no such label, otherwise its value, if known.
     pub fn get(&self, name: &[u8]) -> Option<Option<i64>>
         ensures { result ≡ value_in self.now name.now }
     {
         self.values.get(name).copied()
     }
 
-    // Adds a label. One that is there already keeps its value.
+    // Adds a label. A known label keeps its value.
     pub(crate) fn add(&mut self, name: &'a [u8], value: Option<i64>) -> Result<(), OutOfMemory>
         ensures { IfOk result (λ _. (labels : List Meaning) → Holds self.old labels
             → Holds self.new (with_label labels (Some name.entry.now) value)) }

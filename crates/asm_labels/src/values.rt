@@ -5,7 +5,7 @@ ghost use Rattle.asm_labels.specs.Labels.{expression_in, is_term_in, names_in, t
 use crate::table::Labels;
 use asm_terms::{Meaning, Term, TermTest, every_term, value_of};
 
-// A value that a label or `*` can have: one that 64 bits with a sign hold.
+// A value that a label or `*` can have: one that fits 64 bits with a sign.
 fn held(value: i128) -> Option<i64>
     ensures { result ≡ held_lem value }
 {
@@ -23,7 +23,7 @@ pub(crate) fn offset_value(offset: Option<u64>) -> Option<i64>
     held(i128::from(offset?))
 }
 
-/// A place in a source: the labels that are known there, and the offset, if that is known.
+/// A place in a source: the labels known there, and its offset, if that is known.
 #[derive(Clone, Copy)]
 pub struct Place<'a, 'b> {
     pub labels: &'b Labels<'a>,
@@ -42,7 +42,7 @@ impl Meaning for Place<'_, '_> {
     }
 }
 
-// Is a term no label, or one of these?
+// Is a term not a label, or one of these labels?
 #[derive(Clone, Copy)]
 struct Known<'a, 'b> {
     labels: &'b Labels<'a>,
@@ -59,14 +59,14 @@ impl TermTest for Known<'_, '_> {
     }
 }
 
-/// The value of an expression at a place, if its labels have one.
+/// The value of an expression at a place, if its labels have values.
 pub fn value_at(place: Place, text: &[u8]) -> Option<i128>
     ensures { result ≡ expression_in place.entry.labels.now place.entry.offset text.now }
 {
     value_of(text, &place)
 }
 
-// The value of an expression at a place, if it is one that a label can have.
+// The value of an expression at a place, if a label can have it.
 pub(crate) fn held_at(place: Place, text: &[u8]) -> Option<i64>
     ensures { result ≡ option_and_then held_lem
         (expression_in place.entry.labels.now place.entry.offset text.now) }

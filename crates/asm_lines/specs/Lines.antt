@@ -1,4 +1,4 @@
--- What lines that were read say, wherever their texts lie in memory.
+-- The meaning of lines that were read, independent of where their texts are in memory.
 use Rattle.std.specs.Prelude.{ℕ, ◌&&◌, Bool, option_map, List}
 use Rattle.std.specs.List.{slice_split}
 use Rattle.module_maker.specs.GuestModule.{marked_name}
@@ -12,7 +12,7 @@ use Rattle.asm_lines.specs.declared.line.Statement.{Statement}
 use Rattle.asm_lines.specs.declared.line.Line.{Line}
 use Rattle.asm_lines.specs.declared.line.Line.TheVariants.{Skipped, Broken, Stated}
 
--- expressions with commas between them
+-- expressions separated by commas
 abbrev pub list_said : List ℕ → List (List ℕ)
 list_said text = slice_split is_comma text
 

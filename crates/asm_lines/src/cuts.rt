@@ -3,7 +3,7 @@ ghost use Rattle.std.specs.List.{position_or_len, slice_split};
 ghost use Rattle.asm_model.specs.Characters.{is_comma, is_quote};
 ghost use Rattle.asm_model.specs.Statements.{quoted as quoted_lem, ends_there as ends_there_lem};
 
-// The parts of a text before and behind its first comma.
+// The parts of a text before and after its first comma.
 #[derive(Clone, Copy, Debug)]
 pub(crate) struct Cut<'a> {
     pub(crate) before: &'a [u8],
@@ -54,7 +54,7 @@ fn ends_there(text: &[u8]) -> bool
     }
 }
 
-// The characters up to the next quote, if the operand ends behind it.
+// The characters up to the next quote, if the operand ends after it.
 #[tactic(auto, using(crate::proofs::CutLemmas::quoted_open, crate::proofs::CutLemmas::quoted_closed))]
 fn up_to_quote(text: &[u8]) -> Option<&[u8]>
     ensures { option_map (λ chars. chars.now) result ≡ quoted_lem (34 ∷ text.now) }
@@ -67,7 +67,7 @@ fn up_to_quote(text: &[u8]) -> Option<&[u8]>
     }
 }
 
-// The characters between quotes, if the operand ends behind them.
+// The characters between quotes, if the operand ends after them.
 pub(crate) fn quoted(text: &[u8]) -> Option<&[u8]>
     ensures { option_map (λ chars. chars.now) result ≡ quoted_lem text.now }
 {

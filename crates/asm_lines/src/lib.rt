@@ -1,4 +1,4 @@
-//! The lines of an assembler source, read to statements.
+//! The lines of an assembler source, read as statements.
 #![tactic(auto)]
 
 pub use line::{Line, Statement, read_line};

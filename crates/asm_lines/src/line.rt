@@ -15,7 +15,7 @@ pub struct Statement<'a> {
     pub action: Action<'a>,
 }
 
-/// What a line is.
+/// What is read from a line.
 #[derive(Clone, Copy, Debug)]
 pub enum Line<'a> {
     /// Empty, or a comment.
@@ -26,7 +26,7 @@ pub enum Line<'a> {
     Stated(Statement<'a>),
 }
 
-// Is it a byte that a line may have, from a space to `~`?
+// Is the byte allowed in a line: from a space to `~`?
 fn is_line_byte(c: u8) -> bool
     ensures { result ≡ is_line_byte_lem c }
 {
@@ -39,7 +39,7 @@ fn are_line_bytes(line: &[u8]) -> bool
     line.iter().all(|c| is_line_byte(*c))
 }
 
-// Is the line skipped: is it empty, or does it begin with `*`?
+// Is the line skipped? It is empty, or begins with `*`.
 fn is_skipped(line: &[u8]) -> bool
     ensures { result ≡ is_skipped_lem line.now }
 {
@@ -63,7 +63,7 @@ fn stated<'a>(name: Option<&'a [u8]>, action: Option<Action<'a>>) -> Line<'a>
     Line::Stated(Statement { name, action })
 }
 
-// What the rest of a line is that follows its label, or the spaces that it begins with.
+// What is read from the rest of a line, after its label or its leading spaces.
 fn after_label<'a>(name: Option<&'a [u8]>, rest: &'a [u8]) -> Line<'a>
     ensures { line_said result ≡ after_label_lem (option_map (λ n. n.now) name.entry) rest.now }
 {
@@ -80,7 +80,7 @@ fn after_label<'a>(name: Option<&'a [u8]>, rest: &'a [u8]) -> Line<'a>
     })
 }
 
-// What a line of a first column and the rest that follows it is.
+// What is read from a line of a first column and the rest after it.
 fn labelled<'a>(name: &'a [u8], rest: &'a [u8]) -> Line<'a>
     ensures { line_said result ≡ labelled_lem name.now rest.now }
 {

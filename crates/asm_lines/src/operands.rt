@@ -21,10 +21,10 @@ pub struct ModuleFields<'a> {
     pub storage: &'a [u8],
 }
 
-/// What a statement asks for. Expressions are texts.
+/// The action of a statement. Expressions are texts.
 #[derive(Clone, Copy, Debug)]
 pub enum Action<'a> {
-    /// Nothing: there is a label alone.
+    /// None: there is only a label.
     LabelAlone,
     /// An instruction.
     Instruction(Shape<'a>),
@@ -34,9 +34,9 @@ pub enum Action<'a> {
     ModuleEnd,
     /// The value of the label.
     Equals(&'a [u8]),
-    /// Bytes: expressions with commas between them.
+    /// Bytes: expressions separated by commas.
     ByteList(&'a [u8]),
-    /// Words: expressions with commas between them.
+    /// Words: expressions separated by commas.
     WordList(&'a [u8]),
     /// Characters.
     Characters(&'a [u8]),
@@ -46,7 +46,7 @@ pub enum Action<'a> {
     SystemCall(&'a [u8]),
 }
 
-/// The most characters of a module's name.
+/// The greatest number of characters of a module's name.
 const LONGEST_NAME: usize = 29;
 
 fn is_name_character(c: u8) -> bool
@@ -61,14 +61,14 @@ fn are_name_characters(name: &[u8]) -> bool
     name.iter().all(|c| is_name_character(*c))
 }
 
-// Is it a name of 1 to 29 characters that F$PrsNam takes?
+// Is it a name of 1 to 29 characters that F$PrsNam accepts?
 pub fn is_module_name(name: &[u8]) -> bool
     ensures { result ≡ is_module_name_lem name.now }
 {
     !name.is_empty() && name.len() <= LONGEST_NAME && are_name_characters(name)
 }
 
-// The four operands of `mod`, if they are right.
+// The four operands of `mod`, if they are valid.
 fn module_fields(text: &[u8]) -> Option<Action<'_>>
     ensures { option_map action_said result ≡ module_fields_lem (slice_split is_comma text.now) }
 {
@@ -91,7 +91,7 @@ fn module_fields(text: &[u8]) -> Option<Action<'_>>
     }
 }
 
-// Are the operands of `mod` what they have to be?
+// Are the operands of `mod` valid?
 fn are_right(fields: ModuleFields) -> bool
     ensures { result ≡ are_right_lem (fields_said fields.entry) }
 {
@@ -101,7 +101,7 @@ fn are_right(fields: ModuleFields) -> bool
         && is_expression(fields.storage)
 }
 
-// The expressions with commas between them, if each part is one.
+// The expressions, separated by commas, if each part is one.
 fn expression_list(text: &[u8]) -> Option<&[u8]>
     ensures { option_map (λ t. list_said t.now) result ≡ expression_list_lem text.now }
 {
@@ -124,7 +124,7 @@ fn expression(text: &[u8]) -> Option<&[u8]>
     }
 }
 
-// What a directive asks for with this rest of its line, if its operand is right.
+// The action of a directive with this rest of its line, if its operand is valid.
 fn directive_action(directive: Directive, rest: &[u8]) -> Option<Action<'_>>
     ensures { option_map action_said result ≡ directive_action_lem directive rest.now }
 {
@@ -141,7 +141,7 @@ fn directive_action(directive: Directive, rest: &[u8]) -> Option<Action<'_>>
     }
 }
 
-/// What a word asks for with this rest of its line, if they are right.
+/// The action of a word with this rest of its line, if they are valid.
 pub fn action_of<'a>(word: &[u8], rest: &'a [u8]) -> Option<Action<'a>>
     ensures { option_map action_said result ≡ action_of_lem word.now rest.now }
 {

@@ -5,13 +5,13 @@ ghost use Rattle.asm_lines.specs.Lines.{line_said};
 use crate::line::{Line, read_line};
 use std::alloc::{AllocError, Global};
 
-/// Reads the lines of a source, in order. Each ends with a line feed, which the last may lack.
+/// Reads the lines of a source, in order. Each ends with a line feed; the last line may lack it.
 ///
-/// It takes memory for each line once, and none for its texts.
+/// It takes memory once for each line, and none for its texts.
 ///
 /// # Errors
 ///
-/// Want of memory alone.
+/// Out of memory alone.
 pub fn read_lines(alloc: Global, source: &[u8]) -> Result<Vec<Line<'_>>, AllocError>
     ensures { IfOk result (λ lines. map line_said lines.items ≡ source_lines source.now) }
 {

@@ -2,7 +2,7 @@
 use Rattle.std.specs.Prelude.{ℕ, ◌==◌, ◌&&◌, ◌||◌, nat_le, Bool, List}
 use Rattle.std.specs.Str.{str_eq_ignore_ascii_case}
 
--- what a line may have: from a space to `~`
+-- a character allowed in a line: from a space to `~`
 abbrev pub is_line_byte : ℕ → Bool
 is_line_byte c = nat_le 32 c && nat_le c 126
 
@@ -51,6 +51,6 @@ is_opening c = c == 91
 abbrev pub is_closing : ℕ → Bool
 is_closing c = c == 93
 
--- words agree in any case of letters
+-- words that are equal in any case of letters
 abbrev pub same_word : List ℕ → List ℕ → Bool
 same_word a b = str_eq_ignore_ascii_case a b

@@ -1,4 +1,4 @@
--- Expressions: terms that are joined by `+` and `-`, worked from the left (this project's own).
+-- Expressions: terms joined by `+` and `-`, evaluated from the left (this project's own).
 use Rattle.std.specs.Prelude.{ℕ, ◌==◌, ◌&&◌, ◌||◌, not, nat_le, Bool, false, Option, Some, None, option_map, option_and_then, List, [], ◌∷◌, length, filter, codes, ℤ, pos, ◌+ℤ◌, ◌-ℤ◌, if◌then◌else◌}
 use Rattle.std.specs.List.{slice_split, list_all, list_any}
 use Rattle.asm_model.specs.Characters.{is_minus, is_sign, is_star, same_word}
@@ -22,7 +22,7 @@ register_names =
 abbrev pub is_register_name : List ℕ → Bool
 is_register_name text = list_any (λ r. same_word r text) register_names
 
--- the most characters of a label
+-- the greatest number of characters of a label
 abbrev pub longest_label : ℕ
 longest_label = 29
 
@@ -46,7 +46,7 @@ abbrev pub star : List ℕ → Option Term
 star [] = Some here
 star _ = None
 
--- the term that a text is, if it is one
+-- the term that a text spells, if it is one
 abbrev pub term : List ℕ → Option Term
 term [] = None
 term (c ∷ text) =
@@ -55,7 +55,7 @@ term (c ∷ text) =
 
 -- ---- expressions
 
--- a term, and whether it is taken away
+-- a term, and whether it is subtracted
 pub record Signed : Type 0 where
   pub minus : Bool
   pub term : Term
@@ -63,7 +63,7 @@ pub record Signed : Type 0 where
 abbrev pub signed : ℕ → Term → Signed
 signed sign t = record { minus = is_minus sign; term = t }
 
--- the terms that parts of a text are, each with the sign before it
+-- the terms of the parts of a text, each with the sign before it
 abbrev pub terms_with : List ℕ → List (List ℕ) → Option (List Signed)
 terms_with (sign ∷ signs) (part ∷ parts) =
     option_and_then (λ t. option_map (λ ts. signed sign t ∷ ts) (terms_with signs parts)) (term part)
@@ -74,14 +74,14 @@ terms_with _ _ = None
 abbrev pub terms_after : ℕ → List ℕ → Option (List Signed)
 terms_after sign text = terms_with (sign ∷ filter is_sign text) (slice_split is_sign text)
 
--- the terms of an expression, if the text is one: an optional `-`, then terms that are joined by `+` and `-`
+-- the terms of an expression, if the text is one: an optional `-`, then terms joined by `+` and `-`
 abbrev pub terms : List ℕ → Option (List Signed)
 terms [] = None
 terms (c ∷ text) = if is_minus c then terms_after 45 text else terms_after 43 (c ∷ text)
 
 -- ---- values
 
--- the value with these terms added to it or taken from it
+-- the value with these terms added to it or subtracted from it
 abbrev pub value_after : (Term → Option ℤ) → ℤ → List Signed → Option ℤ
 value_after meaning value [] = Some value
 value_after meaning value (t ∷ ts) =

@@ -1,4 +1,4 @@
--- Lines that are an instruction, with numbers alone in their expressions (this project's own).
+-- The lines that are an instruction, with numbers alone in their expressions (this project's own).
 use Rattle.std.specs.Prelude.{ℕ, ◌+◌, ◌&&◌, Bool, Option, Some, None, option_map, option_and_then, List, ◌++◌, length, map, if◌then◌else◌}
 use Rattle.std.specs.List.{find, list_all}
 use Rattle.cpu_model.specs.declared.instruction.Page.{Page}
@@ -42,14 +42,14 @@ opcode_map =
     map (entry Base) (page_lines Base)
     ++ (map (entry Ten) (page_lines Ten) ++ map (entry Eleven) (page_lines Eleven))
 
--- the entry of this word that an operand with this mark may have
+-- the entry has this word, and its operand may have this mark
 abbrev pub is_entry : List ℕ → Mark → Entry → Bool
 is_entry word mark e = same_word (row_word e.line.row) word && fits e.line.row mark
 
 unfoldable pub entry_of : List ℕ → Mark → Option Entry
 entry_of word mark = find (is_entry word mark) opcode_map
 
--- ---- instructions that wait for a value
+-- ---- instructions without the value of an expression
 
 -- an instruction without the value of its expression
 pub record Shape : Type 0 where
@@ -60,12 +60,12 @@ pub record Shape : Type 0 where
 abbrev pub shape_with : Entry → Operand → Shape
 shape_with e o = record { page = e.page; opcode = e.line.opcode; operand = o }
 
--- the instruction of a word and an operand, if they are one
+-- the instruction of a word and an operand, if there is one
 abbrev pub shape_of : List ℕ → List ℕ → Option Shape
 shape_of word text =
     option_and_then (λ e. option_map (shape_with e) (row_operand e.line.row text)) (entry_of word (mark_of text))
 
--- the bytes of a field's value
+-- the number of bytes of a field's value
 abbrev pub field_length : Field → ℕ
 field_length field.Byte = 1
 field_length field.Direct = 1
@@ -82,7 +82,7 @@ abbrev pub post_length : Option ℕ → ℕ
 post_length None = 0
 post_length (Some post) = 1
 
--- the bytes of an instruction, which are known without the value of its expression
+-- the number of bytes of an instruction, which does not depend on the value of its expression
 abbrev pub shape_length : Shape → ℕ
 shape_length s = length (prefix s.page) + 1 + (post_length s.operand.post + wanted_length s.operand.wanted)
 
@@ -111,6 +111,6 @@ operand_text line = first_word (without_spaces (behind_word line))
 abbrev pub worded_instr : List ℕ → ℕ → Option Instr
 worded_instr line at = option_and_then (shape_instr at) (shape_of (first_word line) (operand_text line))
 
--- the instruction that a line is at an offset
+-- the instruction of a line at an offset
 abbrev pub instr_of : List ℕ → ℕ → Option Instr
 instr_of line at = if list_all is_line_byte line then worded_instr line at else None

@@ -1,4 +1,4 @@
--- What the laws of the texts of instructions speak of.
+-- The conditions in the laws of the texts of instructions.
 use Rattle.std.specs.Prelude.{◌<◌, IfSome, ⊤}
 use Rattle.cpu_model.specs.declared.instruction.Tail.{Tail}
 use Rattle.cpu_model.specs.declared.instruction.Tail.TheVariants.{Empty, Byte, Word}

@@ -29,7 +29,7 @@ use Rattle.asm_model.specs.Characters.{is_hash, is_comma, is_less, is_greater, i
 use Rattle.asm_model.specs.Expressions.{terms, lone_value}
 use Rattle.asm_model.specs.Print.{register_word, mask_registers, plain_index, in_brackets}
 
--- an operand: its postbyte, the bytes that follow, and the text of the expression whose value they have
+-- an operand: its postbyte, the bytes that follow, and the text of the expression with their value
 pub record Operand : Type 0 where
   pub post : Option ℕ
   pub wanted : Wanted
@@ -42,7 +42,7 @@ operand post wanted expression = record { post = post; wanted = wanted; expressi
 abbrev pub valued : Option ℕ → Field → List ℕ → Option Operand
 valued post f text = if is_some (terms text) then Some (operand post (Value f) text) else None
 
--- ---- which mode an operand has
+-- ---- the mode of an operand
 
 -- `#` marks an immediate operand, a bracket or a comma an indexed one, and `<` a direct one
 abbrev pub mark_of : List ℕ → Mark
@@ -52,7 +52,7 @@ mark_of (c ∷ text) =
     else (if is_opening c || list_any is_comma (c ∷ text) then mark.Indexed
     else (if is_less c then mark.Direct else mark.Address))
 
--- an operand with this mark may be one of the mode
+-- an operand with this mark may be of the mode
 abbrev pub mode_fits : Mode → Mark → Bool
 mode_fits Immediate8 mark.Immediate = true
 mode_fits Immediate16 mark.Immediate = true
@@ -65,7 +65,7 @@ mode_fits Relative16 m = true
 mode_fits Pair m = true
 mode_fits _ m = false
 
--- an operand with this mark may be one of the row; pushes and pulls take registers, too
+-- an operand with this mark may be of the row; pushes and pulls take registers, too
 abbrev pub operation_fits : Operation → Mode → Mark → Bool
 operation_fits (Psh s) mode m = true
 operation_fits (Pul s) mode m = true
@@ -76,19 +76,19 @@ fits r m = operation_fits r.0 r.1 m
 
 -- ---- registers
 
--- the weight of the register of this name among registers of a push mask, the first of which has this weight
+-- the weight of the register of this name among the registers of a push mask; the first has the given weight
 abbrev pub mask_weight : List Register → ℕ → List ℕ → Option ℕ
 mask_weight [] weight name = None
 mask_weight (r ∷ rs) weight name =
     if same_word (register_word r) name then Some weight else mask_weight rs (2 * weight) name
 
--- a mask with the registers of these names; a name that is there twice counts once
+-- a mask with the registers of these names; a name given twice counts once
 abbrev pub mask_with : Stack → ℕ → List (List ℕ) → Option ℕ
 mask_with stack mask [] = Some mask
 mask_with stack mask (name ∷ names) =
     option_and_then (λ weight. mask_with stack (bit_or mask weight) names) (mask_weight (mask_registers stack) 1 name)
 
--- the mask of these registers: names with commas between them
+-- the mask of these registers: names separated by commas
 abbrev pub register_mask : Stack → List ℕ → Option ℕ
 register_mask stack text = mask_with stack 0 (slice_split is_comma text)
 
@@ -111,7 +111,7 @@ pair_among (source ∷ destination ∷ []) =
     (register_code source)
 pair_among _ = None
 
--- source and destination, two registers of one size, with a comma between them
+-- source and destination, two registers of one size, separated by a comma
 abbrev pub register_pair : List ℕ → Option ℕ
 register_pair text = pair_among (slice_split is_comma text)
 
@@ -194,7 +194,7 @@ abbrev pub modulo : ℕ → ℤ → ℕ
 modulo count (pos n) = n % count
 modulo count (negsuc n) = count - 1 - n % count
 
--- the least number, the greatest one, or a number between them
+-- from the least number to the greatest
 abbrev pub between : ℤ → ℤ → ℤ → Bool
 between least most z = not (int_lt z least) && not (int_lt most z)
 
@@ -205,7 +205,7 @@ size_of_value indirect (Some z) =
     if not indirect && between (negsuc 15) (pos 15) z then Five z
     else (if between (negsuc 127) (pos 127) z then Eight else Sixteen)
 
--- an offset, taken apart into its mark and its expression
+-- an offset as its mark and its expression
 pub record Offset : Type 0 where
   pub width : Width
   pub expression : List ℕ
@@ -244,7 +244,7 @@ offset_from indirect offset base =
     if same_word (codes "PCR") base then target_operand offset.width indirect offset.expression
     else option_and_then (λ r. offset_operand offset.width indirect r offset.expression) (index_number base)
 
--- an offset and a base, with a comma between them
+-- an offset and a base, separated by a comma
 abbrev pub offset_among : Bool → List (List ℕ) → Option Operand
 offset_among indirect (offset ∷ base ∷ []) = offset_from indirect (marked offset) base
 offset_among indirect _ = None
@@ -268,7 +268,7 @@ numbered (c ∷ text) =
     if is_opening c then option_and_then inside (before_bracket text)
     else offset_among false (slice_split is_comma (c ∷ text))
 
--- the operand of this postbyte, or else one with a number
+-- the operand of this postbyte, or otherwise one with a number
 abbrev pub bare_or : Option ℕ → List ℕ → Option Operand
 bare_or (Some post) text = Some (operand (Some post) Nothing [])
 bare_or None text = numbered text
@@ -303,7 +303,7 @@ if_between least most z tail = if between least most z then Some tail else None
 abbrev pub distance : ℕ → ℤ → ℕ
 distance next z = modulo 65536 (z -ℤ pos next)
 
--- the operand bytes of a value, if it is in the range of its field; a target's distance counts from the next
+-- the operand bytes of a value, if it is in the range of its field; a target's distance is counted from the next
 -- instruction
 abbrev pub filled : Field → ℕ → ℤ → Option Tail
 filled field.Byte next z = if_between (negsuc 127) (pos 255) z (Byte (modulo 256 z))

@@ -22,11 +22,11 @@ use Rattle.asm_model.specs.Statements.{Action, label_alone, instruction, module_
 abbrev pub constant_value : List ℕ → ℤ
 constant_value text = unwrap_or (option_and_then (value_of constant_meaning) (terms text)) (pos 0)
 
--- the bytes of a module's CRC
+-- the number of bytes of a module's CRC
 abbrev pub crc_length : ℕ
 crc_length = 3
 
--- the bytes of a statement: those of `mod` are the header and the name, those of `emod` the CRC
+-- the number of bytes of a statement: of `mod` those of the header and the name, of `emod` those of the CRC
 abbrev pub action_length : Action → ℕ
 action_length label_alone = 0
 action_length (instruction s) = shape_length s
@@ -45,7 +45,7 @@ pub record Meaning : Type 0 where
   pub name : List ℕ
   pub value : Option ℤ
 
--- what lines reach: their labels, the offset behind them, which is not known if one of them is broken, and whether
+-- what lines reach: their labels, the offset after them, which is unknown if one of them is broken, and whether
 -- `mod` and `emod` are among them
 pub record Reached : Type 0 where
   pub labels : List Meaning
@@ -64,7 +64,7 @@ abbrev pub is_known_term : List Meaning → Term → Bool
 is_known_term labels (label name) = is_known labels name
 is_known_term labels _ = true
 
--- a value that a label or `*` can have: a value that 64 bits with a sign do not hold is not known
+-- a value that a label or `*` can have; a value that does not fit 64 bits with a sign is unknown
 abbrev pub held : ℤ → Option ℤ
 held z = if between (negsuc 9223372036854775807) (pos 9223372036854775807) z then Some z else None
 
@@ -81,16 +81,16 @@ term_value labels offset here = offset_value offset
 abbrev pub names_known : List Meaning → List ℕ → Bool
 names_known labels text = option_map_or (list_all (λ t. is_known_term labels t.term)) (terms text) true
 
--- the value of an expression at this offset, if its labels have one
+-- the value of an expression at this offset, if its labels have values
 abbrev pub value_at : List Meaning → Option ℕ → List ℕ → Option ℤ
 value_at labels offset text = option_and_then (value_of (term_value labels offset)) (terms text)
 
--- the value of a statement's label: that of `equ` by the labels above, or the statement's own offset
+-- the value of a statement's label: for `equ` by the labels above, otherwise the statement's own offset
 abbrev pub label_value : Reached → Action → Option ℤ
 label_value above (equals text) = option_and_then held (value_at above.labels above.offset text)
 label_value above _ = offset_value above.offset
 
--- the labels with one more; a label that is there already keeps its value
+-- the labels with one more; a known label keeps its value
 abbrev pub with_label : List Meaning → Option (List ℕ) → Option ℤ → List Meaning
 with_label labels None value = labels
 with_label labels (Some name) value =
@@ -104,7 +104,7 @@ abbrev pub is_end : Action → Bool
 is_end module_end = true
 is_end _ = false
 
--- what lines reach with one line more
+-- what lines reach with one more line
 abbrev pub after : Reached → LineRead → Reached
 after above skipped = above
 after above (broken name) = record above { labels = with_label above.labels name None; offset = None }
@@ -124,7 +124,7 @@ reached_from above (l ∷ ls) = reached_from (after above l) ls
 
 -- ---- faults
 
--- an expression, and the field that its value has to fit
+-- an expression, and the field of its value
 pub record FieldText : Type 0 where
   pub field : Field
   pub text : List ℕ
@@ -136,7 +136,7 @@ abbrev pub wanted_values : Wanted → List ℕ → List FieldText
 wanted_values (Value f) text = in_field f text ∷ []
 wanted_values _ text = []
 
--- the expressions of a statement; KIND is tested by itself
+-- the expressions of a statement; KIND has its own test
 abbrev pub action_values : Action → List FieldText
 action_values (instruction s) = wanted_values s.operand.wanted s.operand.expression
 action_values (module_start m) = in_field field.Byte m.attributes ∷ in_field field.Word m.storage ∷ []
@@ -146,7 +146,7 @@ action_values (word_list texts) = map (in_field field.Word) texts
 action_values (system_call text) = in_field field.Byte text ∷ []
 action_values _ = []
 
--- the labels that a statement may name: for `equ` those above, for another statement all
+-- the labels that a statement may name: for `equ` those above, otherwise all
 abbrev pub nameable : Reached → Reached → Action → List Meaning
 nameable all above (equals text) = above.labels
 nameable all above action = all.labels
@@ -157,7 +157,7 @@ names_fit all above action = list_all (λ v. names_known (nameable all above act
 abbrev pub has_known_name : Reached → Statement → Bool
 has_known_name above s = option_map_or (is_known above.labels) s.name false
 
--- a line above has the label already, or is the `mod` or `emod`
+-- a line above already has the label, or this is a second `mod` or `emod`
 abbrev pub is_twice : Reached → Statement → Bool
 is_twice above s =
     has_known_name above s || (above.has_start && is_start s.action) || (above.has_end && is_end s.action)
@@ -167,13 +167,13 @@ abbrev pub is_out : Field → ℕ → Option ℤ → Bool
 is_out f next None = false
 is_out f next (Some z) = is_none (filled f next z)
 
--- a statement at this offset has a value that is known and out of range
+-- a statement at this offset has a known value that is out of range
 abbrev pub has_value_out : List Meaning → Option ℕ → Action → Bool
 has_value_out labels offset action =
     list_any (λ v. is_out v.field (unwrap_or offset 0 + action_length action) (value_at labels offset v.text))
     (action_values action)
 
--- the module ends past the most bytes of a module
+-- the module is longer than the greatest length of a module
 abbrev pub is_too_long : Option ℕ → Action → Bool
 is_too_long (Some n) module_end = not (nat_le (n + crc_length) MOST_GROUP_BYTES)
 is_too_long offset _ = false
@@ -187,7 +187,7 @@ abbrev pub has_bad_value : Reached → Reached → Action → Bool
 has_bad_value all above action =
     has_value_out all.labels above.offset action || is_too_long above.offset action || is_bad_kind action
 
--- the least rule that a line breaks, where the whole source reaches the first of these and the lines above the second
+-- the least rule that a line breaks, if the whole source reaches the first of these and the lines above the second
 abbrev pub line_fault : Reached → Reached → LineRead → Option AsmError
 line_fault all above skipped = None
 line_fault all above (broken name) = Some Syntax
@@ -204,7 +204,7 @@ pub record SourceFault : Type 0 where
 abbrev pub fault_on : ℕ → AsmError → SourceFault
 fault_on line error = record { line = line; error = error }
 
--- the first line that breaks a rule, with the least one
+-- the first line that breaks a rule, and the least rule that it breaks
 abbrev pub fault_from : Reached → Reached → ℕ → List LineRead → Option SourceFault
 fault_from all above number [] = None
 fault_from all above number (l ∷ ls) =

@@ -22,7 +22,7 @@ use Rattle.cpu_table.specs.Spelling.{spelling}
 use Rattle.asm_model.specs.Mnemonics.{row_word, index_register_word}
 use Rattle.asm_model.specs.Numbers.{two_digits, four_digits}
 
--- `$` and the digits of a byte, of a word
+-- `$` and the digits of a byte or a word
 abbrev pub byte_number : ℕ → List ℕ
 byte_number n = 36 ∷ two_digits n
 
@@ -49,12 +49,12 @@ mask_registers stack =
     register.Cc ∷ register.A ∷ register.B ∷ register.Dp ∷ register.X ∷ register.Y ∷ other_pointer stack ∷ register.Pc
     ∷ []
 
--- those whose bits are set, with commas between them
+-- the registers whose bits are set, separated by commas
 abbrev pub comma_before : Bool → List ℕ
 comma_before true = []
 comma_before false = 44 ∷ []
 
--- what the register of bit 0 gives
+-- the text of the register of bit 0, if the bit is set
 abbrev pub masked_part : Bool → Register → ℕ → List ℕ
 masked_part is_first r mask = if mask % 2 == 1 then comma_before is_first ++ register_word r else []
 
@@ -97,7 +97,7 @@ plain_index OffsetB r = codes "B," ++ index_register_word r
 plain_index OffsetD r = codes "D," ++ index_register_word r
 plain_index _ r = []
 
--- where an offset from the next instruction leads
+-- the target of an offset from the next instruction
 abbrev pub target : ℕ → ℕ → ℕ
 target next offset = (next + offset) % 65536
 
@@ -126,7 +126,7 @@ printed_immediate (Psh stack) b = printed_mask stack b
 printed_immediate (Pul stack) b = printed_mask stack b
 printed_immediate _ b = 35 ∷ byte_number b
 
--- the operand where one byte follows the opcode, where a word does
+-- the operand if one byte follows the opcode, and if a word does
 abbrev pub printed_byte : Operation → Mode → ℕ → ℕ → List ℕ
 printed_byte operation Immediate8 b next = printed_immediate operation b
 printed_byte operation Direct b next = 60 ∷ byte_number b

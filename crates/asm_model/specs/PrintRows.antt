@@ -1,4 +1,4 @@
--- Instructions with the texts that an outside program prints of them.
+-- Instructions with the texts that an outside program prints for them.
 use Rattle.std.specs.Prelude.{ℕ, Ok, Err, List, [], ◌∷◌, codes}
 use Rattle.cpu_model.specs.Reading.{Reading, reading}
 use Rattle.asm_model.specs.Print.{printed}

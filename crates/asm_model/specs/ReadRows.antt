@@ -1,4 +1,4 @@
--- Lines with the bytes that an outside program reads them as.
+-- Lines with the bytes that an outside program makes from them.
 use Rattle.std.specs.Prelude.{ℕ, Option, Some, None, option_map, List, [], ◌∷◌, codes}
 use Rattle.cpu_table.specs.Spelling.{spelling}
 use Rattle.asm_model.specs.Instructions.{instr_of}
@@ -15,7 +15,7 @@ accepting at line bytes = record { at = at; line = line; bytes = Some bytes }
 abbrev refusing : ℕ → List ℕ → ReadRow
 refusing at line = record { at = at; line = line; bytes = None }
 
--- the bytes of the instruction that the line of a row is
+-- the bytes of the instruction in the line of a row
 abbrev pub bytes_of_row : ReadRow → Option (List ℕ)
 bytes_of_row r = option_map spelling (instr_of r.line r.at)
 

@@ -18,7 +18,7 @@ pub record ModuleFields : Type 0 where
   pub attributes : List ℕ
   pub storage : List ℕ
 
--- what a statement asks for; expressions are texts
+-- the action of a statement; expressions are texts
 pub data Action : Type 0 where
   label_alone : Action
   instruction : Shape → Action
@@ -48,7 +48,7 @@ is_constant _ = false
 abbrev pub is_constant_expression : List ℕ → Bool
 is_constant_expression text = option_map_or (list_all (λ t. is_constant t.term)) (terms text) false
 
--- a name of characters that F$PrsNam takes
+-- a name whose characters F$PrsNam accepts
 abbrev pub is_module_name : List ℕ → Bool
 is_module_name name = is_some (if_name name) && list_all is_name_character name
 
@@ -59,7 +59,7 @@ module_fields (name ∷ kind ∷ attributes ∷ storage ∷ []) =
     then Some (module_start (record { name = name; kind = kind; attributes = attributes; storage = storage })) else None
 module_fields _ = None
 
--- one or more expressions with commas between them
+-- one or more expressions, separated by commas
 abbrev pub expression_list : List ℕ → Option (List (List ℕ))
 expression_list text =
     if list_all is_expression (slice_split is_comma text) then Some (slice_split is_comma text) else None
@@ -97,7 +97,7 @@ directives = Mod ∷ Emod ∷ Equ ∷ Fcb ∷ Fdb ∷ Fcc ∷ Fcs ∷ Os9 ∷ []
 abbrev pub directive_of : List ℕ → Option Directive
 directive_of word = find (λ d. same_word (directive_word d) word) directives
 
--- what a directive asks for with this rest of its line, if its operand is right
+-- the action of a directive with this rest of its line, if its operand is valid
 abbrev pub directive_action : Directive → List ℕ → Option Action
 directive_action Mod rest = module_fields (slice_split is_comma (first_word rest))
 directive_action Emod rest = Some module_end
@@ -112,13 +112,13 @@ abbrev pub directive_or_instruction : Option Directive → List ℕ → List ℕ
 directive_or_instruction (Some d) word rest = directive_action d rest
 directive_or_instruction None word rest = option_map instruction (shape_of word (first_word rest))
 
--- what a word asks for with this rest of its line, if they are right
+-- the action of a word with this rest of its line, if they are valid
 abbrev pub action_of : List ℕ → List ℕ → Option Action
 action_of word rest = directive_or_instruction (directive_of word) word rest
 
 -- ---- lines
 
--- what a line is: a broken line still gives its label
+-- what is read from a line: a broken line still gives its label
 pub data LineRead : Type 0 where
   skipped : LineRead
   broken : Option (List ℕ) → LineRead
@@ -135,19 +135,19 @@ statement name None = broken name
 statement None (Some (equals text)) = broken None
 statement name (Some action) = stated (record { name = name; action = action })
 
--- the rest of a line that follows its label, or the spaces that it begins with
+-- what is read from the rest of a line, after its label or its leading spaces
 abbrev pub after_label : Option (List ℕ) → List ℕ → LineRead
 after_label None [] = broken None
 after_label (Some name) [] = stated (record { name = Some name; action = label_alone })
 after_label name (c ∷ text) =
     statement name (action_of (first_word (c ∷ text)) (without_spaces (behind_word (c ∷ text))))
 
--- a line of a first column and the rest that follows it
+-- a line of a first column and the rest after it
 abbrev pub labelled : List ℕ → List ℕ → LineRead
 labelled [] rest = after_label None rest
 labelled (c ∷ name) rest = if is_label (c ∷ name) then after_label (Some (c ∷ name)) rest else broken None
 
--- what a line is
+-- what is read from a line
 unfoldable pub line_read : List ℕ → LineRead
 line_read line =
     if not (list_all is_line_byte line) then broken None

@@ -20,12 +20,13 @@ pub fn printed_text_is_read_again()
         → instr_of (printed i at) at ≡ Some i }
 {}
 
-/// The instruction that a line is read as is one that decoding can give.
+/// Each instruction that is read from a line is one that decoding can give.
 pub fn read_instruction_is_plain()
     ensures { (line : List ℕ) (at : ℕ) (i : Instr) → instr_of line at ≡ Some i → IsPlain i }
 {}
 
-/// Each row of the opcode map is the one of its word, for each kind of operand that it may have.
+/// Each row of the opcode map is the row found for its word and any kind of operand that it may
+/// have.
 pub fn word_has_one_row()
     ensures { (page : Page) (opcode : ℕ) (r : Row) (mark : Mark) → row page opcode ≡ Some r
         → fits r mark ≡ true → entry_of (row_word r) mark ≡ Some (row_entry page opcode r) }

@@ -28,7 +28,7 @@ pub enum Wanted {
     Value(Field),
 }
 
-/// The kind of operand that the characters of an operand mark it as.
+/// The kind of an operand, by its characters.
 #[derive(Clone, Copy, Debug, PartialEq, Eq)]
 pub enum Mark {
     /// `#`

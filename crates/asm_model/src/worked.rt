@@ -1,4 +1,4 @@
-//! Texts with what they mean, as laws that the check computes from the definitions. The expected
+//! Texts with their meanings, as laws that the check computes from the definitions. The expected
 //! values are those of an outside program.
 
 ghost use Rattle.std.specs.Prelude.{◌≡◌, Some, None, codes, map};
@@ -26,7 +26,7 @@ pub fn lines_break_rules()
     ensures { map fault_of_row fault_rows ≡ map expected_fault fault_rows }
 {}
 
-/// The first line that breaks a rule is reported, with the least one.
+/// The first line that breaks a rule is reported, with the least rule that it breaks.
 pub fn sources_break_rules()
     ensures hello { source_fault hello ≡ None }
     ensures no_text { source_fault hello_without_text ≡ Some (fault_on 2 UnknownName) }

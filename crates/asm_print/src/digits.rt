@@ -5,10 +5,10 @@ ghost use Rattle.asm_model.specs.Print.{byte_number, word_number, signed_number,
 
 use arrayvec::ArrayVec;
 
-/// The most bytes of an operand.
+/// The greatest length of an operand, in bytes.
 pub(crate) const OPERAND: usize = 24;
 
-/// Puts a text at the end.
+/// Adds a text at the end.
 pub(crate) fn add<const N: usize>(out: &mut ArrayVec<u8, N>, text: &[u8])
     requires { array_vec_len out.old + length text.now ≤ N }
     ensures text { out.new.items ≡ out.old.items ++ text.now }
@@ -28,7 +28,7 @@ fn hex_character(n: u8) -> u8
     if n < 10 { b'0' + n } else { b'A' - 10 + n }
 }
 
-// Puts the two digits of a byte at the end.
+// Adds the two digits of a byte at the end.
 fn add_two_digits(out: &mut ArrayVec<u8, OPERAND>, n: u8)
     requires { array_vec_len out.old + 2 ≤ OPERAND }
     ensures text { out.new.items ≡ out.old.items ++ two_digits n }
@@ -38,7 +38,7 @@ fn add_two_digits(out: &mut ArrayVec<u8, OPERAND>, n: u8)
     out.push(hex_character(n % 16));
 }
 
-/// Puts the number of a byte at the end.
+/// Adds the number of a byte at the end.
 pub(crate) fn add_byte(out: &mut ArrayVec<u8, OPERAND>, n: u8)
     requires { array_vec_len out.old + 3 ≤ OPERAND }
     ensures text { out.new.items ≡ out.old.items ++ byte_number n }
@@ -48,7 +48,7 @@ pub(crate) fn add_byte(out: &mut ArrayVec<u8, OPERAND>, n: u8)
     add_two_digits(out, n);
 }
 
-/// Puts the number of a word at the end.
+/// Adds the number of a word at the end.
 pub(crate) fn add_word(out: &mut ArrayVec<u8, OPERAND>, n: u16)
     requires { array_vec_len out.old + 5 ≤ OPERAND }
     ensures text { out.new.items ≡ out.old.items ++ word_number n }
@@ -59,7 +59,7 @@ pub(crate) fn add_word(out: &mut ArrayVec<u8, OPERAND>, n: u16)
     add_two_digits(out, (n % 256) as u8);
 }
 
-/// Puts the number of a signed byte at the end.
+/// Adds the number of a signed byte at the end.
 pub(crate) fn add_signed(out: &mut ArrayVec<u8, OPERAND>, n: u8)
     requires { array_vec_len out.old + 4 ≤ OPERAND }
     ensures text { out.new.items ≡ out.old.items ++ signed_number n }
@@ -73,7 +73,7 @@ pub(crate) fn add_signed(out: &mut ArrayVec<u8, OPERAND>, n: u8)
     }
 }
 
-// Puts a number below 20 in decimal digits at the end.
+// Adds a number below 20 in decimal digits at the end.
 fn add_decimal(out: &mut ArrayVec<u8, OPERAND>, n: u8)
     requires small { n < 20 }
     requires room { array_vec_len out.old + 2 ≤ OPERAND }
@@ -88,7 +88,7 @@ fn add_decimal(out: &mut ArrayVec<u8, OPERAND>, n: u8)
     }
 }
 
-/// Puts the number of the signed five bits at the end.
+/// Adds the number of the signed five bits at the end.
 pub(crate) fn add_five_bits(out: &mut ArrayVec<u8, OPERAND>, n: u8)
     requires five { n < 32 }
     requires room { array_vec_len out.old + 3 ≤ OPERAND }

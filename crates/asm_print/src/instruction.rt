@@ -40,7 +40,7 @@ impl Text {
     }
 }
 
-// Puts the word of a row at the end.
+// Adds the word of a row at the end.
 fn add_row_word(out: &mut ArrayVec<u8, LONGEST>, row: Row)
     requires { array_vec_len out.old ≡ 0 }
     ensures text { out.new.items ≡ out.old.items ++ row_word row }
@@ -52,7 +52,7 @@ fn add_row_word(out: &mut ArrayVec<u8, LONGEST>, row: Row)
     add(out, word.ending);
 }
 
-/// Is the word that of a row of the opcode map, in any case of letters?
+/// Is the word that of this row of the opcode map, in any case of letters?
 pub fn is_word_of(row: Row, word: &[u8]) -> bool
     ensures { result ≡ same_word (row_word row) word.now }
 {
@@ -61,7 +61,7 @@ pub fn is_word_of(row: Row, word: &[u8]) -> bool
     text.as_slice().eq_ignore_ascii_case(word)
 }
 
-// Puts a space and the operand at the end, if there is one.
+// Adds a space and the operand at the end, if there is an operand.
 fn add_operand(out: &mut ArrayVec<u8, LONGEST>, text: &[u8])
     requires room { array_vec_len out.old + 1 + length text.now ≤ LONGEST }
     ensures { out.new.items ≡ with_operand out.old.items text.now }
@@ -79,7 +79,7 @@ fn add_operand(out: &mut ArrayVec<u8, LONGEST>, text: &[u8])
 /// it has an operand, one space and the operand (this project's own, in the manner of the usual
 /// assemblers of the 6809).
 ///
-/// A number is `$` with two or four digits, a target is printed as its own offset. The text is
+/// A number is `$` with two or four digits; a target is printed as its own offset. The text is
 /// empty if no bytes decode to the instruction.
 #[tactic(auto, unfolding(asm_model::specs::Print::printed))]
 pub fn print(i: &Instr, at: u16) -> Text

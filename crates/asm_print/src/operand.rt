@@ -17,12 +17,12 @@ use cpu_model::instruction::Tail;
 use cpu_model::rows::{IndexRegister, Mode, Operation, Register, Row, Stack};
 use cpu_table::postbyte;
 
-/// The greatest offset of a next instruction: the longest has five bytes.
+/// The greatest offset of a next instruction; the longest instruction has five bytes.
 pub(crate) const LAST_NEXT: u32 = 65_540;
 
 // ---- registers
 
-// The register that a push mask has in place of its stack's own.
+// The register that a push mask has in place of the stack's own.
 fn other_pointer(stack: Stack) -> Register
     ensures { result ≡ other_pointer_lem stack }
 {
@@ -48,8 +48,8 @@ fn mask_registers(stack: Stack) -> [Register; 8]
     ]
 }
 
-// Puts a register at the end if bit 0 of the mask is set, after a comma unless it is the first.
-// Is the next one the first?
+// Adds a register at the end if bit 0 of the mask is set, after a comma unless it is the first.
+// Returns whether the next register is still the first.
 fn add_register(
     out: &mut ArrayVec<u8, OPERAND>,
     is_first: bool,
@@ -71,7 +71,7 @@ fn add_register(
     false
 }
 
-// Puts the registers whose bits are set at the end.
+// Adds the registers whose bits are set at the end.
 fn add_masked(out: &mut ArrayVec<u8, OPERAND>, registers: &[Register], mask: u8)
     requires { array_vec_len out.old + 3 * length registers.now ≤ OPERAND }
     ensures { out.new.items ≡ out.old.items ++ masked true registers.now mask }
@@ -84,7 +84,7 @@ fn add_masked(out: &mut ArrayVec<u8, OPERAND>, registers: &[Register], mask: u8)
     }
 }
 
-// Puts the operand of a push or pull at the end.
+// Adds the operand of a push or pull at the end.
 fn add_mask(out: &mut ArrayVec<u8, OPERAND>, stack: Stack, mask: u8)
     requires { array_vec_len out.old ≡ 0 }
     ensures { out.new.items ≡ out.old.items ++ printed_mask stack mask }
@@ -114,7 +114,7 @@ fn register_coded(code: u8) -> Register
     }
 }
 
-// Puts source and destination at the end.
+// Adds source and destination at the end.
 fn add_pair(out: &mut ArrayVec<u8, OPERAND>, pair: u8)
     requires { array_vec_len out.old ≡ 0 }
     ensures { out.new.items ≡ out.old.items ++ printed_pair pair }
@@ -145,7 +145,7 @@ fn target(next: u32, offset: u16) -> u16
     ((next + u32::from(offset)) % 65536) as u16
 }
 
-// Puts an operand without a number at the end.
+// Adds an operand without a number at the end.
 fn add_plain(out: &mut ArrayVec<u8, OPERAND>, form: Form, register: IndexRegister)
     requires { array_vec_len out.old + 4 ≤ OPERAND }
     ensures text { out.new.items ≡ out.old.items ++ plain_index form register }
@@ -167,7 +167,7 @@ fn add_plain(out: &mut ArrayVec<u8, OPERAND>, form: Form, register: IndexRegiste
     add(out, end);
 }
 
-// Puts a comma and an index register at the end.
+// Adds a comma and an index register at the end.
 fn add_base(out: &mut ArrayVec<u8, OPERAND>, register: IndexRegister)
     requires { array_vec_len out.old + 2 ≤ OPERAND }
     ensures text { out.new.items ≡ out.old.items
@@ -178,7 +178,7 @@ fn add_base(out: &mut ArrayVec<u8, OPERAND>, register: IndexRegister)
     add(out, index_register_word(register));
 }
 
-// Puts an indexed operand without brackets at the end.
+// Adds an indexed operand without brackets at the end.
 fn add_index(out: &mut ArrayVec<u8, OPERAND>, meaning: Indexing, post: u8, tail: Tail, next: u32)
     requires room { array_vec_len out.old ≤ 1 }
     requires next { next ≤ LAST_NEXT }
@@ -216,7 +216,7 @@ fn add_index(out: &mut ArrayVec<u8, OPERAND>, meaning: Indexing, post: u8, tail:
     }
 }
 
-// Puts an indexed operand at the end, if its postbyte is documented.
+// Adds an indexed operand at the end, if its postbyte is documented.
 fn add_indexing(
     out: &mut ArrayVec<u8, OPERAND>,
     meaning: Option<Indexing>,
@@ -242,7 +242,7 @@ fn add_indexing(
 
 // ---- operands
 
-// Puts the operand of an immediate byte at the end.
+// Adds the operand of an immediate byte at the end.
 fn add_immediate(out: &mut ArrayVec<u8, OPERAND>, operation: Operation, b: u8)
     requires { array_vec_len out.old ≡ 0 }
     ensures { out.new.items ≡ out.old.items ++ printed_immediate operation b }
@@ -256,7 +256,7 @@ fn add_immediate(out: &mut ArrayVec<u8, OPERAND>, operation: Operation, b: u8)
     }
 }
 
-// Puts an operand with one byte after the opcode at the end.
+// Adds an operand with one byte after the opcode at the end.
 fn add_one_byte(out: &mut ArrayVec<u8, OPERAND>, operation: Operation, mode: Mode, b: u8, next: u32)
     requires room { array_vec_len out.old ≡ 0 }
     requires next { next ≤ LAST_NEXT }
@@ -274,7 +274,7 @@ fn add_one_byte(out: &mut ArrayVec<u8, OPERAND>, operation: Operation, mode: Mod
     }
 }
 
-// Puts an operand with a word after the opcode at the end.
+// Adds an operand with a word after the opcode at the end.
 fn add_one_word(out: &mut ArrayVec<u8, OPERAND>, mode: Mode, w: u16, next: u32)
     requires room { array_vec_len out.old ≡ 0 }
     requires next { next ≤ LAST_NEXT }
@@ -312,7 +312,7 @@ pub(crate) fn operand(row: Row, post: Option<u8>, tail: Tail, next: u32) -> Arra
 
 // ---- operands without a number
 
-// Has the form no operand bytes?
+// Does the form have no operand bytes?
 fn has_no_bytes(form: Form) -> bool
     ensures { result ≡ is_bare_extent (extent_of_form form) }
 {
@@ -322,7 +322,7 @@ fn has_no_bytes(form: Form) -> bool
     }
 }
 
-// Puts an indexed operand without a number at the end.
+// Adds an indexed operand without a number at the end.
 fn add_bare(out: &mut ArrayVec<u8, OPERAND>, meaning: Indexing)
     requires { array_vec_len out.old ≡ 0 }
     ensures { out.new.items

@@ -8,7 +8,7 @@ pub(crate) fn is_sign(c: u8) -> bool
     c == b'+' || c == b'-'
 }
 
-/// Are they one word, in any case of letters?
+/// Are they the same word, in any case of letters?
 pub fn is_same_word(word: &[u8], text: &[u8]) -> bool
     ensures { result ≡ same_word word.now text.now }
 {

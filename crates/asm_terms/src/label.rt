@@ -4,7 +4,7 @@ ghost use Rattle.asm_model.specs.Expressions.{is_label as is_label_lem, is_label
 
 use crate::characters::is_same_word;
 
-/// The most characters of a label.
+/// The greatest number of characters of a label.
 const LONGEST: usize = 29;
 
 // Is it a letter or `_`?

@@ -10,10 +10,10 @@ use number_text::{hex_digit, read_number};
 /// The greatest number: a word of ones.
 const GREATEST: u32 = 65_535;
 
-/// The most hexadecimal digits.
+/// The greatest number of hexadecimal digits.
 const MOST_DIGITS: usize = 4;
 
-// The number with one digit more.
+// The number with one more digit.
 fn with_digit(value: u16, c: u8) -> Option<u16>
     requires { value < 4096 }
     ensures value { result ≡ option_map (λ digit. 16 * value + digit) (hex_digit_lem c) }
@@ -37,7 +37,8 @@ fn hexadecimal(text: &[u8]) -> Option<u16>
     Some(value)
 }
 
-/// The number that a text is: decimal digits up to 65,535, or `$` and one to four hexadecimal ones.
+/// The number that a text spells: decimal digits up to 65,535, or `$` and one to four hexadecimal
+/// digits.
 pub fn number(text: &[u8]) -> Option<u16>
     ensures { result ≡ number_lem text.now }
 {

@@ -7,7 +7,7 @@ ghost use Rattle.asm_terms.specs.Terms.{tested};
 use crate::characters::is_sign;
 use crate::term::{Numbers, Term, TermTest, read_term};
 
-// Every term is one.
+// The test that every term passes.
 #[derive(Clone, Copy, Debug)]
 struct Any;
 
@@ -19,7 +19,7 @@ impl TermTest for Any {
     }
 }
 
-// A test so far, with one term more; none if the text is not a term.
+// A test so far, with one more term; none if the text is not a term.
 fn test_part<T: TermTest>(test: &T, is_passed: bool, part: &[u8]) -> Option<bool>
     ensures { result ≡ tested (T.passes test.now) is_passed part.now }
 {
@@ -60,7 +60,7 @@ pub fn every_term<T: TermTest>(text: &[u8], test: &T) -> Option<bool>
     }
 }
 
-/// Is the text an expression: an optional `-`, then terms that are joined by `+` and `-`?
+/// Is the text an expression: an optional `-`, then terms joined by `+` and `-`?
 pub fn is_expression(text: &[u8]) -> bool
     ensures { result ≡ is_expression_lem text.now }
 {

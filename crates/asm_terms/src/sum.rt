@@ -5,7 +5,7 @@ ghost use Rattle.asm_terms.specs.Terms.{with_part};
 use crate::characters::is_sign;
 use crate::term::{Meaning, read_term};
 
-// A value with one term more.
+// A value with one more term.
 fn add<M: Meaning>(meaning: &M, value: i128, sign: u8, part: &[u8]) -> Option<i128>
     requires low { neg_ℤ (pos (2 ^ 126)) ≤ℤ value }
     requires high { value ≤ℤ pos (2 ^ 126) }
@@ -42,7 +42,7 @@ fn sum<M: Meaning>(meaning: &M, sign: u8, text: &[u8]) -> Option<i128>
 
 /// The value of an expression, if the text is one and each of its terms has a value.
 ///
-/// The sum is a whole number: nothing wraps, whatever the length of the text.
+/// The sum is a whole number and never wraps, however long the text is.
 pub fn value_of<M: Meaning>(text: &[u8], meaning: &M) -> Option<i128>
     ensures { result ≡ option_and_then (value_of_lem (M.meaning meaning.now)) (terms text.now) }
 {

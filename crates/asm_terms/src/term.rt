@@ -17,11 +17,11 @@ pub enum Term<'a> {
     Here,
 }
 
-/// What values terms have.
+/// The values of terms.
 pub trait Meaning {
     ghost meaning: { Self → TermOf → Option ℤ };
 
-    /// The value of a term, if it has one: 64 bits with a sign.
+    /// The value of a term, if it has one; it fits 64 bits with a sign.
     fn value(&self, term: Term<'_>) -> Option<i64>
         ensures { result ≡ meaning self.now (term_of term.entry) };
 }
@@ -58,7 +58,7 @@ impl TermTest for Numbers {
     }
 }
 
-/// The term that a text is: `*`, a label or a number.
+/// The term that a text spells: `*`, a label or a number.
 pub fn read_term(text: &[u8]) -> Option<Term<'_>>
     ensures { option_map term_of result ≡ term_lem text.now }
 {

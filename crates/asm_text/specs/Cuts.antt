@@ -15,6 +15,6 @@ abbrev pub two_of : List (List ℕ) → Option Two
 two_of (first ∷ second ∷ []) = Some (two first second)
 two_of _ = None
 
--- the two texts that it is
+-- the two texts as the model has them
 abbrev pub two_as : Parts → Two
 two_as p = two p.first.now p.rest.now

@@ -8,11 +8,11 @@ use Rattle.asm_model.specs.Expressions.{terms, lone_value}
 use Rattle.asm_model.specs.Operands.{Offset as OffsetOf, size_of_value}
 use Rattle.asm_text.specs.declared.index.Offset.{Offset}
 
--- the offset that it is
+-- the offset as the model has it
 abbrev pub offset_as : Offset → OffsetOf
 offset_as o = record { width = o.width; expression = o.expression.now }
 
--- the size that the mark of an offset asks for, or that its value has
+-- the size of an offset, by its mark or by its value
 abbrev pub offset_size : Width → Bool → List ℕ → Size
 offset_size Narrow indirect text = Eight
 offset_size Wide indirect text = Sixteen

@@ -7,15 +7,15 @@ use Rattle.asm_text.specs.declared.entry.Found.{Found}
 use Rattle.asm_text.specs.declared.operand.Operand.{Operand}
 use Rattle.asm_text.specs.declared.shape.Shape.{Shape}
 
--- the entry of the opcode map that it is
+-- the entry of the opcode map
 abbrev pub entry_found : Found → Entry
 entry_found f = row_entry f.page f.opcode f.row
 
--- the operand that it is
+-- the operand as the model has it
 abbrev pub operand_of : Operand → OperandOf
 operand_of o = record { post = o.post; wanted = o.wanted; expression = o.expression.now }
 
--- the instruction that it is
+-- the instruction as the model has it
 abbrev pub shape_as : Shape → ShapeOf
 shape_as s = record { page = s.page; opcode = s.opcode; operand = operand_of s.operand }
 

@@ -11,7 +11,7 @@ pub(crate) struct Parts<'a> {
     pub(crate) rest: &'a [u8],
 }
 
-/// Has the text a comma?
+/// Does the text have a comma?
 pub(crate) fn has_comma(text: &[u8]) -> bool
     ensures { result ≡ list_any is_comma text.now }
 {

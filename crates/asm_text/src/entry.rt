@@ -21,7 +21,7 @@ pub(crate) struct Found {
     pub(crate) row: Row,
 }
 
-/// What the front of an operand marks it as.
+/// The mark at the front of an operand.
 pub(crate) fn mark_of(text: &[u8]) -> Mark
     ensures { result ≡ mark_of_lem text.now }
 {
@@ -41,7 +41,7 @@ pub(crate) fn mark_of(text: &[u8]) -> Mark
     }
 }
 
-// May an operand with this mark be one of the row?
+// May an operand with this mark be of the row?
 fn fits(row: Row, mark: Mark) -> bool
     ensures { result ≡ fits_lem row mark }
 {

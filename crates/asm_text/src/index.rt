@@ -47,7 +47,7 @@ fn indirect_bit(indirect: bool) -> u8
     if indirect { 16 } else { 0 }
 }
 
-// The size of an offset whose expression is one number, if it is.
+// The size of an offset, by its value if its expression is one number.
 fn size_of_value(indirect: bool, value: Option<i32>) -> Size
     ensures { result ≡ size_of_value_lem indirect value }
 {
@@ -65,7 +65,7 @@ fn size_of_value(indirect: bool, value: Option<i32>) -> Size
     }
 }
 
-// An offset, taken apart into its mark and its expression.
+// An offset as its mark and its expression.
 #[derive(Clone, Copy, Debug)]
 struct Offset<'a> {
     width: Width,
@@ -157,7 +157,7 @@ fn offset_from<'a>(indirect: bool, offset: Offset<'a>, base: &[u8]) -> Option<Op
     )
 }
 
-// An offset and a base, with a comma between them.
+// An offset and a base, separated by a comma.
 fn offset_among(indirect: bool, text: &[u8]) -> Option<Operand<'_>>
     ensures { option_map operand_of result
         ≡ offset_among_lem indirect (slice_split is_comma text.now) }

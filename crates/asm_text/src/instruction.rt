@@ -51,7 +51,7 @@ fn worded_instr(line: &[u8], at: u16) -> Option<Instr>
     shape_instr(at, &shape)
 }
 
-// The instruction that a line is, if its bytes are from a space to `~`.
+// The instruction of a line, if its bytes are from a space to `~`.
 fn read_line(line: &[u8], at: u16) -> Option<Instr>
     ensures { result ≡ instr_of line.now at }
 {
@@ -62,15 +62,15 @@ fn read_line(line: &[u8], at: u16) -> Option<Instr>
     }
 }
 
-/// The instruction that a line is at an offset in its module or area, with numbers alone in its
-/// expression: a word of the programming manual's appendix A in any case of letters, spaces and an
-/// operand, and after a space a comment.
+/// The instruction of a line at an offset in its module or area, with numbers alone in its
+/// expression: a word of the programming manual's appendix A in any case of letters, spaces, an
+/// operand, and optionally a space and a comment.
 ///
 /// None if the line is not an instruction, if a value is out of its range, or if a byte is not from
 /// a space to `~`.
 pub fn read_instr(line: &[u8], at: u16) -> Option<Instr>
     ensures value { result ≡ instr_of line.now at }
-    // What is printed of an instruction is read as it again.
+    // The printed text of an instruction is read as that instruction.
     ensures read_again { (i : InstrOf) → IsPlain i → HasBytes i → line.now ≡ printed i at
         → result ≡ Some i }
     ensures plain { IfSome result IsPlain }

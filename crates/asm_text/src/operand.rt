@@ -15,7 +15,7 @@ pub struct Operand<'a> {
     pub post: Option<u8>,
     /// The bytes that follow the postbyte.
     pub wanted: Wanted,
-    /// The expression whose value they have.
+    /// The expression of their value.
     pub expression: &'a [u8],
 }
 

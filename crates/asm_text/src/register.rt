@@ -26,7 +26,7 @@ pub(crate) fn index_number(name: &[u8]) -> Option<u8>
     }
 }
 
-// The name of the register that a push mask has in place of its stack's own.
+// The name of the register that a push mask has in place of the stack's own.
 fn other_pointer_name(stack: Stack) -> &'static [u8]
     ensures { result.now ≡ register_word (other_pointer stack) }
 {
@@ -61,7 +61,7 @@ fn mask_weight(stack: Stack, name: &[u8]) -> Option<u8>
     }
 }
 
-/// The mask of registers with commas between their names.
+/// The mask of registers whose names are separated by commas.
 pub(crate) fn register_mask(stack: Stack, text: &[u8]) -> Option<u8>
     ensures { result ≡ register_mask_lem stack text.now }
 {
@@ -102,14 +102,14 @@ fn register_code(name: &[u8]) -> Option<u8>
     }
 }
 
-// Is it the code of a register of a word?
+// Is it the code of a register of sixteen bits?
 fn is_word_code(code: u8) -> bool
     ensures { result ≡ is_word_code_lem code }
 {
     code <= 5
 }
 
-// Is it the code of a register of a byte?
+// Is it the code of a register of eight bits?
 fn is_byte_code(code: u8) -> bool
     ensures { result ≡ is_byte_code_lem code }
 {
@@ -124,7 +124,7 @@ fn is_pair(pair: u8) -> bool
         || (is_byte_code(pair / 16) && is_byte_code(pair % 16))
 }
 
-/// The postbyte of a source and a destination of one size, with a comma between their names.
+/// The postbyte of a source and a destination of one size, their names separated by a comma.
 pub(crate) fn register_pair(text: &[u8]) -> Option<u8>
     ensures { result ≡ register_pair_lem text.now }
 {

@@ -19,8 +19,8 @@ pub struct Shape<'a> {
     pub operand: Operand<'a>,
 }
 
-/// The instruction of a word and an operand's text, if they are one: the row of the opcode map
-/// that has the word, in any case of letters, and a mode with such an operand (programming manual,
+/// The instruction of a word and an operand's text, if there is one: the row of the opcode map
+/// with the word, in any case of letters, and a mode with such an operand (programming manual,
 /// appendix A).
 pub fn shape_of<'a>(word: &[u8], text: &'a [u8]) -> Option<Shape<'a>>
     ensures { option_map shape_as result ≡ shape_of_lem word.now text.now }
@@ -34,7 +34,7 @@ pub fn shape_of<'a>(word: &[u8], text: &'a [u8]) -> Option<Shape<'a>>
     })
 }
 
-// The bytes of a field's value.
+// The number of bytes of a field's value.
 fn field_length(field: Field) -> u8
     ensures length { result ≡ field_length_lem field }
     ensures most { result ≤ 2 }
@@ -45,7 +45,7 @@ fn field_length(field: Field) -> u8
     }
 }
 
-// The bytes that follow the opcode and the postbyte.
+// The number of bytes that follow the opcode and the postbyte.
 fn wanted_length(wanted: Wanted) -> u8
     ensures length { result ≡ wanted_length_lem wanted }
     ensures most { result ≤ 2 }
@@ -57,7 +57,7 @@ fn wanted_length(wanted: Wanted) -> u8
     }
 }
 
-// The bytes of a page's prefix.
+// The number of bytes of a page's prefix.
 fn prefix_length(page: Page) -> u8
     ensures length { result ≡ length (prefix page) }
     ensures most { result ≤ 1 }
@@ -68,7 +68,7 @@ fn prefix_length(page: Page) -> u8
     }
 }
 
-// The bytes of a postbyte.
+// The number of bytes of a postbyte.
 fn post_length(post: Option<u8>) -> u8
     ensures length { result ≡ post_length_lem post }
     ensures most { result ≤ 1 }
@@ -79,7 +79,7 @@ fn post_length(post: Option<u8>) -> u8
     }
 }
 
-/// The bytes of an instruction, which are known without the value of its expression: at most 5.
+/// The number of bytes of an instruction, at most 5. It does not depend on the expression's value.
 pub fn shape_length(shape: &Shape<'_>) -> u8
     ensures length { result ≡ shape_length_lem (shape_as shape.now) }
     ensures most { result ≤ 5 }

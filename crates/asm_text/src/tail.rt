@@ -51,12 +51,13 @@ fn signed16(n: u16) -> i128
     }
 }
 
-/// The operand bytes of a value before this next instruction: None if the value is out of the range
-/// of its field (programming manual, "Addressing modes"): a byte from -128 to 255, a word from -32,768 to
-/// 65,535, a direct address from 0 to 255, an offset of a byte and the distance of a short target
-/// from -128 to 127. An offset of a word and the distance of a long target are any modulo 65,536.
+/// The operand bytes of a value before this next instruction: None if the value is out of the
+/// range of its field (programming manual, "Addressing modes"). A byte is from -128 to 255, a word
+/// from -32,768 to 65,535, a direct address from 0 to 255, an offset of a byte and the distance of
+/// a short target from -128 to 127. An offset of a word and the distance of a long target are taken
+/// modulo 65,536, without a range.
 ///
-/// A target's distance counts from the next instruction.
+/// A target's distance is counted from the next instruction.
 pub fn filled(field: Field, next: u128, value: i128) -> Option<Tail>
     ensures { result ≡ filled_lem field next value }
 {
@@ -75,8 +76,8 @@ pub fn filled(field: Field, next: u128, value: i128) -> Option<Tail>
     }
 }
 
-/// The operand bytes before this next instruction, with the values that `meaning` gives to the terms
-/// of the expression: None if the expression has no value, or one out of the range of its field.
+/// The operand bytes before this next instruction, with the values that `meaning` gives to the
+/// terms of the expression: None if the expression has no value, or one out of its field's range.
 pub fn tail_with<M: Meaning>(wanted: Wanted, next: u128, text: &[u8], meaning: &M) -> Option<Tail>
     ensures { result ≡ tail_by (M.meaning meaning.now) wanted next text.now }
 {

@@ -1,5 +1,5 @@
-//! Reads lines and prints instructions whose texts are known from elsewhere, one a line, and prints
-//! the rows that came out otherwise, how many rows there were and how many of them.
+//! Reads lines and prints instructions whose texts are known from elsewhere, one a line. It prints
+//! the rows with another result, the number of rows and the number of those with another result.
 #![tactic(auto)]
 
 mod row;

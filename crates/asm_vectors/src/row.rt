@@ -1,7 +1,7 @@
 use hex::{FromHexError, decode};
 use std::alloc::{AllocError, Global};
 
-/// What a row is about.
+/// The kind of a row.
 #[derive(Clone, Copy, Debug)]
 pub(crate) enum Kind {
     /// A line that is read.

@@ -1,4 +1,4 @@
-//! The whole image.
+//! The complete image.
 
 ghost use Rattle.std.specs.Prelude.{◌≡◌, ◌*◌, IfOk, length};
 ghost use Rattle.rbf_model.specs.Volume.{Vol};
@@ -12,13 +12,13 @@ use os9_base::call::OutOfMemory;
 use os9_base::registers::TimePacket;
 use std::alloc::Global;
 
-/// Makes the image of a disk with a root without files (this project's own): so many sectors, in
-/// clusters of so many. It has LSN 0, the map, the root's descriptor and its one sector, and zeros
-/// behind them.
+/// Makes the image of a disk with a root without files (this project's own), of `sectors` sectors
+/// in clusters of `cluster`. It has LSN 0, the map, the root's descriptor and its one sector, and
+/// zeros after them.
 ///
 /// # Errors
 ///
-/// `OutOfMemory` alone.
+/// Only `OutOfMemory`.
 pub fn format(
     alloc: Global,
     sectors: u32,

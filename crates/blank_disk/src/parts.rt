@@ -16,7 +16,7 @@ use std::alloc::AllocError;
 /// The bytes whose first bits are set: none of them, one, and so on up to all eight.
 const FIRST_BITS: [u8; 9] = [0x00, 0x80, 0xc0, 0xe0, 0xf0, 0xf8, 0xfc, 0xfe, 0xff];
 
-/// How many bytes hold a bit for each cluster.
+/// The number of bytes that hold a bit for each cluster.
 pub fn map_bytes_for(sectors: u32, cluster: u16) -> u16
     requires { IsDiskSize sectors cluster }
     ensures { result ≡ map_bytes_for_lem sectors cluster }
@@ -25,7 +25,7 @@ pub fn map_bytes_for(sectors: u32, cluster: u16) -> u16
     (((sectors + (k - 1)) / k + 7) / 8) as u16
 }
 
-/// Where the root's descriptor stands.
+/// The sector of the root's descriptor.
 pub fn blank_root(sectors: u32, cluster: u16) -> u32
     requires { IsDiskSize sectors cluster }
     ensures { result ≡ blank_root_lem sectors cluster }
@@ -33,7 +33,7 @@ pub fn blank_root(sectors: u32, cluster: u16) -> u32
     1 + (u32::from(map_bytes_for(sectors, cluster)) + 255) / 256
 }
 
-/// How many clusters are in use.
+/// The number of clusters in use.
 pub fn used_clusters(sectors: u32, cluster: u16) -> u32
     requires { IsDiskSize sectors cluster }
     ensures { result ≡ used_clusters_lem sectors cluster }
@@ -42,10 +42,10 @@ pub fn used_clusters(sectors: u32, cluster: u16) -> u32
     (blank_root(sectors, cluster) + 2 + (k - 1)) / k
 }
 
-/// How many bytes of LSN 0 stand behind its date.
+/// The number of bytes of LSN 0 after its date.
 const IDENT_REST: usize = 225;
 
-/// Puts LSN 0 behind the image ("Identification Sector").
+/// Appends LSN 0 to the image ("Identification Sector").
 pub fn push_ident(
     image: &mut Vec<u8>,
     sectors: u32,
@@ -63,7 +63,7 @@ pub fn push_ident(
     Ok(())
 }
 
-/// The first 14 bytes of LSN 0: the sizes, where the root is, the owner and the attributes.
+/// The first 14 bytes of LSN 0: the sizes, the root's sector, the owner and the attributes.
 fn sizes(sectors: u32, cluster: u16) -> [u8; 14]
     requires { IsDiskSize sectors cluster }
     ensures { result ≡ blank_sizes sectors cluster }
@@ -131,8 +131,8 @@ pub fn root_entries(root: u32) -> [u8; 256]
     b
 }
 
-/// Puts an allocation map of `bytes` bytes behind the image (OS-9 Technical Reference, Random Block File
-/// Manager, "Disk Allocation Map"): its first `marked` clusters are in use.
+/// Appends an allocation map of `bytes` bytes to the image (OS-9 Technical Reference, Random Block
+/// File Manager, "Disk Allocation Map"): its first `marked` clusters are in use.
 ///
 /// # Errors
 ///

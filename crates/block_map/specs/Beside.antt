@@ -1,10 +1,10 @@
--- What a write through a view leaves alone.
+-- What a write through a view leaves unchanged.
 use Rattle.std.specs.Prelude.{◌≡◌}
 use Rattle.std.proofs.Common.{◌∙◌, ap, refl}
 use Rattle.block_map.specs.Window.{SameBeyond, SameBeyond-self, SameBeyond-then}
 use Rattle.block_map.specs.declared.view.View.{View}
 
--- the same map over the same pool, whose counts, and bytes that the map does not name, are as before
+-- the same map over the same pool; the counts, and the bytes that the map does not name, are unchanged
 pub record SameBeside (before after : View) : Type 0 where
   pub map : after.map ≡ before.map
   pub pool : after.pool.ghost_name ≡ before.pool.ghost_name

@@ -9,7 +9,7 @@ use Rattle.proc_model.specs.Slots.{Slots, block_at, NamesBlock}
 abbrev pub live_byte : Blocks → ℕ → BlockId → Option ℕ
 live_byte pool at id = if is_live pool id.0 then slice_get (block_bytes pool id.0) at else None
 
--- the byte at an address: that of the block which the address's slot names
+-- the byte at an address: the byte of the block that the address's slot names
 abbrev pub map_cells : Slots BlockId → Blocks → ℕ → Option ℕ
 map_cells slots pool address = option_and_then (live_byte pool (address % 8192)) (block_at slots (address / 8192))
 
@@ -17,11 +17,11 @@ map_cells slots pool address = option_and_then (live_byte pool (address % 8192))
 abbrev pub IsSlotLive : Slots BlockId → Blocks → ℕ → Type 0
 IsSlotLive slots pool slot = IsSomeAnd (block_at slots slot) (λ id. IsLive pool id.0)
 
--- each slot from one to another does
+-- each slot from one to another names a live block
 abbrev pub AllSlotsLive : Slots BlockId → Blocks → ℕ → ℕ → Type 0
 AllSlotsLive slots pool first last = (slot : ℕ) → first ≤ slot → slot ≤ last → IsSlotLive slots pool slot
 
--- the pool is one still, with the counts that it had, and with the bytes of each block that the map does not name
+-- the pool is still a pool, with the same counts, and with the same bytes of each block that the map does not name
 pub record SameBeyond (slots : Slots BlockId) (before after : Blocks) : Type 0 where
   pub shape : IsPool before → IsPool after
   pub counts : after.counts ≡ before.counts

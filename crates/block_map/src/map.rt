@@ -10,13 +10,13 @@ use proc_model::group::{BlockId, Group};
 use std::marker::Model;
 use thiserror::Error;
 
-/// How many slots a map has.
+/// The number of slots of a map.
 pub const SLOTS: usize = 8;
 
-/// Why a map cannot name more.
+/// Why a map cannot name more blocks.
 #[derive(Clone, Copy, Debug, PartialEq, Eq, Error)]
 pub enum MapFault {
-    /// The slots that are wanted are not free.
+    /// The wanted slots are not free.
     #[error("too few free slots")]
     NoSlot,
     /// The pool has too few free blocks.
@@ -25,7 +25,7 @@ pub enum MapFault {
 }
 
 /// What a process sees of the pool: eight places, the low area from slot 0 on, and where groups
-/// begin. No block stands in two places.
+/// begin. No block is in two places.
 #[derive(Drop)]
 pub struct Map {
     places: [Option<BlockId>; SLOTS],
@@ -67,16 +67,16 @@ impl Map {
         self.places[slot as usize]
     }
 
-    /// How many slots the low area has.
+    /// The number of slots of the low area.
     pub fn low(&self) -> u8
         ensures { result ≡ self.now.low }
     {
         self.low
     }
 
-    /// Puts `n` new blocks in the slots that follow the low area, which has them too then.
+    /// Puts `n` new blocks in the slots that follow the low area, which then includes them.
     ///
-    /// `NoSlot` where fewer than `n` slots follow or one of them names a block, else `NoBlock` where
+    /// `NoSlot` if fewer than `n` slots follow or one of them names a block, else `NoBlock` if
     /// fewer than `n` blocks are free. After a refusal nothing has changed.
     pub fn map_low(&mut self, pool: &mut Pool, n: u8) -> Result<(), MapFault>
         requires { NamesLiveBlocks self.old pool.old }
@@ -104,8 +104,8 @@ impl Map {
         Ok(())
     }
 
-    /// Keeps the first `n` slots of the low area, and gives the blocks of its other slots back. A low
-    /// area of no more than `n` slots stays.
+    /// Keeps the first `n` slots of the low area, and gives the blocks of its other slots back. A
+    /// low area of no more than `n` slots is unchanged.
     pub fn cut_low(&mut self, pool: &mut Pool, n: u8)
         requires { NamesLiveBlocks self.old pool.old }
 
@@ -123,10 +123,10 @@ impl Map {
         }
     }
 
-    /// Names the blocks of a group, in order, in the highest run of free slots of its length, and
-    /// answers the first slot of the run.
+    /// Names the blocks of a group, in order, in the highest run of free slots of its length.
+    /// Returns the first slot of the run.
     ///
-    /// `NoSlot` where there is no such run, and nothing has changed then. It is never `NoBlock`.
+    /// `NoSlot` if there is no such run, and nothing has changed then. It never returns `NoBlock`.
     pub fn map_group(&mut self, pool: &mut Pool, g: &Group) -> Result<u8, MapFault>
         requires may { MayMap g.now self.old pool.old }
         requires live { NamesLiveBlocks self.old pool.old }
@@ -172,7 +172,7 @@ impl Map {
         }
     }
 
-    /// Gives back every block that the map names: it names nothing then.
+    /// Gives back every block that the map names. It names nothing then.
     pub fn clear(&mut self, pool: &mut Pool)
         requires { NamesLiveBlocks self.old pool.old }
         ensures empty { self.new ≡ no_slots }
@@ -184,7 +184,7 @@ impl Map {
         *self = Map::empty();
     }
 
-    // Do so many slots from `first` on exist and name nothing?
+    // Do `len` slots from `first` on exist and name nothing?
     fn is_free_run(&self, first: usize, len: usize) -> bool
         requires { first ≤ 8 }
         ensures { IsTrue result ↔ IsFreeRun self.now first len }
@@ -192,8 +192,8 @@ impl Map {
         len <= SLOTS - first && name_nothing(&self.places[first..first + len])
     }
 
-    /// The first slot of the highest run of so many slots that name nothing; None if there is no
-    /// such run.
+    /// The first slot of the highest run of `len` slots that name nothing; None if there is no such
+    /// run.
     pub fn highest_free_run(&self, len: u8) -> Option<u8>
         requires { 1 ≤ len }
         ensures none { IfNone result ((first : ℕ) → IsFreeRun self.now first len → ⊥) }

@@ -7,8 +7,8 @@ use block_pool::pool::{BLOCK_LEN, Pool};
 use os9_base::memory::{Bus, UserMem};
 use proc_model::group::BlockId;
 
-/// The bytes that a process sees: those of the blocks that its map names. A slot counts as named
-/// where its block is live in the pool.
+/// The bytes that a process sees: those of the blocks that its map names. A slot counts as named if
+/// its block is live in the pool.
 #[derive(Drop)]
 pub struct View<'a> {
     pub map: &'a Map,
@@ -158,14 +158,14 @@ impl View<'_> {
     }
 }
 
-// The slot that an address lies in.
+// The slot of an address.
 fn slot_of(at: u16) -> u8
     ensures { result ≡ at / 8192 }
 {
     (at / 8192) as u8
 }
 
-// How many of so many bytes from an address on lie in its slot.
+// How many of `most` bytes from an address on lie in its slot.
 fn piece_len(at: u16, most: usize) -> usize
     ensures slot { at % 8192 + result ≤ 8192 }
     ensures few { result ≤ most }

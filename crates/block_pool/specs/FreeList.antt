@@ -1,8 +1,8 @@
--- The list of free blocks that a pool keeps.
+-- A pool's list of free blocks.
 use Rattle.std.specs.Prelude.{◌≡◌, ◌≢◌, ℕ, ◌<◌, ◌==◌, List, length, count_by, All, AllPairs, slice_index}
 use Rattle.proc_model.specs.declared.group.BlockId.{BlockId}
 
--- a place of the counts that is 0
+-- a place at which the count is 0
 abbrev pub IsUnreferenced : List ℕ → BlockId → Type 0
 IsUnreferenced counts id = (id.0 < length counts) × (slice_index counts id.0 ≡ 0)
 

@@ -7,14 +7,14 @@ use proc_model::group::BlockId;
 use std::alloc::{AllocError, Global};
 use std::marker::Model;
 
-/// How many bytes a block has.
+/// The number of bytes of a block.
 pub const BLOCK_LEN: usize = 8192;
 
 /// A block that has fewer references than this may be shared by a group (this project's own).
 pub const MOST_SHARED: u16 = 65_000;
 
-/// One region of blocks of 8,192 bytes, each with a count of what names it, and a list of those
-/// that nothing names.
+/// One region of blocks of 8,192 bytes, each with a count of its references, and a list of the
+/// blocks that nothing names.
 #[derive(Drop)]
 pub struct Pool {
     counts: Vec<u16>,
@@ -84,7 +84,7 @@ impl Pool {
         self.counts[id.0 as usize] += 1;
     }
 
-    /// Names a block once less. One that nothing names any more is free.
+    /// Names a block once less. A block that nothing names any more is free.
     pub fn give(&mut self, id: BlockId)
         requires { IsLive self.old id.0 }
         ensures one_count { self.new ≡ pool_after_give self.old id.0 }
@@ -97,7 +97,7 @@ impl Pool {
         }
     }
 
-    /// How often a block is named.
+    /// The number of references to a block.
     pub fn count(&self, id: BlockId) -> u16
         requires { id.0 < length self.now.counts }
         ensures count { result ≡ reference_count self.now id.0 }
@@ -116,7 +116,7 @@ impl Pool {
             .is_some_and(|count| *count > 0)
     }
 
-    /// How many blocks nothing names.
+    /// The number of blocks that nothing names.
     pub fn free_blocks(&self) -> u16
         ensures count { result ≡ free_block_count self.now }
         ensures shape { IsPool self.now }
@@ -148,7 +148,7 @@ impl Pool {
     }
 }
 
-// The numbers of so many blocks, in a list that has room for no more.
+// The numbers of `blocks` blocks, in a list without room for more.
 fn all_blocks(alloc: Global, blocks: u16) -> Result<Vec<BlockId>, AllocError>
     ensures listed { IfOk result (λ free. IsFreeList (replicate blocks 0) free.items) }
     ensures room { IfOk result (λ free. blocks ≤ vec_capacity free) }

@@ -1,7 +1,6 @@
--- An RBF disk with one file, from which a machine boots (OS-9 Technical Reference, Random Block File Manager; that it
--- has 4,096 sectors, and where each part stands, is this project's own): LSN 0, the allocation map in sectors 1 and 2,
--- the root's descriptor in sector 3 and its entries in sector 4, the file's descriptor in sector 5, and the file from
--- sector 6 on.
+-- An RBF disk with one file, from which a machine boots (OS-9 Technical Reference, Random Block File Manager; its 4,096
+-- sectors and the place of each part are this project's own): LSN 0, the allocation map in sectors 1 and 2, the root's
+-- descriptor in sector 3 and its entries in sector 4, the file's descriptor in sector 5, and the file from sector 6 on.
 use Rattle.std.specs.Prelude.{◌≡◌, ℕ, ◌+◌, ◌-◌, ◌*◌, ◌/◌, ◌%◌, ◌≤◌, ◌==◌, false, Option, Some, None, List, [], ◌∷◌, ◌++◌, codes, length, take, drop, replicate, if◌then◌else◌}
 use Rattle.rbf_model.specs.Fields.{boot_field, boot_size_field}
 use Rattle.rbf_model.specs.File.{DiskFile}
@@ -13,15 +12,15 @@ use Rattle.blank_disk.specs.Image.{marks_map}
 
 -- ---- the parts
 
--- a sector that begins with these bytes, with zeros behind them
+-- a sector that begins with these bytes, with zeros after them
 unfoldable pub sector_with : List ℕ → List ℕ
 sector_with bytes = bytes ++ replicate (256 - length bytes) 0
 
--- how many sectors a file of this size fills
+-- the number of sectors that a file of this size fills
 abbrev pub sectors_for : ℕ → ℕ
 sectors_for size = (size + 255) / 256
 
--- how many sectors of the disk are in use: six, and those of the file
+-- the number of used sectors of the disk: six, and those of the file
 abbrev pub used_sectors : ℕ → ℕ
 used_sectors size = 6 + sectors_for size
 
@@ -36,11 +35,11 @@ abbrev pub root_front : List ℕ
 root_front =
     191 ∷ 0 ∷ 0 ∷ 0 ∷ 0 ∷ 0 ∷ 0 ∷ 0 ∷ 1 ∷ 0 ∷ 0 ∷ 0 ∷ 96 ∷ 0 ∷ 0 ∷ 0 ∷ 0 ∷ 0 ∷ 4 ∷ 0 ∷ 1 ∷ []
 
--- an entry: a name of up to 29 bytes, with zeros behind it, and the number of a descriptor below 256
+-- an entry: a name of up to 29 bytes, with zeros after it, and the number of a descriptor below 256
 abbrev pub entry_with : List ℕ → ℕ → List ℕ
 entry_with name number = name ++ replicate (29 - length name) 0 ++ 0 ∷ 0 ∷ number ∷ []
 
--- the root's entries: `..` and `.`, which are the root, and `OS9Boot`
+-- the root's entries: `..` and `.`, which name the root, and `OS9Boot`
 unfoldable pub root_entries : List ℕ
 root_entries =
     entry_with (marked_name dot_dot) 3 ++ entry_with (marked_name dot) 3 ++ entry_with (marked_name (codes "OS9Boot")) 5
@@ -63,7 +62,7 @@ boot_image file = used_part file ++ replicate (256 * 4096 - length (used_part fi
 
 -- ---- what it represents
 
--- the dates of files that were never dated
+-- the dates of undated files
 abbrev pub no_date : List ℕ
 no_date = 0 ∷ 0 ∷ 0 ∷ 0 ∷ 0 ∷ []
 
@@ -94,11 +93,11 @@ boot_entry file = record {
   contents = file;
 }
 
--- the root and the file are all that there is
+-- there are only the root and the file
 abbrev pub boot_files : List ℕ → ℕ → Option DiskFile
 boot_files file n = if n == 3 then Some root_directory else (if n == 5 then Some (boot_entry file) else None)
 
--- the volume: no cluster is lost, and nothing is behind its end
+-- the volume: no cluster is lost, and no bytes are after its end
 abbrev pub boot_volume : List ℕ → DiskVolume
 boot_volume file = record {
   ident = sector_with (ident_front (length file));
@@ -107,7 +106,7 @@ boot_volume file = record {
   rest = [];
 }
 
--- LSN 0 of an image of 4,096 sectors names this boot file, which lies within it
+-- LSN 0 of an image of 4,096 sectors names this boot file, which is within the image
 pub record BootsFile (image file : List ℕ) : Type 0 where
   pub long : length image ≡ 256 * 4096
   pub place : boot_field (sector image 0) ≡ 6

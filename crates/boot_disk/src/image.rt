@@ -9,13 +9,13 @@ use blank_disk::push_map;
 use os9_base::call::OutOfMemory;
 use std::alloc::{AllocError, Global};
 
-/// How many sectors the disk has.
+/// The number of sectors of the disk.
 const SECTORS: usize = 4_096;
 
-/// How many sectors stand before the file.
+/// The number of sectors before the file.
 const SYSTEM_SECTORS: u32 = 6;
 
-/// How many bytes the allocation map has.
+/// The number of bytes of the allocation map.
 const MAP_BYTES: u32 = 512;
 
 /// Makes the image of a disk with one file, `OS9Boot`, from which a machine boots (OS-9 Technical
@@ -25,7 +25,7 @@ const MAP_BYTES: u32 = 512;
 ///
 /// # Errors
 ///
-/// `OutOfMemory` alone.
+/// Only `OutOfMemory`.
 pub fn boot_image(alloc: Global, file: &[u8]) -> Result<Vec<u8>, OutOfMemory>
     requires some { 0 < length file.now }
     requires short { length file.now ≤ MOST_GROUP_BYTES }
@@ -62,7 +62,7 @@ fn used_part(alloc: Global, file: &[u8]) -> Result<Vec<u8>, AllocError>
     Ok(part)
 }
 
-/// How many sectors a file of this size fills.
+/// The number of sectors that a file of this size fills.
 fn sectors_for(size: u16) -> u8
     requires { size ≤ MOST_GROUP_BYTES }
     ensures { result ≡ sectors_for_lem size }
@@ -83,7 +83,7 @@ fn ident(size: u16) -> [u8; 26]
         0x00, 0x00, 0x03, // DD.DIR: the root's descriptor
         0x00, 0x00, 0x00, 0x00, 0x00, // DD.OWN, DD.ATT, DD.DSK
         0x00, 0x00, 0x00, 0x00, 0x00, // DD.FMT, DD.SPT, DD.RES
-        0x00, 0x00, 0x06, // DD.BT: where the bootstrap file begins
+        0x00, 0x00, 0x06, // DD.BT: the first sector of the bootstrap file
         high, low, // DD.BSZ: its size
     ]
 }

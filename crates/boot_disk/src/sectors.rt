@@ -3,10 +3,10 @@ ghost use Rattle.boot_disk.specs.BootDisk.{sector_with};
 
 use std::alloc::AllocError;
 
-/// How many bytes a sector has (OS-9 Technical Reference, Random Block File Manager).
+/// The number of bytes of a sector (OS-9 Technical Reference, Random Block File Manager).
 pub const SECTOR_BYTES: usize = 256;
 
-/// Puts a sector that begins with these bytes behind the image.
+/// Appends to the image a sector that begins with these bytes.
 pub fn push_sector(image: &mut Vec<u8>, front: &[u8]) -> Result<(), AllocError>
     requires { length front.now ≤ 256 }
     ensures { IfOk result (λ _. image.new.items ≡ image.old.items ++ sector_with front.now) }
@@ -15,7 +15,7 @@ pub fn push_sector(image: &mut Vec<u8>, front: &[u8]) -> Result<(), AllocError>
     push_zeros(image, SECTOR_BYTES - front.len())
 }
 
-/// Puts so many zeros behind the image.
+/// Appends `count` zeros to the image.
 pub fn push_zeros(image: &mut Vec<u8>, count: usize) -> Result<(), AllocError>
     ensures { IfOk result (λ _. image.new.items ≡ image.old.items ++ replicate count 0) }
 {

@@ -13,7 +13,7 @@ use Rattle.boot_images.specs.declared.boot_file.BootFileFault.TheVariants.{Bound
 abbrev pub IsVolume : List ℕ → Type 0
 IsVolume image = (v : DiskVolume) × Vol image v
 
--- of these images the one of this number is the first that represents none, and this is its fault
+-- the image of this number is the first of these images that does not represent a volume, and this is its fault
 pub record IsFirstFault (images : List (List ℕ)) (number : ℕ) (fault : CheckFault) : Type 0 where
   pub image : List ℕ
   pub is : slice_get images number ≡ Some image
@@ -39,7 +39,7 @@ pub record IsBootFile (images : List (List ℕ)) (file : List ℕ) : Type 0 wher
   pub has : HasBootFile image
   pub is : file ≡ boot_file_of image
 
--- the first image has none; or memory was out
+-- the first image has no boot file; or memory was out
 abbrev pub LacksBootFile : List (List ℕ) → BootFileFault → Type 0
 LacksBootFile images Bounds = (image : List ℕ) × (slice_get images 0 ≡ Some image) × ¬ HasBootFile image
 LacksBootFile images OutOfMemory = ⊤

@@ -1,4 +1,4 @@
--- Drives that are given an image, or give theirs up.
+-- Drives that receive an image, or give theirs up.
 use Rattle.std.specs.Prelude.{◌≡◌, ℕ, IfSome, List}
 use Rattle.file_drives.specs.Drives.{DriveView}
 use Rattle.boot_images.specs.Drives.{with_media, without_media}

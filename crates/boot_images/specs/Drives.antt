@@ -6,7 +6,7 @@ use Rattle.file_drives.specs.Drives.{DriveView, media_at}
 abbrev pub IsEmpty : DriveView → Type 0
 IsEmpty drive = drive.media ≡ None
 
--- there are at most four drives, at least so many as images, and no image is in them
+-- there are at most four drives, at least one for each image, and no image is in them
 pub record HaveRoom (images : ℕ) (drives : List DriveView) : Type 0 where
   pub enough : images ≤ length drives
   pub few : length drives ≤ 4
@@ -19,13 +19,13 @@ with_media image drive = record drive { media = Some image }
 abbrev pub without_media : DriveView → DriveView
 without_media drive = record drive { media = None }
 
--- the drives with these images in them, the first in D0; a drive for which there is none stays as it is
+-- the drives with these images in them, the first in D0; a drive for which there is none is unchanged
 abbrev pub holding : List (List ℕ) → List DriveView → List DriveView
 holding [] drives = drives
 holding (image ∷ images) [] = []
 holding (image ∷ images) (drive ∷ drives) = with_media image drive ∷ holding images drives
 
--- the images were taken out of all drives; those of the first drives are these, as they were there
+-- the images were taken out of all drives; these are the unchanged images of the first drives
 pub record TakesImages (images : List (List ℕ)) (before after : List DriveView) : Type 0 where
   pub each : (n : ℕ) (image media : List ℕ) → slice_get images n ≡ Some image → media_at before n ≡ Some media
       → image ≡ media

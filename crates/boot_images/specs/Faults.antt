@@ -10,7 +10,7 @@ abbrev pub BreaksImage : ℕ → List ℕ → ImagesFault → Type 0
 BreaksImage number image (Image place fault) = (place ≡ number) × IsFault image fault.rule fault.lsn
 BreaksImage number image OutOfMemory = ⊤
 
--- the first of these that represents no volume has this fault; or memory was out
+-- the first of these that does not represent a volume has this fault; or memory was out
 abbrev pub BreaksImages : List (List ℕ) → ImagesFault → Type 0
 BreaksImages images (Image number fault) = IsFirstFault images number fault
 BreaksImages images OutOfMemory = ⊤

@@ -1,4 +1,4 @@
--- What is left when images were written under their names.
+-- What is left after images were written under their names.
 use Rattle.std.specs.Prelude.{◌≡◌, ℕ, suc, Some, Result, Ok, Err, List, take, slice_get, OnOk, IfErr}
 use Rattle.os9_outer.specs.Host.{IfObserved}
 use Rattle.os9_words.specs.Notes.{HasWritten, Notes}
@@ -12,14 +12,14 @@ abbrev pub FailsAt : ℕ → List (List ℕ) → World → World → Type 0
 FailsAt number names before after =
     (name : List ℕ) × (slice_get names number ≡ Some name) × FailsToWriteFile name before after
 
--- the images were written up to one that was not: the host failed there, or memory was out
+-- the images were written up to one that failed: the host failed there, or memory was out
 abbrev pub StopsWrite : List (List ℕ) → List (List ℕ) → World → World → WriteFault → Type 0
 StopsWrite names images before after (Image number) =
     IfObserved (WritesUpTo number names images) before.files after.files × FailsAt number names before after
 StopsWrite names images before after OutOfMemory =
     ((number : ℕ) × IfObserved (WritesUpTo number names images) before.files after.files) × HasNoFault before after
 
--- all images were written, or those up to one; the output and the devices stay
+-- all images were written, or those up to one; the output and the devices are unchanged
 pub record WritesImages {Value : Type 0} (names images : List (List ℕ)) (answer : Result Value WriteFault)
     (before after : World) : Type 0 where
   pub written : OnOk answer (IfObserved (WritesAll names images) before.files after.files)
@@ -28,8 +28,8 @@ pub record WritesImages {Value : Type 0} (names images : List (List ℕ)) (answe
   pub out_kept : after.out ≡ before.out
   pub devices_kept : after.devices ≡ before.devices
 
--- the files that were written, by their names: each once, in order; those up to the one that was not, or the first ones
--- if memory was out
+-- the written files, by their names: each once, in order; those up to the one that failed, or the first ones if memory
+-- was out
 abbrev pub NotesWrites : {Value : Type 0} → List (List ℕ) → Result Value WriteFault → Notes → Notes → Type 0
 NotesWrites names (Ok _) before after = HasWritten names before after
 NotesWrites names (Err (Image number)) before after = HasWritten (take (suc number) names) before after

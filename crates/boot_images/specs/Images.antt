@@ -1,8 +1,8 @@
--- What the files hold when images were written under their names.
+-- The contents of the files after images were written under their names.
 use Rattle.std.specs.Prelude.{◌≡◌, ◌≢◌, ℕ, Some, List, [], ◌∷◌, map, take, slice_get, bytes_eq, if◌then◌else◌}
 use Rattle.os9_outer.specs.Host.{Files, file_contents, KeepsOrHoldsPrefix}
 
--- the images in the files of these names, each a volume of its own, also where a name stands twice
+-- the images in the files of these names, each a volume of its own, even if a name occurs twice
 abbrev pub images_of : Files → List (List ℕ) → List (List ℕ)
 images_of files names = map (file_contents files) names
 
@@ -10,7 +10,7 @@ images_of files names = map (file_contents files) names
 abbrev pub with_file : Files → List ℕ → List ℕ → Files
 with_file files name bytes other = if bytes_eq other name then Some bytes else files other
 
--- the files where these images were written under these names, in order: of two under one name the later stands
+-- the files after these images were written under these names, in order: of two under one name the later one remains
 abbrev pub with_images : Files → List (List ℕ) → List (List ℕ) → Files
 with_images files [] images = files
 with_images files (name ∷ names) [] = files
@@ -20,7 +20,7 @@ with_images files (name ∷ names) (image ∷ images) = with_images (with_file f
 abbrev pub WritesAll : List (List ℕ) → List (List ℕ) → Files → Files → Type 0
 WritesAll names images before now = (name : List ℕ) → now name ≡ with_images before names images name
 
--- the images before that of this number were written, and in the file of this one may be the beginning of it
+-- the images before that of this number were written, and the file of this one may hold the beginning of it
 pub record WritesUpTo (number : ℕ) (names images : List (List ℕ)) (before now : Files) : Type 0 where
   pub name : List ℕ
   pub image : List ℕ

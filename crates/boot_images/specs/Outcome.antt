@@ -19,8 +19,8 @@ use Rattle.boot_images.specs.Drives.{holding}
 use Rattle.boot_images.specs.Ready.{AreEmptyAgain}
 use Rattle.boot_images.specs.declared.machine.Start.{Start}
 
--- an image holds the volume of a drive: it is as long as the one that was put in, with its first sector and the bytes
--- behind its volume
+-- an image holds the volume of a drive: it has the length of the one that was put in, its first sector and the bytes
+-- after its volume
 pub record IsImageOf (t : State) (drive : ℕ) (old new : List ℕ) : Type 0 where
   pub volume : DiskVolume
   pub is : volume_at t.files drive ≡ Some volume
@@ -32,15 +32,14 @@ pub record AreImagesOf (t : State) (old new : List (List ℕ)) : Type 0 where
   pub each : (drive : ℕ) (before after : List ℕ) → slice_get old drive ≡ Some before
       → slice_get new drive ≡ Some after → IsImageOf t drive before after
 
--- an image is as it was, byte for byte, if no event of a run asks for a change of the volume in its drive
+-- an image is unchanged, byte for byte, if no event of a run asks for a change of the volume in its drive
 abbrev pub KeepsUnchanged : Setup → State → List State → List (List ℕ) → Type 0
 KeepsUnchanged setup s states images =
     (drive : ℕ) → NoneAsks (ComesInto setup.slices s) states drive
     → slice_get images drive ≡ slice_get setup.images drive
 
--- The machine that is set up so ran over all its slices: from the state in which it starts, with the devices of the
--- call, through the states of a run to this one. Its terminals and the states of its drives are those that are there
--- now.
+-- The machine of this setup ran over all its slices: from the state in which it starts, with the devices of the call,
+-- through the states of a run to this one. Its terminals and the states of its drives are the current ones.
 pub record HasOutcome (setup : Setup) (t : State) (written : List ℕ) (images : List (List ℕ)) (before after : World)
     : Type 0 where
   pub s : State
@@ -52,7 +51,7 @@ pub record HasOutcome (setup : Setup) (t : State) (written : List ℕ) (images :
   pub volumes : AreImagesOf t setup.images images
   pub unchanged : KeepsUnchanged setup s states images
 
--- it ran to its end: a process lives then or none does, so many slices were begun, each of which is a tick, and the
+-- it ran to its end: a process lives then or none does, `begun` slices were begun, each of which is a tick, and the
 -- output has gained what it wrote
 pub record EndsWithImages (setup : Setup) (lives : Bool) (begun : ℕ) (images : List (List ℕ)) (before after : World)
     : Type 0 where
@@ -63,19 +62,19 @@ pub record EndsWithImages (setup : Setup) (lives : Bool) (begun : ℕ) (images :
   pub ticks : begun ≡ t.inner.tick
   pub output : after.out ≡ stream_with before.out written
 
--- as the world was with these images in its first drives, before they were taken out
+-- the world with these images in its first drives, before they were taken out
 abbrev pub with_images_in : List (List ℕ) → World → World
 with_images_in images world = record world {
   devices = record { drives = holding images world.devices.drives; terms = world.devices.terms };
 }
 
--- it was run over the first of its slices, and these images were in its drives then, which hold the volumes of the
--- state in which it stopped
+-- it was run over the first of its slices, with these images in its drives then, which hold the volumes of the state in
+-- which it stopped
 pub record StopsWithImages (setup : Setup) (before after : World) : Type 0 where
   pub images : List (List ℕ)
   pub first : RunsFirst setup before (with_images_in images after)
 
--- what comes of it, by how its run ended; if it stopped before its end, the images hold the volumes of the state then
+-- its outcome, by how its run ended; if it stopped before its end, the images hold the volumes of the state then
 abbrev pub RunGives : Setup → List (List ℕ) → World → World → RunEnd → Type 0
 RunGives setup images before after (Ended begun) = EndsWithImages setup false begun images before after
 RunGives setup images before after (Living begun) = EndsWithImages setup true begun images before after
@@ -95,7 +94,7 @@ pub record RunsImages (setup : Setup) (images : List (List ℕ)) (before after :
   pub no_fault : end ≢ OutputFailed → HasNoFault before after
   pub files_kept : after.files ≡ before.files
 
--- what a machine is set up with, with these images
+-- the setup of a machine with these images
 abbrev pub setup_of : Start → List (List ℕ) → Setup
 setup_of start images = record {
   file = start.file.items;

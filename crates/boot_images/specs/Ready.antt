@@ -1,4 +1,4 @@
--- What a machine needs that is to run with images (this project's own).
+-- What a machine needs to run with images (this project's own).
 use Rattle.std.specs.Prelude.{◌≡◌, ℕ, ◌≤◌, ◌<◌, true, List, length, All}
 use Rattle.os9_base.specs.declared.limits.TheConstants.{LAST_TICK}
 use Rattle.civil_time.specs.CivilTime.{is_time_packet}
@@ -8,19 +8,19 @@ use Rattle.file_drives.specs.Drives.{DriveView}
 use Rattle.boot_images.specs.Drives.{HaveRoom, IsEmpty}
 use Rattle.boot_images.specs.declared.machine.Start.{Start}
 
--- there are as many blocks as a machine may have, a date and time, and fewer slices than ticks are counted
+-- there is a valid number of blocks, a date and time, and fewer slices than ticks are counted
 pub record CanStart (start : Start) : Type 0 where
   pub least : 8 ≤ start.blocks
   pub most : start.blocks ≤ 256
   pub time : is_time_packet start.time ≡ true
   pub few : length start.slices.items < LAST_TICK
 
--- one to four terminals without keys; at most four drives, at least so many, and none with an image
+-- one to four terminals without keys; at most four drives, at least this number, and none with an image
 pub record AreFree (drives : ℕ) (devices : Outside) : Type 0 where
   pub terminals : AreUnloaded devices.terms
   pub room : HaveRoom drives devices.drives
 
--- there are as many drives, and no image is in one
+-- the number of drives is the same, and none has an image
 pub record AreEmptyAgain (before after : List DriveView) : Type 0 where
   pub as_many : length after ≡ length before
   pub empty : All IsEmpty after

@@ -26,7 +26,7 @@ pub enum ImagesFault {
 /// Why an image has no boot file that could be run.
 #[derive(Clone, Copy, Debug, PartialEq, Eq, Error)]
 pub enum BootFileFault {
-    /// Sector 0 names none, or one that does not lie within the volume.
+    /// Sector 0 does not name one, or names one that does not lie within the volume.
     #[error("bounds")]
     Bounds,
     /// Out of memory.
@@ -62,12 +62,12 @@ fn check_image(alloc: Global, number: u8, image: &[u8]) -> Result<(), ImagesFaul
 }
 
 /// The bytes of the boot file of the first image, which is well formed (OS-9 Technical Reference,
-/// Random Block File Manager, "Identification Sector": DD.BT, its first sector, and DD.BSZ, its size
-/// in bytes).
+/// Random Block File Manager, "Identification Sector": DD.BT, its first sector, and DD.BSZ, its
+/// size in bytes).
 ///
 /// # Errors
 ///
-/// `Bounds` exactly where DD.BT or DD.BSZ is 0, or its last byte lies behind the volume.
+/// `Bounds` exactly if DD.BT or DD.BSZ is 0, or its last byte lies after the volume.
 pub fn boot_file(alloc: Global, images: &Images) -> Result<Vec<u8>, BootFileFault>
     requires some { 1 ≤ length images.now }
     requires volumes { All IsVolume images.now }

@@ -21,7 +21,7 @@ fn insert_image(drive: &mut dyn BlockDriver, image: Vec<u8>)
     let _ = drive.insert(image);
 }
 
-/// [`insert_image`] of the drive in a box.
+/// [`insert_image`] for the drive in a box.
 fn insert_in_box(drive: &mut Box<dyn BlockDriver>, image: Vec<u8>)
     requires { media drive.old ≡ None }
     ensures media { media drive.new ≡ Some image.items }
@@ -47,7 +47,7 @@ fn insert_on(devices: &mut Devices, number: u8, image: Vec<u8>)
     insert_in_box(&mut devices.drives[usize::from(number)], image);
 }
 
-/// `BlockDriver::eject` of a drive with an image. No bytes come out of one without.
+/// `BlockDriver::eject` of a drive with an image. A drive without one returns no bytes.
 fn eject_image(alloc: Global, drive: &mut dyn BlockDriver) -> Vec<u8>
     ensures handed_over { IfSome (media drive.old) (λ image. result.items ≡ image) }
     ensures none_left { media drive.new ≡ None }
@@ -61,7 +61,7 @@ fn eject_image(alloc: Global, drive: &mut dyn BlockDriver) -> Vec<u8>
     }
 }
 
-/// [`eject_image`] of the drive in a box.
+/// [`eject_image`] for the drive in a box.
 fn eject_from_box(alloc: Global, drive: &mut Box<dyn BlockDriver>) -> Vec<u8>
     ensures handed_over { IfSome (media drive.old) (λ image. result.items ≡ image) }
     ensures none_left { media drive.new ≡ None }
@@ -110,8 +110,8 @@ fn put_back(images: &mut Images, number: usize, image: Vec<u8>)
     }
 }
 
-/// Takes the images out of all drives. Those of the first drives get the places of the images, that
-/// of D0 the first.
+/// Takes the images out of all drives. Those of the first drives get the places of the images,
+/// starting with D0.
 pub fn eject_images(alloc: Global, images: &mut Images, devices: &mut Devices)
     requires { length images.old ≤ vec_len devices.old.drives }
     ensures taken { TakesImages images.new

@@ -5,7 +5,7 @@ use std::alloc::{AllocError, Global};
 use std::marker::Model;
 use std::mem;
 
-/// The images of a boot, one to four or fewer while they are read. A clause sees the list of their
+/// The images of a boot: one to four, or fewer while they are read. A clause sees the list of their
 /// bytes.
 #[derive(Drop)]
 pub struct Images {
@@ -33,7 +33,7 @@ impl Images {
         }
     }
 
-    /// How many there are.
+    /// The number of images.
     pub fn len(&self) -> u8
         ensures { result ≡ length self.now }
     {
@@ -48,11 +48,11 @@ impl Images {
         self.images[usize::from(number)].as_slice()
     }
 
-    /// Puts an image behind the others.
+    /// Appends an image.
     ///
     /// # Errors
     ///
-    /// Out of memory. The images are as they were then.
+    /// Out of memory. The images are then unchanged.
     pub fn push(&mut self, image: Vec<u8>) -> Result<(), AllocError>
         requires { length self.old < most_images }
         ensures pushed { IfOk result (λ _. self.new ≡ self.old ++ image.items ∷ []) }
@@ -62,7 +62,7 @@ impl Images {
         Ok(())
     }
 
-    /// Hands out the image of this number, in whose place another stands from now on.
+    /// Returns the image of this number, and puts another in its place.
     pub fn replace(&mut self, number: u8, image: Vec<u8>) -> Vec<u8>
         requires { number < length self.old }
         ensures handed_out { slice_get self.old number ≡ Some result.items }

@@ -20,10 +20,10 @@ use os9_outer::terminal::CharDriver;
 use script_text::script::ScriptKey;
 use std::alloc::Global;
 
-/// What a machine is started with beside its images, and what drives its run.
+/// What a machine is started with in addition to its images, and what drives its run.
 #[derive(Drop)]
 pub struct Start {
-    /// How many blocks of 8,192 bytes its memory has, from 8 to 256.
+    /// The number of blocks of 8,192 bytes of its memory, from 8 to 256.
     pub blocks: u16,
     /// The date and time at its start.
     pub time: TimePacket,
@@ -35,8 +35,8 @@ pub struct Start {
     pub slices: Vec<u32>,
 }
 
-/// Puts the images into the drives, the first into D0, starts a machine and runs it over its slices,
-/// and takes the images out again, as the drives hold them then.
+/// Puts the images into the drives, the first into D0, starts a machine and runs it over its
+/// slices, and takes the images out again, as the drives then hold them.
 pub fn run_images<H: Host>(
     alloc: Global,
     start: &Start,

@@ -14,8 +14,8 @@ use thiserror::Error;
 /// Why images were not written.
 #[derive(Clone, Copy, Debug, PartialEq, Eq, Error)]
 pub enum WriteFault {
-    /// The image of this place, from 0, could not be written. Of its bytes the first ones may be in
-    /// its file.
+    /// The image of this place, from 0, could not be written. Its file may hold a first part of its
+    /// bytes.
     #[error("image {0}")]
     Image(u8),
     /// Out of memory.

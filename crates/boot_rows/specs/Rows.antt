@@ -31,7 +31,7 @@ use Rattle.machine_model.specs.State.{State, Rest, rest_of, with_rest}
 
 -- ---- events that touch no terminal and no drive
 
--- what an attempt of a call on processes and modules or on the time comes to, where the clock shows this time
+-- the result of an attempt of a call on processes and modules or on the time, if the clock shows this time
 abbrev pub served : Service → State → TimePacket → ℕ → CallResult
 served loads s now p = refused E_UNKSVC
 served (on_processes call) s now p = attempted call s.inner p
@@ -47,7 +47,7 @@ rest_after (on_time call) s now p = record (rest_of s) { clock = clock_after s.c
 rest_after (on_paths call) s now p = rest_of s
 rest_after no_call s now p = rest_of s
 
--- the state after a process does this, where the clock shows this time
+-- the state after a process does this, if the clock shows this time
 abbrev pub after_act : TimePacket → Act → State → ℕ → State
 after_act now executes s p =
     record s {
@@ -70,7 +70,7 @@ next_of s = option_map (act_of s.inner) s.chosen
 abbrev pub after_event : TimePacket → State → State
 after_event now s = option_map_or (λ p. after_act now (act_of s.inner p) s p) s.chosen s
 
--- the state after so many events, the states after each of them, and what the chosen process does in them
+-- the state after a number of events, the states after each of them, and what the chosen process does in them
 abbrev pub after_events : TimePacket → ℕ → State → State
 after_events now zero s = s
 after_events now (suc n) s = after_events now n (after_event now s)
@@ -92,11 +92,11 @@ at_choice s = record s {
   chosen = option_map (λ (p : Pid). p.0) (choice_of (io_may_go s.files.io) (next_tick s.inner)).chosen;
 }
 
--- the state after a slice of so many events, at whose tick the clock shows this time
+-- the state after a slice of this number of events, at whose tick the clock shows this time
 abbrev pub after_slice : TimePacket → ℕ → State → State
 after_slice now events s = after_events now events (at_choice s)
 
--- a slice of so many instructions, at whose tick the clock shows this time: this process is chosen, and does this
+-- a slice of n instructions, at whose tick the clock shows this time: this process is chosen, and does this
 pub record SliceDoes (now : TimePacket) (n : ℕ) (s : State) (who : ℕ) (acts : List Act) : Type 0 where
   pub shows : IsNow s.clock (at_choice s).inner.tick now
   pub slice : Slice n s (states_from now (length acts) (at_choice s)) Ran (after_slice now (length acts) s)
@@ -138,12 +138,12 @@ falls_asleep = before_slice (alone (0x10 ∷ 0x3F ∷ F_SLEEP ∷ 0x12 ∷ []) z
 abbrev pub idles : Inner
 idles = alone (replicate 64 0x12) (record zero_regs { s = 0x30 })
 
--- the same, where process 2 has an intercept at 8, and signal 7 is pending
+-- the same, with an intercept of process 2 at 8, and signal 7 pending
 abbrev pub signalled : Inner
 signalled =
     with_records idles (with_signal (with_intercept idles.records 2 (intercept_of 8 0)) 2 (Some 7))
 
--- the same, where the process has just executed F$ID
+-- the same, just after the process has executed F$ID
 abbrev pub signalled_in_call : State
 signalled_in_call = before_slice (with_own signalled 2 (record no_own { call = Some F_ID }))
 
@@ -155,7 +155,7 @@ two_running = before_slice (two_processes (replicate 64 0x12) zero_regs zero_reg
 abbrev pub loads_unnamed : State
 loads_unnamed = before_slice (alone (0xB6 ∷ 0x40 ∷ 0 ∷ []) zero_regs)
 
--- F$Time for a packet at 20, with carry set, and nothing but NOP; so many ticks have passed
+-- F$Time for a packet at 20, with carry set, and nothing but NOP; a number of ticks have passed
 abbrev pub asks_for_time : ℕ → State
 asks_for_time tick =
     before_slice (record (alone (0x10 ∷ 0x3F ∷ F_TIME ∷ replicate 61 0x12) (record zero_regs { cc = 1; x = 0x20 })) {
@@ -166,7 +166,7 @@ asks_for_time tick =
 abbrev pub told : State
 told = after_slice (at 90 1 1 0 0 2) 3 (asks_for_time 119)
 
--- F$STime of this packet, which stands at 4 behind a NOP; ten ticks have passed
+-- F$STime of this packet, which is at 4 after a NOP; ten ticks have passed
 abbrev pub sets_time : TimePacket → State
 sets_time packet =
     before_slice (alone ((0x10 ∷ 0x3F ∷ F_STIME ∷ 0x12 ∷ []) ++ packet_bytes packet) (record zero_regs { x = 4 }))

@@ -16,8 +16,8 @@ ghost use Rattle.event_rules.specs.declared.ends.SliceEnd.TheVariants.{Idle};
 ghost use Rattle.machine_model.specs.Run.{Slice};
 ghost use Rattle.boot_rows.specs.Rows.{SliceDoes, after_slice, asks_for_id, asks_for_time, at_choice, at_start, falls_asleep, loads_unnamed, not_set, sets_time, signalled_in_call, told, two_running};
 
-/// A call is attempted in the slice whose instructions are not used up when it is made, else in the
-/// next slice of its process.
+/// A call is attempted in its slice if that has instructions left when the call is made, else in
+/// the next slice of its process.
 pub fn a_call_is_attempted_after_its_instruction()
     ensures last { SliceDoes at_start 2 asks_for_id 2 (executes ∷ executes ∷ []) }
     ensures next { SliceDoes at_start 1 (after_slice at_start 2 asks_for_id) 2
@@ -27,14 +27,14 @@ pub fn a_call_is_attempted_after_its_instruction()
 {}
 
 /// A pending signal is delivered after the first attempt of a call, and before the instruction
-/// behind it.
+/// after the call.
 pub fn a_signal_is_delivered_after_the_first_attempt()
     ensures { SliceDoes at_start 1 signalled_in_call 2
         (attempts F_ID ∷ delivers 7 ∷ executes ∷ []) }
 {}
 
-/// A call that waits ends its slice, however many instructions are left. Where no process is Ready
-/// then, the next slice has no event.
+/// A pending call ends its slice, even if instructions are left. If no process is Ready then, the
+/// next slice has no event.
 pub fn a_wait_ends_its_slice()
     ensures waits { SliceDoes at_start 1000 falls_asleep 2 (executes ∷ attempts F_SLEEP ∷ []) }
     ensures idle { Slice 1000 (after_slice at_start 2 falls_asleep) [] Idle
@@ -50,7 +50,7 @@ pub fn an_unnamed_slot_ends_the_process()
         ≡ Ended E_PRCABT }
 {}
 
-/// Of two processes of one priority, the one that was chosen longest ago comes next.
+/// Of two processes of one priority, the one chosen longest ago is next.
 pub fn equals_are_chosen_in_turns()
     ensures first { SliceDoes at_start 1 two_running 2 (executes ∷ []) }
     ensures second { SliceDoes at_start 1 (after_slice at_start 1 two_running) 3 (executes ∷ []) }
@@ -59,7 +59,7 @@ pub fn equals_are_chosen_in_turns()
 {}
 
 /// In tick 119 it is a second after the start, and in tick 120 two seconds. F$Time stores the six
-/// bytes of that where X says and no byte beside them, and clears carry.
+/// bytes of that time at X and no other byte, and clears carry.
 pub fn the_time_is_told()
     ensures one_second { SliceDoes (at 90 1 1 0 0 1) 2 (asks_for_time 118) 2
         (executes ∷ attempts F_TIME ∷ executes ∷ []) }
@@ -70,8 +70,8 @@ pub fn the_time_is_told()
     ensures carry { (regs_at told.inner 2).cc ≡ 0 }
 {}
 
-/// F$STime of 29 February 1993, which is no date, is refused with 225 and carry set, and the clock
-/// goes on from the start.
+/// F$STime of 29 February 1993, which is not a date, is refused with 225 and carry set, and the
+/// clock goes on from the start.
 pub fn no_civil_time_is_set()
     ensures does { SliceDoes at_start 2 (sets_time (at 93 2 29 23 59 59)) 2
         (executes ∷ attempts F_STIME ∷ executes ∷ []) }

@@ -1,4 +1,4 @@
--- What becomes of the bytes that were put on terminals.
+-- The bytes that were put on terminals.
 use Rattle.std.specs.Prelude.{◌≡◌, ℕ, IsSome, IfSome, List, ◌++◌, take, drop}
 use Rattle.os9_outer.specs.TerminalState.{TerminalState}
 use Rattle.event_rules.specs.Console.{terminals_emptied, without_bytes}
@@ -7,11 +7,11 @@ use Rattle.event_rules.specs.Console.{terminals_emptied, without_bytes}
 abbrev pub IsObserved : TerminalState → Type 0
 IsObserved terminal = IsSome terminal.put
 
--- these bytes were taken from the terminal, which has none any more
+-- these bytes were taken from the terminal, which has no bytes any more
 pub record TakesBytes (bytes : List ℕ) (old new : TerminalState) : Type 0 where
   pub handed_over : IfSome old.put (λ put. bytes ≡ put)
   pub none_left : new ≡ without_bytes old
 
--- the terminals, where the bytes of the first so many were taken
+-- the terminals after the bytes of the first `count` were taken
 abbrev pub emptied_front : ℕ → List TerminalState → List TerminalState
 emptied_front count terms = terminals_emptied (take count terms) ++ drop count terms

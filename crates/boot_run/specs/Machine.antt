@@ -1,4 +1,4 @@
--- A run of a machine from its start on.
+-- A run of a machine from its start.
 use Rattle.std.specs.Prelude.{◌≡◌, ◌≢◌, ◌⊎◌, ◌<◌, ◌≤◌, ⊤, ℕ, Bool, true, false, List, length, All}
 use Rattle.os9_base.specs.declared.limits.TheConstants.{LAST_TICK}
 use Rattle.os9_base.specs.declared.registers.TimePacket.{TimePacket}
@@ -24,7 +24,7 @@ use Rattle.boot_run.specs.World.{World, HasNoFault, FailsToWrite}
 use Rattle.boot_run.specs.declared.machine.RunEnd.{RunEnd}
 use Rattle.boot_run.specs.declared.machine.RunEnd.TheVariants.{Ended, Living, Refused, DriveFailed, OutputFailed, NoMemory}
 
--- what a machine is started with beside its devices, and what drives its run
+-- what a machine is started with in addition to its devices, and what drives its run
 pub record Setup : Type 0 where
   pub file : List ℕ  -- the boot file
   pub blocks : ℕ  -- of its memory
@@ -33,7 +33,7 @@ pub record Setup : Type 0 where
   pub keys : List ScriptKey
   pub slices : List ℕ
 
--- so with this configuration
+-- the same with this configuration
 abbrev pub setup_with : Config → List ℕ → List (List ℕ) → List ScriptKey → List ℕ → Setup
 setup_with config file images keys slices = record {
   file = file;
@@ -44,8 +44,8 @@ setup_with config file images keys slices = record {
   slices = slices;
 }
 
--- what a machine needs that is to run: as many blocks as it may have, a date and time, fewer slices than ticks are
--- counted, one to four terminals without keys, and at most four drives, of which the first hold volumes
+-- what a machine needs to run: a valid number of blocks, a date and time, fewer slices than ticks are counted, one to
+-- four terminals without keys, and at most four drives, of which the first hold volumes
 pub record CanRun (config : Config) (slices : List ℕ) (devices : Outside) : Type 0 where
   pub least : 8 ≤ config.blocks
   pub most : config.blocks ≤ 256
@@ -72,7 +72,7 @@ abbrev pub StartsLoaded : Setup → World → State → Type 0
 StartsLoaded setup before s = Starts (boot_of setup before) s
 
 -- the machine was run over its slices to this state: the output gained what it wrote, the terminals are those at its
--- end, the drives hold its volumes, and the images that no event asked to change are as they were
+-- end, the drives hold its volumes, and the images that no event asked to change are unchanged
 pub record RunsTo (setup : Setup) (s t : State) (before after : World) : Type 0 where
   pub states : List State
   pub written : List ℕ
@@ -82,7 +82,7 @@ pub record RunsTo (setup : Setup) (s t : State) (before after : World) : Type 0 
   pub drives : HoldsVolumes t after.devices.drives
   pub images : KeepsImages (ComesInto setup.slices s) states before.devices.drives after.devices.drives
 
--- the machine was started and run to its end: a process lives then or none does, and so many slices were begun, each of
+-- the machine was started and run to its end: a process lives then or none does, and `begun` slices were begun, each of
 -- which is a tick
 pub record RunsWhole (setup : Setup) (lives : Bool) (begun : ℕ) (before after : World) : Type 0 where
   pub s : State
@@ -98,14 +98,14 @@ pub record RunsFirst (setup : Setup) (before after : World) : Type 0 where
   pub starts : StartsLoaded setup before s
   pub partly : RunsPartly setup.slices s before after
 
--- nothing was run: the output, the terminals and the media are as they were, and no drive has failed
+-- nothing was run: the output, the terminals and the media are unchanged, and no drive has failed
 pub record IsUnrun (before after : World) : Type 0 where
   pub out : after.out ≡ before.out
   pub terminals : after.devices.terms ≡ before.devices.terms
   pub none_failed : NoneFailed (drive_states before.devices.drives) (drive_states after.devices.drives)
   pub media_kept : media_of after.devices.drives ≡ media_of before.devices.drives
 
--- what comes of a machine, by how its run ended, if the bytes of all terminals are observed
+-- the outcome of a machine, by how its run ended, if the bytes of all terminals are observed
 abbrev pub ComesTo : Setup → World → World → RunEnd → Type 0
 ComesTo setup before after (Ended begun) = RunsWhole setup false begun before after
 ComesTo setup before after (Living begun) = RunsWhole setup true begun before after
@@ -119,8 +119,8 @@ Judges setup (Refused fault) = Refuses setup.file setup.blocks fault
 Judges setup (DriveFailed drive number) = (fault : BootFault) → ¬ Refuses setup.file setup.blocks fault
 Judges setup end = ⊤
 
--- A drive that held one of so many images failed, and no other one; the media, the terminals and the output are as they
--- were, so nothing of a run can be seen.
+-- A drive that held one of `images` images failed, and no other one; the media, the terminals and the output are
+-- unchanged, so nothing of a run can be seen.
 pub record FailsToMount (images drive number : ℕ) (before after : World) : Type 0 where
   pub among : drive < images
   pub failed : OneFailed drive number (drive_states before.devices.drives) (drive_states after.devices.drives)
@@ -128,13 +128,14 @@ pub record FailsToMount (images drive number : ℕ) (before after : World) : Typ
   pub terms_kept : after.devices.terms ≡ before.devices.terms
   pub out_kept : after.out ≡ before.out
 
--- what is left of the devices and the output where no machine runs that was set up with so many images, observed or not
+-- what is left of the devices and the output if no machine runs that was set up with this number of images, observed or
+-- not
 abbrev pub LeavesUnrun : ℕ → World → World → RunEnd → Type 0
 LeavesUnrun images before after (Refused fault) = after ≡ before
 LeavesUnrun images before after (DriveFailed drive number) = FailsToMount images drive number before after
 LeavesUnrun images before after end = ⊤
 
--- a machine was started, and its run ended so
+-- a machine was started, and its run ended with `end`
 pub record MachineCall (setup : Setup) (before after : World) (end : RunEnd) : Type 0 where
   pub comes : All IsObserved before.devices.terms → ComesTo setup before after end
   pub judged : Judges setup end
@@ -144,7 +145,7 @@ pub record MachineCall (setup : Setup) (before after : World) (end : RunEnd) : T
   pub no_fault : end ≢ OutputFailed → HasNoFault before after
   pub files_kept : after.files ≡ before.files
 
--- so with the images that were in the first drives
+-- the same with the images that were in the first drives
 abbrev pub MachineRuns : Config → List ℕ → List ScriptKey → List ℕ → RunEnd → World → World → Type 0
 MachineRuns config file keys slices end before after =
     (images : List (List ℕ)) → HaveImages config.images images before.devices.drives

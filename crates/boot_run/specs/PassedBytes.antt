@@ -1,4 +1,4 @@
--- What is left when the bytes of the terminals were passed to the output stream.
+-- What is left after the bytes of the terminals were passed to the output stream.
 use Rattle.std.specs.Prelude.{◌≡◌, ◌≢◌, ℕ, Result, [], OnOk, OnErr, All}
 use Rattle.os9_outer.specs.Host.{OnFailed, UnlessFailed}
 use Rattle.os9_outer.specs.Stream.{stream_with, GainsPrefix}

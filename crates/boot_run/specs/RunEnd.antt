@@ -1,4 +1,4 @@
--- How a run ends whose machine did not start.
+-- The end of a run whose machine did not start.
 use Rattle.event_rules.specs.declared.ends.BootFault.TheVariants.{OutOfMemory, BadModule, NoFirst, TooLarge}
 use Rattle.os9_kernel.specs.declared.new.StartError.{StartError}
 use Rattle.os9_kernel.specs.declared.new.StartError.TheVariants.{Boot, Drive}

@@ -1,4 +1,4 @@
--- What is left when slices were run.
+-- What is left after slices were run.
 use Rattle.std.specs.Prelude.{◌≡◌, ◌≢◌, ◌⊎◌, ◌++◌, ℕ, true, Option, Some, Result, List, [], take, slice_get, OnOk, OnErr, All}
 use Rattle.os9_outer.specs.Stream.{stream_with, GainsPrefix}
 use Rattle.event_rules.specs.Console.{console_bytes}
@@ -15,9 +15,9 @@ use Rattle.boot_run.specs.RunFault.{OnOutputFault, UnlessOutputFault}
 use Rattle.boot_run.specs.World.{World, HasNoFault, FailsToWrite}
 use Rattle.boot_run.specs.declared.run.RunFault.{RunFault}
 
--- over these slices the machine comes from one state, through these states, to one in the middle of a slice
+-- over these slices the machine goes from one state, through these states, to one in the middle of a slice
 pub record ComesInto (slices : List ℕ) (s : State) (states : List State) (t : State) : Type 0 where
-  pub count : ℕ  -- so many slices are over
+  pub count : ℕ  -- the number of slices that are over
   pub passed : List State  -- the states after their events
   pub written : List ℕ
   pub reached : State
@@ -29,9 +29,9 @@ pub record ComesInto (slices : List ℕ) (s : State) (states : List State) (t : 
   pub begins : BeginsSlice n reached first t
   pub all : states ≡ passed ++ first
 
--- A slice was run from this state that wrote something, and the write of it failed or found no memory: what was out
--- before is followed by the first bytes of that, all, some or none. The bytes of so many terminals were taken, all else
--- of the devices is as the slice left it, and the drives hold the volumes of the state then.
+-- A slice that wrote something was run from this state, and the write of it failed or found no memory: the earlier
+-- output is followed by the first bytes of that, all, some or none. The bytes of a number of terminals were taken,
+-- everything else of the devices is as the slice left it, and the drives hold the volumes of the state then.
 pub record BreaksOutput (n : ℕ) (s : State) (out : Option (List ℕ)) (after : World) : Type 0 where
   pub states : List State
   pub end : SliceEnd
@@ -45,10 +45,10 @@ pub record BreaksOutput (n : ℕ) (s : State) (out : Option (List ℕ)) (after :
 
 -- The machine went on from this state over the first of these slices, and stopped.
 pub record RunsPartly (slices : List ℕ) (s : State) (before after : World) : Type 0 where
-  pub count : ℕ  -- so many slices were run, and the output took what they wrote
+  pub count : ℕ  -- the number of slices run, whose output was written
   pub states : List State  -- the states after their events
   pub written : List ℕ  -- what they wrote
-  pub reached : State  -- the state that they came to
+  pub reached : State  -- the state after them
   pub run : Run (take count slices) s states written reached
   pub n : ℕ  -- the instructions of the next slice
   pub next : slice_get slices count ≡ Some n
@@ -60,8 +60,8 @@ pub record RunsPartly (slices : List ℕ) (s : State) (before after : World) : T
 
 pub record RunsSlices {Value : Type 0} (slices : List ℕ) (old new : Kernel) (answer : Result Value RunFault)
     (before after : World) : Type 0 where
-  -- Ok: from each state that was represented there is a run over the slices to one that is represented
-  -- now, the output gained what it writes, and the images that no event asks to change are as they were
+  -- Ok: from each state that was represented there is a run over the slices to one that is represented now, the output
+  -- gained what it writes, and the images that no event asks to change are unchanged
   pub run : OnOk answer ((s : State) → All IsObserved before.devices.terms → Represents old before.devices s
       → (states : List State) × (written : List ℕ) × (t : State) × Run slices s states written t
       × Represents new after.devices t × (after.out ≡ stream_with before.out written)

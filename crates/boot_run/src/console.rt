@@ -22,7 +22,7 @@ fn take_bytes(term: &mut dyn CharDriver) -> Vec<u8>
     term.take()
 }
 
-/// [`take_bytes`] of the terminal in a box.
+/// [`take_bytes`] for the terminal in a box.
 fn take_from_box(term: &mut Box<dyn CharDriver>) -> Vec<u8>
     ensures handed_over { IfSome (bytes_put term.old) (λ bytes. result.items ≡ bytes) }
     ensures none_left { bytes_put term.new ≡ emptied (bytes_put term.old) }

@@ -1,5 +1,5 @@
-//! A run of a machine from its start on: the kernel is made, the terminals are loaded with their keys,
-//! and the slices are run, with what they write passed to the output stream.
+//! A run of a machine from its start: the kernel is made, the terminals are loaded with their keys,
+//! and the slices are run, with their output passed to the output stream.
 #![tactic(auto)]
 
 pub use console::pass_on;

@@ -21,13 +21,13 @@ use std::alloc::Global;
 /// How a run of a machine ended.
 #[derive(Clone, Copy, Debug, PartialEq, Eq)]
 pub enum RunEnd {
-    /// No process lives; so many slices were begun.
+    /// No process lives; the number of slices begun.
     Ended(u32),
-    /// The slices are used up, and a process lives; so many slices were begun.
+    /// The slices are used up, and a process lives; the number of slices begun.
     Living(u32),
     /// The boot file is refused.
     Refused(BootFault),
-    /// A drive failed when its image was mounted: its number, and that of its fault.
+    /// A drive failed when its image was mounted: its number, and the number of its fault.
     DriveFailed(u8, u8),
     /// The output stream could not be written.
     OutputFailed,
@@ -36,8 +36,8 @@ pub enum RunEnd {
 }
 
 /// Starts a machine with a boot file and the images in its first drives, and runs it over the
-/// slices. What the terminals are given goes to the output stream after each slice. The terminals are
-/// loaded with their keys once the kernel stands.
+/// slices. The bytes put on the terminals go to the output stream after each slice. The terminals
+/// are loaded with their keys once the kernel is made.
 pub fn run_machine<H: Host>(
     alloc: Global,
     config: Config,
@@ -73,7 +73,7 @@ pub fn run_machine<H: Host>(
     }
 }
 
-/// How a run ends whose machine did not start.
+/// The end of a run whose machine did not start.
 pub fn end_of_start(error: StartError) -> RunEnd
     ensures { result ≡ start_end error }
 {
@@ -84,7 +84,8 @@ pub fn end_of_start(error: StartError) -> RunEnd
     }
 }
 
-/// How a run ended after which so many processes live, with so many slices begun.
+/// The end of a run, by the number of processes that live after it, with the number of slices
+/// begun.
 pub fn run_end(living: u8, begun: u32) -> RunEnd
     ensures idle { living ≡ 0 → result ≡ RunEnd.Ended begun }
     ensures lives { living ≢ 0 → result ≡ RunEnd.Living begun }

@@ -3,7 +3,7 @@ use Rattle.std.specs.Prelude.{◌≡◌, ℕ, ◌*◌, true, List, drop, length,
 use Rattle.rbf_model.specs.Fields.{total_field}
 use Rattle.rbf_model.specs.Geometry.{sector}
 
--- length, first sector and the bytes past the volume are as before
+-- length, first sector and the bytes past the volume are unchanged
 pub record KeepsEnds (before after : List ℕ) : Type 0 where
   pub as_long : length after ≡ length before
   pub first : sector after 0 ≡ sector before 0

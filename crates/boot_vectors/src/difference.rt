@@ -6,13 +6,13 @@ use os9_outer::drive::DriveFault;
 use std::alloc::{AllocError, Global};
 use std::fmt;
 
-/// The faults that a drive has which stops.
+/// The faults of a drive that stops.
 const STOPS: [DriveFault; 2] = [DriveFault::ReadFault, DriveFault::WriteFault];
 
-/// Which run of a row shows something else than the row says.
+/// The run of a row that shows something else than the row says.
 #[derive(Clone, Copy, Debug)]
 pub(crate) enum Difference {
-    /// Its only one.
+    /// The only run of the row.
     Run,
     /// The one that stops at this call of a drive.
     Stop { call: u64 },
@@ -42,7 +42,7 @@ pub(crate) fn first_difference(alloc: Global, row: &Row) -> Result<Option<Differ
     }
 }
 
-/// The same of a row with a drive that stops.
+/// The same for a row with a drive that stops.
 fn stop_difference(alloc: Global, row: &Row, drive: u8) -> Result<Option<Difference>, AllocError> {
     for fault in STOPS {
         if let Some(call) = differing_stop(alloc, row, drive, fault)? {

@@ -37,7 +37,7 @@ impl Disk {
         self.tree.as_str() == row.tree.as_str() && keep_ends(&row.image, &self.image)
     }
 
-    /// Has it the bytes of the image of a row?
+    /// Does it have the bytes of the image of a row?
     pub(crate) fn is_same(&self, row: &Disk) -> bool
         ensures { result ≡ bytes_eq self.now.image.items row.now.image.items }
     {
@@ -45,8 +45,8 @@ impl Disk {
     }
 }
 
-/// Has an image after a run the length, the first sector and the bytes past the sectors of its
-/// volume that it had before?
+/// Does an image after a run have the length, the first sector and the bytes past the sectors of
+/// its volume that it had before?
 pub(crate) fn keep_ends(before: &[u8], after: &[u8]) -> bool
     ensures { OnTrue result (KeepsEnds before.now after.now) }
 {
@@ -59,7 +59,7 @@ pub(crate) fn keep_ends(before: &[u8], after: &[u8]) -> bool
     sector(after, 0) == first && same_past
 }
 
-/// The bytes of an image past so many sectors.
+/// The bytes of an image past this number of sectors.
 fn past(image: &[u8], sectors: u32) -> &[u8]
     ensures { result.now ≡ drop (256 * sectors) image.now }
 {

@@ -5,7 +5,7 @@ use os9_outer::drive::{BlockDriver, DriveFault};
 use os9_outer::ram_drive::{PlannedFault, RamDrive};
 use std::alloc::{AllocError, Global};
 
-/// The faults that a drive has.
+/// The possible faults of a drive.
 const FAULTS: [DriveFault; 5] = [
     DriveFault::WriteProtect,
     DriveFault::ReadFault,
@@ -14,10 +14,10 @@ const FAULTS: [DriveFault; 5] = [
     DriveFault::SeekFault,
 ];
 
-/// A call of a drive that fails.
+/// A failing call of a drive.
 #[derive(Debug, Drop)]
 pub(crate) struct FailingCall {
-    /// 0 to 3, of D0 to D3.
+    /// 0 to 3, for D0 to D3.
     drive: u8,
     planned: PlannedFault,
 }
@@ -27,13 +27,14 @@ pub(crate) struct FailingCall {
 pub(crate) enum Failing {
     /// These calls of drives, in one run.
     Calls(Vec<FailingCall>),
-    /// The calls of a drive from one of them on, each of them in turn, in a run of its own.
+    /// The calls of a drive from one of them on, for each call in turn, in a run of its own.
     Stops { drive: u8 },
 }
 
 impl Failing {
-    /// What a field tells, such as `D1 1 244,D0 7 245`: the drive, the number of the call among the
-    /// reads and writes of that drive, from 1, and the number of its fault; or such as `stops D0`.
+    /// The meaning of a field such as `D1 1 244,D0 7 245`: the drive, the number of the call among
+    /// the reads and writes of that drive, from 1, and the number of its fault; or such as
+    /// `stops D0`.
     pub(crate) fn parse(alloc: Global, field: &str) -> Result<Failing, RowError> {
         if let Some(name) = field.strip_prefix("stops ") {
             let drive = drive(name).ok_or(RowError::BadCall)?;
@@ -119,7 +120,7 @@ fn drive(name: &str) -> Option<u8> {
     }
 }
 
-/// The fault that a call answers by this number.
+/// The fault of a call with this number.
 fn drive_fault(number: u8) -> Option<DriveFault> {
     for fault in FAULTS {
         if fault.number() == number {

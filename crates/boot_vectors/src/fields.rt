@@ -6,7 +6,7 @@ use thiserror::Error;
 /// The bytes of the longest image that a row may have: those of a volume of the most sectors.
 const MOST_BYTES: usize = 134_217_728;
 
-/// Why a line is no row.
+/// Why a line is not a row.
 #[derive(Clone, Copy, Debug, PartialEq, Eq, Error)]
 pub(crate) enum RowError {
     #[error("a field is missing")]
@@ -37,8 +37,8 @@ impl<T: Drop> From<AllocFailed<T>> for RowError {
     }
 }
 
-/// The fields of a line, which single tabs separate, and which are taken from its front. `-` stands
-/// for what is empty.
+/// The fields of a line, which are separated by single tabs, and taken from its front. `-` is an
+/// empty field.
 #[derive(Drop)]
 pub(crate) struct Fields<'a> {
     rest: Option<&'a str>,
@@ -62,7 +62,7 @@ impl<'a> Fields<'a> {
         Ok(if field == "-" { "" } else { field })
     }
 
-    /// The next field as a text, which is empty where the line has no more.
+    /// The next field as a text, which is empty if the line has no more.
     pub(crate) fn last_text(&mut self) -> Result<&'a str, RowError> {
         if self.rest.is_none() {
             return Ok("");
@@ -133,7 +133,7 @@ fn image(alloc: Global, field: &str) -> Result<Vec<u8>, RowError> {
     Ok(image)
 }
 
-/// Puts a sector into an image. The one behind the last whole sector is shorter.
+/// Puts a sector into an image. The one after the last whole sector is shorter.
 fn put_sector(alloc: Global, image: &mut Vec<u8>, part: &str) -> Result<(), RowError> {
     let (lsn, digits) = part.split_once(':').ok_or(RowError::BadImage)?;
     let lsn = number(lsn.parse::<u32>().ok())?;

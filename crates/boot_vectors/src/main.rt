@@ -1,6 +1,6 @@
-//! Runs guest programs whose end is known from elsewhere, on disk images or on none, one a line, and
-//! prints how many there were and how many came out otherwise. A line that begins with `#` names
-//! those behind it.
+//! Runs guest programs whose end is known from elsewhere, with or without disk images, one a line,
+//! and prints the number of programs and the number of differences. A line that begins with `#`
+//! names the lines after it.
 #![tactic(auto)]
 
 mod answering;

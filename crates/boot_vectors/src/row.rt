@@ -6,7 +6,7 @@ use std::alloc::Global;
 /// The names that the words of a row give the files of its images.
 const IMAGES: [&str; 2] = ["d0.img", "d1.img"];
 
-/// A command line with its files, and what the program answers to it.
+/// A command line with its files, and the program's answer to it.
 #[derive(Drop)]
 pub(crate) struct Row {
     /// The words, separated by single spaces. They name the files `modules`, `slices` and `script`,
@@ -17,19 +17,19 @@ pub(crate) struct Row {
     pub(crate) script: Vec<u8>,
     pub(crate) status: u8,
     pub(crate) out: Vec<u8>,
-    /// The line on the error stream, without its line feed; none where it is empty.
+    /// The line on the error stream, without its line feed; none if it is empty.
     pub(crate) err: String,
-    /// The images that there are, as they are before the run, with the trees behind it.
+    /// The images, as they are before the run, with the trees after it.
     pub(crate) disks: Vec<Disk>,
-    /// The calls of drives that fail.
+    /// The failing calls of drives.
     pub(crate) failing: Failing,
 }
 
 impl Row {
-    /// The row of a line: the words, the file of modules, the number of zero bytes behind it, the
+    /// The row of a line: the words, the file of modules, the number of zero bytes after it, the
     /// slice text, the script of keys, the status, the bytes written, the line on the error stream,
-    /// for each of two images what it holds before the run, and its tree behind it, and what fails
-    /// (`Failing::parse`), a field that may be missing. If a drive stops, this is all of the run in
+    /// for each of two images what it holds before the run, and its tree after it, and what fails
+    /// (`Failing::parse`), a field that may be missing. If a drive stops, all this is of the run in
     /// which it does not.
     pub(crate) fn parse(alloc: Global, line: &str) -> Result<Row, RowError> {
         let mut fields = Fields::of(line);
@@ -49,7 +49,7 @@ impl Row {
     }
 }
 
-/// The file of modules of two fields: its bytes, and the number of zeros behind them.
+/// The file of modules of two fields: its bytes, and the number of zeros after them.
 fn modules(alloc: Global, fields: &mut Fields<'_>) -> Result<Vec<u8>, RowError> {
     let mut modules = fields.bytes(alloc)?;
     for _ in 0..fields.short()? {
@@ -58,7 +58,7 @@ fn modules(alloc: Global, fields: &mut Fields<'_>) -> Result<Vec<u8>, RowError> 
     Ok(modules)
 }
 
-/// The images of four fields: of each what it holds, and its tree.
+/// The images of four fields: for each its contents, and its tree.
 fn disks(alloc: Global, fields: &mut Fields<'_>) -> Result<Vec<Disk>, RowError> {
     let mut disks = Vec::new(alloc);
     for name in IMAGES {

@@ -19,10 +19,10 @@ use os9_outer::sure_tty::SureTty;
 use os9_outer::terminal::CharDriver;
 use std::alloc::{AllocError, Global};
 
-/// The status of a run behind which no process lives.
+/// The status of a run after which no process lives.
 const ENDED: u8 = 0;
 
-/// The status of a run behind which a process lives.
+/// The status of a run after which a process lives.
 const LIVING: u8 = 5;
 
 /// The status of a run that did not begin, since a drive failed when its image was mounted.
@@ -34,15 +34,15 @@ pub(crate) struct Shown {
     status: u8,
     out: Vec<u8>,
     err: Vec<u8>,
-    /// The files that are no images are as they were.
+    /// The files that are not images are unchanged.
     kept: bool,
     disks: Vec<Disk>,
-    /// Each drive answers a read behind the run.
+    /// Each drive answers a read after the run.
     answering: bool,
 }
 
 impl Shown {
-    /// Is it what the row says? Images are changed only by a run that came to its end.
+    /// Is it what the row says? Images are changed only by a run that went to its end.
     pub(crate) fn is_as(&self, row: &Row) -> bool
         ensures status { OnTrue result (self.now.status ≡ row.now.status) }
         ensures out { OnTrue result (bytes_eq self.now.out.items row.now.out.items ≡ true) }
@@ -55,15 +55,15 @@ impl Shown {
         self.status == row.status && written && told && self.kept && self.has_disks(row)
     }
 
-    /// Has no call failed of drives that stop?
+    /// Has no call of a stopping drive failed?
     pub(crate) fn has_not_stopped(&self) -> bool
         ensures { result ≡ self.now.answering }
     {
         self.answering
     }
 
-    /// Is it what a run of the row may show in which a drive stopped? It came to its end, or began
-    /// not, since an image was not mounted.
+    /// Is it what a run of the row with a stopping drive may show? It went to its end, or did not
+    /// begin, since an image was not mounted.
     pub(crate) fn is_stop_of(&self, alloc: Global, row: &Row) -> Result<bool, AllocError> {
         let as_told = match self.status {
             ENDED | LIVING => self.has_stopped_disks(alloc, row)?,
@@ -100,7 +100,7 @@ impl Shown {
 }
 
 /// Runs the words of a row over a host in memory that has its files, on four drives without an
-/// image, of which these calls fail, and on four terminals.
+/// image, with these failing calls, and on four terminals.
 pub(crate) fn run(alloc: Global, row: &Row, plan: &Plan<'_>) -> Result<Shown, AllocError> {
     let mut drives: Vec<Box<dyn BlockDriver>> = Vec::new(alloc);
     add_drive(&mut drives, Box::new(alloc, plan.drive(alloc, 0)?)?)?;
@@ -175,7 +175,7 @@ fn file(alloc: Global, name: &str, bytes: &[u8]) -> Result<HostFile, AllocError>
     })
 }
 
-/// Are these the files that there were, and those the same that are no images of the row?
+/// Are these the files before the run, with those unchanged that are not images of the row?
 fn are_kept(row: &Row, files: &[HostFile], before: &[HostFile]) -> bool {
     files.len() == before.len()
         && files.iter().zip(before.iter()).all(|(file, old)| {

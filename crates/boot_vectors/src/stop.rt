@@ -16,8 +16,8 @@ use rbf_reach::sector;
 use std::alloc::{AllocError, Global};
 
 /// Runs a row with a stop at each call of a drive in turn, with this fault, until no call fails in
-/// a run. Returns the first stop that leaves what it may not leave, if there is one; the last run
-/// has to be the one that the row tells.
+/// a run. Returns the first stop with a wrong result, if there is one; the last run must be the one
+/// of the row.
 pub(crate) fn differing_stop(
     alloc: Global,
     row: &Row,
@@ -37,9 +37,9 @@ pub(crate) fn differing_stop(
     Ok(None)
 }
 
-/// Is this what a stop may leave of the image of a row? It is well formed, has the length, the
-/// first sector and the bytes past the volume that it had, and each file that the row's run leaves
-/// as it was.
+/// Is this what a stop may leave of the image of a row? It is well formed, and it has the length,
+/// the first sector and the bytes past the volume that it had, and each file that the row's run
+/// leaves unchanged.
 pub(crate) fn is_stop_of(alloc: Global, image: &[u8], row: &Disk) -> Result<bool, AllocError>
     ensures well_formed { IfOk result (λ is. OnTrue is (IsVolume image.now)) }
     ensures ends { IfOk result (λ is. OnTrue is (KeepsEnds row.now.image.items image.now)) }
@@ -65,7 +65,7 @@ fn tree(alloc: Global, image: &[u8]) -> Result<Option<Tree>, AllocError>
     }
 }
 
-/// Has an image each file of the image of a row whose line the row's tree has too?
+/// Does an image have each file of the image of a row whose line is also in the row's tree?
 fn keeps_files(
     alloc: Global,
     row: &Disk,
@@ -89,7 +89,7 @@ fn keeps_files(
     Ok(true)
 }
 
-/// Has a file the number, the line and the bytes of this one?
+/// Does a file have the number, the line and the bytes of this one?
 fn has_file(alloc: Global, nodes: &Nodes, file: &Node, told: &str) -> Result<bool, AllocError> {
     match node_of(nodes, file.fd) {
         None => Ok(false),

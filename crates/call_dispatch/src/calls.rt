@@ -26,9 +26,9 @@ use proc_calls::sleep::f_sleep;
 use proc_calls::telling::tell;
 use proc_state::state::ProcState;
 
-/// An attempt of a call by a process that lives (System Programmer's Manual, "User mode service
-/// requests"). A call that is done clears carry; one that is refused sets it and puts its number in
-/// B. The scheduler knows what a call waits for.
+/// An attempt of a call by a living process (System Programmer's Manual, "User mode service
+/// requests"). A completed call clears carry. A refused one sets carry and returns its number in B.
+/// The scheduler knows what a call waits for.
 pub fn attempt(s: &mut ProcState, p: Pid, call: ProcCall) -> CallEnd
     requires lives { IsLiving s.old.table p.0 }
     ensures call { (m : Inner) → Represents s.old m
@@ -45,7 +45,7 @@ pub fn attempt(s: &mut ProcState, p: Pid, call: ProcCall) -> CallEnd
     end
 }
 
-/// Attempts a call. Its process is not told yet what it comes to.
+/// Attempts a call. The process does not have the result yet.
 fn comes(s: &mut ProcState, p: Pid, call: ProcCall) -> CallEnd
     requires lives { IsLiving s.old.table p.0 }
     ensures call { (m : Inner) → Represents s.old m

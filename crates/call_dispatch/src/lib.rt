@@ -1,5 +1,5 @@
-//! Attempts of the calls on processes and modules: each call has its function, whose end is told to
-//! the process.
+//! Attempts of the calls on processes and modules: each call has its function, and its result is
+//! reported to the process.
 #![tactic(auto)]
 
 pub use calls::attempt;

@@ -1,4 +1,5 @@
--- What an instruction, a call on processes and modules or the delivery of a signal leaves of what is not its own.
+-- What an instruction, a call on processes and modules or the delivery of a signal leaves unchanged of what is not its
+-- own.
 use Rattle.std.specs.Prelude.{◌≡◌, ◌≢◌, ℕ}
 use Rattle.proc_rules.specs.Records.{record_of}
 use Rattle.call_rules.specs.Inner.{Inner}
@@ -9,7 +10,7 @@ use Rattle.call_laws.specs.Others.{ComesOf, turns_of_others}
 use Rattle.call_laws.specs.Links.{ChangesLinks}
 use Rattle.call_laws.specs.Modules.{KeepsModules}
 
--- an event of a process, which ends so, leaves what is not its own
+-- an event of a process with this end leaves unchanged what is not its own
 pub record LeavesOthers (m : Inner) (p : ℕ) (end : EventEnd) (n : Inner) : Type 0 where
   pub sizes : KeepsSizes m.memory n.memory
   pub objects : KeepsObjects m.memory p n.memory
@@ -17,5 +18,5 @@ pub record LeavesOthers (m : Inner) (p : ℕ) (end : EventEnd) (n : Inner) : Typ
   pub map : KeepsToItself m.memory p n.memory
   pub others : (q : ℕ) → q ≢ p → ComesOf m p end n q (record_of m.records q) (record_of n.records q)
   pub turns : turns_of_others m p n.order ≡ turns_of_others m p m.order
-  pub modules : KeepsModules m.memory.modules n.memory.modules  -- what comes of each
+  pub modules : KeepsModules m.memory.modules n.memory.modules  -- the change of each
   pub links : ChangesLinks m p end n.memory  -- which of their links change

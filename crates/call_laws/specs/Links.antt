@@ -14,25 +14,25 @@ use Rattle.call_laws.specs.Others.{AttemptsCall}
 abbrev pub primary_of : Inner → ℕ → Option ℕ
 primary_of m p = option_map (λ id. id.0) (own_at m p).primary
 
--- one module has a link more, by F$Link or F$Fork
+-- one module has one more link, by F$Link or F$Fork
 pub record GainsLink (m : Inner) (p : ℕ) (n : MemoryState) : Type 0 where
   pub call : AttemptsCall m p Call.Link ⊎ AttemptsCall m p Call.Fork
   pub number : ℕ
   pub more : n.modules ≡ (linked m.memory number).modules
 
--- one module has a link less, by F$UnLink or F$UnLoad; its group leaves if it has no link then
+-- one module has one link less, by F$UnLink or F$UnLoad; its group leaves if it has no link then
 pub record LosesLink (m : Inner) (p : ℕ) (n : MemoryState) : Type 0 where
   pub call : AttemptsCall m p Call.UnLink ⊎ AttemptsCall m p Call.UnLoad
   pub number : ℕ
   pub less : n.modules ≡ (unlinked m.memory number).modules
 
--- F$Chain: one module has a link more, and then the old primary module has one less
+-- F$Chain: one module has one more link, and then the old primary module has one less
 pub record ChangesPrimary (m : Inner) (p : ℕ) (n : MemoryState) : Type 0 where
   pub call : AttemptsCall m p Call.Chain
   pub number : ℕ
   pub relinked : n.modules ≡ without_link (linked m.memory number).modules (primary_of m p)
 
--- the process ends, and its primary module has a link less
+-- the process ends, and its primary module has one link less
 pub record LosesPrimary (m : Inner) (p : ℕ) (end : EventEnd) (n : MemoryState) : Type 0 where
   pub ends : end ≡ Ended
   pub less : n.modules ≡ without_link m.memory.modules (primary_of m p)

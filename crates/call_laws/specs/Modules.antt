@@ -1,9 +1,8 @@
--- What an event of a process leaves of the module directory (Level Two manual, "Module directory").
+-- The changes of the module directory in an event of a process (Level Two manual, "Module directory").
 use Rattle.std.specs.Prelude.{◌+◌, ◌≡◌, ℕ, ◌≤◌, false, Option, Some, None, List}
 use Rattle.proc_model.specs.ModuleList.{ModuleEntry, module_entry_at}
 
--- an entered module leaves: a link of its group was given up that was its last one, and the group is not the boot
--- file's
+-- an entered module leaves: the last link of its group was given up, and the group is not the boot file's
 pub record LeavesMemory (entries : List (Option ModuleEntry)) (old : ModuleEntry) : Type 0 where
   pub number : ℕ
   pub entry : ModuleEntry
@@ -18,14 +17,14 @@ pub record StaysEntered (old new : ModuleEntry) : Type 0 where
   pub rises : new.links ≤ old.links + 1
   pub falls : old.links ≤ new.links + 1
 
--- what comes of an entered module: it stays or leaves; and none appears
+-- the change of an entered module: it stays or leaves; and none appears
 abbrev pub ModuleComesOf : List (Option ModuleEntry) → Option ModuleEntry → Option ModuleEntry → Type 0
 ModuleComesOf entries (Some old) (Some new) = StaysEntered old new
 ModuleComesOf entries (Some old) None = LeavesMemory entries old
 ModuleComesOf entries None (Some new) = ⊥
 ModuleComesOf entries None None = Unit {0}
 
--- the module directory changes by the rules of links alone
+-- the module directory changes only by the rules of links
 abbrev pub KeepsModules : List (Option ModuleEntry) → List (Option ModuleEntry) → Type 0
 KeepsModules entries later =
     (number : ℕ) → ModuleComesOf entries (module_entry_at entries number) (module_entry_at later number)

@@ -1,4 +1,4 @@
--- What the objects hold that appear in an event of a process (System Programmer's Manual, F$Fork and F$Chain).
+-- The contents of the objects that appear in an event of a process (System Programmer's Manual, F$Fork and F$Chain).
 use Rattle.std.specs.Prelude.{◌≡◌, ◌⊎◌, ℕ, ◌≤◌, Some, List, length, slice_get}
 use Rattle.proc_model.specs.Memory.{MemoryState}
 use Rattle.call_rules.specs.declared.proc_call.ProcCall.TheVariants as Call

@@ -1,5 +1,5 @@
--- What an event of a process leaves of the objects (Level Two manual, "Memory management": each process sees the blocks
--- of its own map alone).
+-- What an event of a process leaves unchanged of the objects (Level Two manual, "Memory management": each process sees
+-- only the blocks of its own map).
 use Rattle.std.specs.Prelude.{option_map, ◌≡◌, ◌⊎◌, ℕ, ◌<◌, ◌≤◌, Some, length, slice_get}
 use Rattle.proc_model.specs.Memory.{MemoryState, map_at}
 use Rattle.proc_model.specs.ModuleList.{ModuleEntry, module_entry_at}
@@ -16,11 +16,11 @@ pub record IsOfModule (m : MemoryState) (object : ℕ) : Type 0 where
 abbrev pub Appears : MemoryState → MemoryState → ℕ → Type 0
 Appears m n object = (length m.objects ≤ object) × (object < length n.objects)
 
--- an object may get into a map: it appears now, or is of an entered module's group
+-- an object may get into a map: it appears now, or is in the group of an entered module
 abbrev pub IsNewOrShared : MemoryState → MemoryState → ℕ → Type 0
 IsNewOrShared m n object = Appears m n object ⊎ IsOfModule m object
 
--- every object that has appeared stays, of its size
+-- every object that has appeared stays, with its size
 abbrev pub KeepsSizes : MemoryState → MemoryState → Type 0
 KeepsSizes m n =
     (object : ℕ) → object < length m.objects
@@ -32,7 +32,7 @@ KeepsObjects m p n =
     (object : ℕ) → object < length m.objects → (NamesBlock (map_at m p) object → ⊥)
     → slice_get n.objects object ≡ slice_get m.objects object
 
--- the map of a process names what it named, and no others than new or shared objects
+-- the map of a process names what it named, and otherwise only new or shared objects
 abbrev pub KeepsToItself : MemoryState → ℕ → MemoryState → Type 0
 KeepsToItself m p n =
     (object : ℕ) → NamesBlock (map_at n p) object → NamesBlock (map_at m p) object ⊎ IsNewOrShared m n object

@@ -1,5 +1,5 @@
--- What an event of a process leaves of the other processes (System Programmer's Manual, F$Fork, F$Send, F$SPrior,
--- F$Wait and F$Exit).
+-- What an event of a process leaves unchanged of the other processes (System Programmer's Manual, F$Fork, F$Send,
+-- F$SPrior, F$Wait and F$Exit).
 use Rattle.std.specs.List.{filter}
 use Rattle.std.specs.Prelude.{◌==◌, ◌&&◌, not, is_some, ◌≡◌, ◌≢◌, ◌⊎◌, ℕ, Bool, true, Option, Some, None, List}
 use Rattle.proc_model.specs.Memory.{MemoryState, map_at}
@@ -35,7 +35,7 @@ pub record CallsOn (m : Inner) (p : ℕ) (call : ProcCall) (q : ℕ) : Type 0 wh
 
 -- ---- the other processes
 
--- F$Send makes a signal pending for another process: one that is no wake, where none was pending
+-- F$Send makes a signal pending for another process: a signal other than wake, if none was pending
 pub record GetsSignal (m : Inner) (p q : ℕ) (old new : Option ℕ) : Type 0 where
   pub sent : CallsOn m p Call.Send q
   pub not_wake : (regs_at m p).b ≢ wake_signal
@@ -49,7 +49,7 @@ pub record GetsWake (m : Inner) (p q : ℕ) (new : Bool) : Type 0 where
   pub asleep : is_asleep m q ≡ true
   pub woken : new ≡ true
 
--- the record of another process changes by F$Send, by F$SPrior and by the end of its parent alone
+-- the record of another process changes only by F$Send, by F$SPrior and by the end of its parent
 pub record KeepsRecord (m : Inner) (p : ℕ) (end : EventEnd) (q : ℕ) (old new : Record) : Type 0 where
   pub parent : (new.parent ≡ old.parent) ⊎ (end ≡ Ended) × (old.parent.0 ≡ p) × (new.parent.0 ≡ 0)
   pub priority : (new.priority ≡ old.priority) ⊎ CallsOn m p Call.SPrior q × (new.priority ≡ (regs_at m p).b)
@@ -57,7 +57,7 @@ pub record KeepsRecord (m : Inner) (p : ℕ) (end : EventEnd) (q : ℕ) (old new
   -- user, registers, life and intercept are as before
   pub others : new ≡ record old { parent = new.parent; priority = new.priority; signal = new.signal }
 
--- what another process has beside its record: a wake may come by F$Send, and its primary module may leave
+-- the rest of another process: F$Send may wake it, and its primary module may leave
 pub record KeepsOwn (m : Inner) (p : ℕ) (n : MemoryState) (q : ℕ) (old new : Own) : Type 0 where
   pub woken : (new.woken ≡ old.woken) ⊎ GetsWake m p q new.woken
   pub primary : (new.primary ≡ old.primary)
@@ -72,14 +72,14 @@ pub record Stays (m : Inner) (p : ℕ) (end : EventEnd) (n : Inner) (q : ℕ) (o
   pub own : KeepsOwn m p n.memory q (own_at m q) (own_at n q)
   pub record_is : KeepsRecord m p end q old new
 
--- another process goes: it had ended, and its parent was given its status or has ended too
+-- another process disappears: it had ended, and its parent was given its status or has ended too
 pub record Goes (m : Inner) (p : ℕ) (end : EventEnd) (old : Record) : Type 0 where
   pub child : old.parent.0 ≡ p
   pub had_ended : has_ended old.life ≡ true
   pub cause : AttemptsCall m p Call.Wait ⊎ (end ≡ Ended)
 
 -- another process begins: F$Fork makes it, with the least number that has no record and its parent's user and priority;
--- it runs, and sees new and shared objects alone
+-- it runs, and sees only new and shared objects
 pub record Begins (m : Inner) (p : ℕ) (n : Inner) (q : ℕ) (new : Record) : Type 0 where
   pub call : AttemptsCall m p Call.Fork
   pub number : free_process m.records ≡ Some q
@@ -92,7 +92,7 @@ pub record Begins (m : Inner) (p : ℕ) (n : Inner) (q : ℕ) (new : Record) : T
   pub map : (object : ℕ) → NamesBlock (map_at n.memory q) object → IsNewOrShared m.memory n.memory object
   pub parent_map : map_at n.memory p ≡ map_at m.memory p
 
--- what comes of another process, which had the one record, if any, and has the other one then
+-- the change of another process, from the one record, if any, to the other
 abbrev pub ComesOf : Inner → ℕ → EventEnd → Inner → ℕ → Option Record → Option Record → Type 0
 ComesOf m p end n q (Some old) (Some new) = Stays m p end n q old new
 ComesOf m p end n q (Some old) None = Goes m p end old

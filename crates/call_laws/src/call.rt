@@ -9,8 +9,8 @@ ghost use Rattle.call_rules.specs.Inner.{Inner};
 ghost use Rattle.event_rules.specs.Event.{call_event_end};
 ghost use Rattle.proc_rules.specs.Records.{IsLiving};
 
-/// An attempt of a call on processes and modules leaves the bytes of each object outside the map of
-/// the process, and every other process but for what the call changes of it.
+/// An attempt of a call on processes and modules leaves unchanged the bytes of each object outside
+/// the map of the process, and every other process except what the call changes of it.
 pub fn a_call_leaves_what_it_does_not_name()
     ensures { (m : Inner) (p : ℕ) (call : ProcCall) → IsLiving m.records p → AttemptsCall m p call
         → LeavesOthers m p

@@ -1,4 +1,5 @@
-//! What one call on processes and modules leaves of memory, of the modules and of the other processes.
+//! What one call on processes and modules leaves unchanged of memory, of the modules and of the
+//! other processes.
 #![tactic(auto)]
 
 pub mod call;

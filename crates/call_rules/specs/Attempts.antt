@@ -1,4 +1,4 @@
--- Attempts of calls: each call by its code, and what an attempt leaves (System Programmer's Manual, "System calls").
+-- Attempts of calls: each call by its code, and the result of an attempt (System Programmer's Manual, "System calls").
 use Rattle.std.specs.Prelude.{ℕ, ◌+◌, ◌-◌, ◌%◌, true, false, None}
 use Rattle.os9_base.specs.declared.call.CallEnd.{CallEnd}
 use Rattle.os9_base.specs.declared.call.CallEnd.TheVariants.{Done, Error, Wait, Ended}
@@ -54,21 +54,21 @@ carry_clear cc = cc - cc % 2
 abbrev pub carry_set : ℕ → ℕ
 carry_set cc = cc - cc % 2 + 1
 
--- a call that is done clears carry
+-- the registers after a completed call: carry is clear
 abbrev pub done_regs : Regs → Regs
 done_regs regs = record regs { cc = carry_clear regs.cc }
 
--- a call that is refused sets carry, and puts the number in B
+-- the registers after a refused call: carry is set, and B is the number
 abbrev pub refused_regs : Regs → ℕ → Regs
 refused_regs regs number = record regs { cc = carry_set regs.cc; b = number }
 
--- the state where a process has no call any more, and goes on with these registers
+-- the state in which a process has no call any more, and goes on with these registers
 abbrev pub goes_on : Inner → ℕ → Regs → Inner
 goes_on s p regs =
     with_own (with_records s (with_waiting (with_regs s.records p regs) p false)) p
     (record (own_at s p) { call = None; until = None; woken = false })
 
--- the state where a process waits
+-- the state in which a process waits
 abbrev pub waiting : Inner → ℕ → Inner
 waiting s p = with_records s (with_waiting s.records p true)
 

@@ -1,4 +1,4 @@
--- What an attempt of a call comes to. A call that is refused leaves no state of its own.
+-- The result of an attempt of a call. A refused call leaves no state of its own.
 use Rattle.std.specs.Prelude.{ℕ, Bool, true, false, Option, Some, None, Result, Ok, Err, List}
 use Rattle.os9_base.specs.declared.errors.TheConstants.{E_BPADDR}
 use Rattle.proc_model.specs.declared.memory.MemoryFault.{MemoryFault}
@@ -8,26 +8,26 @@ use Rattle.user_names.specs.declared.name_fault.NameFault.TheVariants.{Unreadabl
 use Rattle.call_rules.specs.Inner.{Inner}
 
 pub data CallResult : Type 0 where
-  -- it is done, and this is the state then
+  -- it is done, with this state afterwards
   done : Inner → CallResult
   -- it is refused with this number
   refused : ℕ → CallResult
-  -- it waits, and this is the state then
+  -- it waits, with this state afterwards
   waits : Inner → CallResult
   -- the process ends with this status
   ends : ℕ → CallResult
 
--- the call goes on with what there is, or is refused with this number if there is nothing
+-- the call goes on with the value, or is refused with this number if there is none
 abbrev pub needs : {A : Type 0} → Option A → ℕ → (A → CallResult) → CallResult
 needs None number next = refused number
 needs (Some a) number next = next a
 
--- the call is refused with this number if the test is true, and else goes on
+-- the call is refused with this number if the test is true, and goes on otherwise
 abbrev pub refuses : Bool → ℕ → CallResult → CallResult
 refuses true number next = refused number
 refuses false number next = next
 
--- the call goes on with the memory as it is changed, or is refused as this change is
+-- the call goes on with the changed memory, or is refused with the error of the change
 abbrev pub changes : Result MemoryState MemoryFault → (MemoryState → CallResult) → CallResult
 changes (Ok memory) next = next memory
 changes (Err fault) next = refused (memory_error fault)

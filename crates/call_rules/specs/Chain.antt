@@ -1,6 +1,6 @@
 -- F$Chain: starts another program in this process (System Programmer's Manual, F$Chain).
--- Takes what F$Fork takes. The process keeps its number, parent, user, priority, age, children and a pending signal; it
--- gives up its map, its intercept and one link to its old primary module, after the new one was linked.
+-- Takes the same registers as F$Fork. The process keeps its number, parent, user, priority, age, children and a pending
+-- signal; it gives up its map, its intercept and one link to its old primary module, after the new one was linked.
 -- Errors: those of F$Fork but E$PrcFul. The blocks of its own data area count as free.
 use Rattle.std.specs.Prelude.{ℕ, nat_lt, None}
 use Rattle.os9_base.specs.declared.errors.TheConstants.{E_MEMFUL}
@@ -13,7 +13,7 @@ use Rattle.call_rules.specs.ModuleLinks.{without_primary_link}
 use Rattle.call_rules.specs.Program.{Program, most_pages, blocks_of_pages, start_regs, start_own, with_parameters, reads_program}
 use Rattle.call_rules.specs.CallResult.{CallResult, done, refuses, changes}
 
--- the state where a process begins anew with this program in this memory
+-- the state in which a process begins anew with this program in this memory
 abbrev pub begun_anew : Inner → ℕ → Program → Inner
 begun_anew s p program =
     with_own (with_records s (with_intercept (with_regs s.records p (start_regs program)) p None)) p (start_own program)

@@ -5,11 +5,12 @@ use Rattle.proc_rules.specs.Turns.{Choice, choose}
 use Rattle.call_rules.specs.Inner.{Inner}
 use Rattle.call_rules.specs.Ready.{is_ready}
 
--- the priority of a living process, and 0 of any other number
+-- the priority of a living process, and 0 for any other number
 abbrev pub turn_priority : Inner → ℕ → ℕ
 turn_priority s p = if is_living s.records p then (record_at s.records p).priority else 0
 
--- who is chosen, if a process is Ready, and the order of choice then; input and output let the calls of these go on
+-- the chosen process, if a process is Ready, and the order of choice afterwards, given the processes with calls on
+-- input and output that may go on
 abbrev pub choice_of : (ℕ → Bool) → Inner → Choice
 choice_of io s = choose (is_ready io s) (turn_priority s) s.order
 

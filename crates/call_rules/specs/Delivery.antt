@@ -16,21 +16,21 @@ use Rattle.call_rules.specs.UserBytes.{user_bytes, word_bytes}
 abbrev pub entire_set : ℕ → ℕ
 entire_set cc = if nat_lt cc 128 then cc + 128 else cc
 
--- the twelve bytes of a frame, as they lie from its lowest address on; RTI pulls them
+-- the twelve bytes of a frame, from its lowest address on; RTI pulls them
 abbrev pub frame_bytes : Regs → List ℕ
 frame_bytes regs =
     (entire_set regs.cc ∷ regs.a ∷ regs.b ∷ regs.dp ∷ [])
     ++ (word_bytes regs.x ++ (word_bytes regs.y ++ (word_bytes regs.u ++ word_bytes regs.pc)))
 
--- the end of what lies below a stack pointer: that of 0 is at the end of memory
+-- the end of the bytes below a stack pointer: for 0 it is the end of memory
 abbrev pub stack_top : ℕ → ℕ
 stack_top s = if s == 0 then 65536 else s
 
--- a frame has no room below a stack pointer: it would go round, or its bytes are not all in named slots
+-- there is no room for a frame below a stack pointer: it would wrap around, or not all its bytes are in named slots
 abbrev pub has_no_room : Inner → ℕ → ℕ → Bool
 has_no_room s p top = nat_lt top 12 || is_none (user_bytes (cells_at s p) (top - 12) 12)
 
--- the registers with which a process goes on before a frame is pushed: a call that waits ends with the signal
+-- the registers with which a process goes on before a frame is pushed: a pending call ends with the signal
 abbrev pub interrupted_regs : Inner → ℕ → ℕ → Regs
 interrupted_regs s p signal =
     if is_waiting (record_at s.records p).life then refused_regs (regs_at s p) signal else regs_at s p
@@ -40,13 +40,13 @@ abbrev pub routine_regs : Regs → Intercept → ℕ → ℕ → Regs
 routine_regs regs intercept signal frame =
     record regs { b = signal; u = intercept.area; s = frame; pc = intercept.routine }
 
--- the state where these registers are pushed as a frame, and the routine begins
+-- the state in which these registers are pushed as a frame, and the routine begins
 abbrev pub with_frame : Inner → ℕ → Intercept → ℕ → Regs → ℕ → Inner
 with_frame s p intercept signal regs frame =
     with_regs_of (with_memory s (stored s.memory p frame (frame_bytes regs))) p
     (routine_regs regs intercept signal frame)
 
--- the state where a signal is pending no more, and the call that waited, if one did, is over
+-- the state in which a signal is not pending any more, and the pending call, if there was one, is over
 abbrev pub interrupted : Inner → ℕ → ℕ → Inner
 interrupted s p signal =
     (if is_waiting (record_at s.records p).life then goes_on taken p (interrupted_regs s p signal) else taken)
@@ -54,7 +54,7 @@ interrupted s p signal =
     taken : Inner
     taken = with_records s (with_signal s.records p None)
 
--- the routine of an intercept begins; or the process ends with E$PrcAbt, where the frame has no room
+-- the routine of an intercept begins; or the process ends with E$PrcAbt if there is no room for the frame
 abbrev pub routine_begun : Inner → ℕ → Intercept → ℕ → Result Inner ℕ
 routine_begun s p intercept signal =
     if has_no_room s p (stack_top (regs_at s p).s)
@@ -62,7 +62,7 @@ routine_begun s p intercept signal =
     else Ok (with_frame (interrupted s p signal) p intercept signal (interrupted_regs s p signal)
     (stack_top (regs_at s p).s - 12))
 
--- what a signal comes to: the state where the routine has begun, or the status with which the process ends
+-- the result of a signal: the state in which the routine has begun, or the status with which the process ends
 abbrev pub delivered : Inner → ℕ → ℕ → Result Inner ℕ
 delivered s p signal = of_intercept (record_at s.records p).intercept
   where

@@ -7,7 +7,7 @@ use Rattle.proc_rules.specs.Turns.{without_turn}
 use Rattle.call_rules.specs.Inner.{Inner, no_own, own_at, with_own}
 use Rattle.call_rules.specs.ModuleLinks.{without_primary_link}
 
--- the state where a process lives no more, and has nothing
+-- the state in which a process does not live any more, and has nothing
 abbrev pub without_process : Inner → ℕ → ℕ → Inner
 without_process s p status =
     with_own (record s {

@@ -1,6 +1,7 @@
 -- F$Fork: starts a process (System Programmer's Manual, F$Fork).
--- Takes the type and language of the program in A, the pages of its data area in B, its name at X, and the size and the
--- address of its parameters in Y and U; answers the number of the new process in A, and X past the name.
+-- Takes the type and language of the program in A, the pages of its data area in B, the address of its name in X, and
+-- the size and the address of its parameters in Y and U. Returns the number of the new process in A, and the address
+-- after the name in X.
 -- Errors: those of a program that is to be started, then E$PrcFul, E$MemFul and E$NoRAM.
 use Rattle.std.specs.Prelude.{ℕ, ◌+◌, ◌%◌, nat_lt, Option, List}
 use Rattle.os9_base.specs.declared.errors.TheConstants.{E_MEMFUL, E_PRCFUL}
@@ -14,13 +15,13 @@ use Rattle.call_rules.specs.Inner.{Inner, regs_at, with_regs_of, with_own}
 use Rattle.call_rules.specs.Program.{Program, most_pages, blocks_of_pages, start_regs, start_own, with_parameters, reads_program}
 use Rattle.call_rules.specs.CallResult.{CallResult, done, needs, refuses, changes}
 
--- the records with a child of a process, which starts the program: its user and its priority are its parent's
+-- the records with a new child of a process, which starts the program: it has the parent's user and priority
 abbrev pub with_child_record : List (Option Record) → ℕ → ℕ → Program → List (Option Record)
 with_child_record records p child program =
     with_regs (after_make records (record { 0 = p }) (record_at records p).user (record_at records p).priority) child
     (start_regs program)
 
--- the state with a child of a process, which starts the program in this memory
+-- the state with a new child of a process, which starts the program in this memory
 abbrev pub with_child : Inner → ℕ → ℕ → Program → MemoryState → Inner
 with_child s p child program memory =
     with_own (record s {
@@ -29,7 +30,7 @@ with_child s p child program memory =
       order = with_turn s.order (record { 0 = child }) (record_at s.records p).priority;
     }) child (start_own program)
 
--- the registers of the parent then; behind FFFF X is 0
+-- the registers of the parent afterwards; past FFFF X is 0
 abbrev pub forked_regs : Regs → ℕ → Program → Regs
 forked_regs regs child program = record regs { a = child; x = (regs.x + program.count) % 65536 }
 

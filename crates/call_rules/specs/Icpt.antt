@@ -1,5 +1,5 @@
 -- F$Icpt: sets the intercept (System Programmer's Manual, F$Icpt).
--- Takes the address of the routine in X and that of its area in U; X 0 takes the intercept away.
+-- Takes the address of the routine in X and the address of its area in U; X 0 removes the intercept.
 use Rattle.std.specs.Prelude.{ℕ}
 use Rattle.proc_rules.specs.Signals.{intercept_of, with_intercept}
 use Rattle.call_rules.specs.Inner.{Inner, regs_at, with_records}

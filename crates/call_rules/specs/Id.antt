@@ -1,5 +1,5 @@
--- F$ID: asks for the process number and the user (System Programmer's Manual, F$ID).
--- Answers the number of the process in A, and its user in Y.
+-- F$ID: returns the process number and the user (System Programmer's Manual, F$ID).
+-- Returns the number of the process in A, and its user in Y.
 use Rattle.std.specs.Prelude.{ℕ}
 use Rattle.call_rules.specs.Inner.{Inner, regs_at, user_at, with_regs_of}
 use Rattle.call_rules.specs.CallResult.{CallResult, done}

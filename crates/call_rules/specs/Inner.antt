@@ -10,19 +10,19 @@ use Rattle.proc_rules.specs.declared.record.Record.{Record}
 use Rattle.proc_rules.specs.declared.turn.Turn.{Turn}
 use Rattle.proc_rules.specs.Records.{record_at, with_regs}
 
--- memory, and what there is of each process
+-- memory, and the data of each process
 pub record Inner : Type 0 where
   pub memory : MemoryState
   pub records : List (Option Record)  -- by process number, from 0 to 32
-  pub own : List Own  -- by process number: what it has beside its record and its memory
+  pub own : List Own  -- by process number: its data other than its record and its memory
   pub order : List Turn  -- the living processes, the one chosen longest ago first
   pub tick : ℕ
 
--- what a process has that is none: nothing
+-- the data of a process that does not exist: none
 abbrev pub no_own : Own
 no_own = record { size = 0; primary = None; links = replicate 8 0; call = None; until = None; woken = false }
 
--- what a process has beside its record and its memory
+-- the data of a process other than its record and its memory
 abbrev pub own_at : Inner → ℕ → Own
 own_at s p = slice_index_or s.own p no_own
 
@@ -38,7 +38,7 @@ user_at s p = (record_at s.records p).user
 abbrev pub cells_at : Inner → ℕ → Cells
 cells_at s p = object_cells s.memory.objects (map_at s.memory p).places
 
--- the state with another memory, with other records, with other registers of a process, or with other things of its own
+-- the state with another memory, with other records, with other registers of a process, or with other data of its own
 abbrev pub with_memory : Inner → MemoryState → Inner
 with_memory s memory = record s { memory = memory }
 

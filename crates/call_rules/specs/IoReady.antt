@@ -2,6 +2,6 @@
 use Rattle.std.specs.Prelude.{ℕ, Bool, false, slice_index_or}
 use Rattle.call_rules.specs.declared.io_ready.IoReady.{IoReady}
 
--- input and output let the call of this process go on
+-- the call of this process on input and output may go on
 abbrev pub has_io : IoReady → ℕ → Bool
 has_io ready p = slice_index_or ready.places p false

@@ -1,6 +1,6 @@
 -- F$Link: links a module (System Programmer's Manual, F$Link).
--- Takes the type and language in A and the name at X; answers the module's type and language in A, its attributes and
--- revision in B, X past the name, its entry in Y and its header's address in U.
+-- Takes the type and language in A and the address of the name in X. Returns the module's type and language in A, its
+-- attributes and revision in B, the address after the name in X, its entry in Y and its header's address in U.
 -- Errors: E$BPAddr, E$BNam, E$MNF, E$MemFul (no slots are left in the map, or no links).
 use Rattle.std.specs.Prelude.{ℕ, ◌+◌, ◌%◌, nat_le, Option, Some, None, List, length, slice_index_or, slice_set}
 use Rattle.std.specs.Option.{option_map_or}
@@ -17,26 +17,26 @@ use Rattle.call_rules.specs.Inner.{Inner, own_at, regs_at, cells_at, with_memory
 use Rattle.call_rules.specs.ModuleLinks.{Entered, found_entry, header_address}
 use Rattle.call_rules.specs.CallResult.{CallResult, done, needs, refuses, reads_name}
 
--- a group as a process has it: the slot at which it begins, and the memory then
+-- a group in the map of a process: the slot at which it begins, and the memory afterwards
 pub record Mapped : Type 0 where
   pub slot : ℕ
   pub memory : MemoryState
 
--- a group where it is in the map already, or else in the highest free slots; nothing if there are too few
+-- a group at its slots if it is in the map already, else in the highest free slots; nothing if there are too few
 abbrev pub mapped_group : MemoryState → ℕ → List ℕ → Option Mapped
 mapped_group m p group =
     option_map_or (λ slot. Some (record { slot = slot; memory = m }))
     (group_slot (map_at m p) group)
     (option_map_or (λ mapped. Some (record { slot = mapped.0; memory = mapped.1 })) (group_mapped m p group) None)
 
--- how many links a process has to the group at a slot
+-- the number of links of a process to the group at a slot
 abbrev pub links_at : Own → ℕ → ℕ
 links_at own slot = slice_index_or own.links slot 0
 
 abbrev pub with_links_at : Own → ℕ → ℕ → Own
 with_links_at own slot links = record own { links = slice_set own.links slot links }
 
--- the registers after a link: the name had so many characters; behind FFFF X is 0
+-- the registers after a link, for a name of this length; past FFFF X is 0
 abbrev pub linked_regs : Regs → ModuleEntry → ℕ → ℕ → Regs
 linked_regs regs entry address count =
     record regs {

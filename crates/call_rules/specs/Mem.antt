@@ -1,6 +1,6 @@
 -- F$Mem: sets the size of the data area (System Programmer's Manual, F$Mem).
--- Takes the size in bytes in D, 0 to ask for it; answers the size, rounded up to pages, in D and Y. Blocks that are not
--- needed any more are given back.
+-- Takes the size in bytes in D, or 0 to ask for the current size. Returns the size, rounded up to pages, in D and Y.
+-- Blocks that are not needed any more are given back.
 -- Errors: E$MemFul (more than 57,344 bytes, or a slot is named), E$NoRAM.
 use Rattle.std.specs.Prelude.{ℕ, ◌-◌, ◌*◌, ◌==◌, nat_lt, Result, Ok, if◌then◌else◌}
 use Rattle.os9_base.specs.declared.errors.TheConstants.{E_MEMFUL}
@@ -13,22 +13,22 @@ use Rattle.call_rules.specs.Program.{page_count, most_pages, blocks_of_pages}
 use Rattle.call_rules.specs.CallResult.{CallResult, done, refuses, changes}
 use Rattle.call_rules.specs.UserBytes.{d_of, with_d}
 
--- the registers that answer a size in bytes
+-- the registers with a size in bytes as the result
 abbrev pub size_regs : Regs → ℕ → Regs
 size_regs regs size = record (with_d regs size) { y = size }
 
--- the memory where the data area of a process has so many blocks
+-- the memory in which the data area of a process has this number of blocks
 abbrev pub resized : MemoryState → ℕ → ℕ → Result MemoryState MemoryFault
 resized m p count =
     if nat_lt (map_at m p).low count then grown m p (count - (map_at m p).low) else Ok (cut m p count)
 
--- the state where the data area of a process has this size in bytes
+-- the state in which the data area of a process has this size in bytes
 abbrev pub with_size : Inner → ℕ → ℕ → MemoryState → Inner
 with_size s p size memory =
     with_regs_of (with_own (with_memory s memory) p (record (own_at s p) { size = size })) p
     (size_regs (regs_at s p) size)
 
--- the data area gets so many pages
+-- the data area gets this number of pages
 abbrev pub sets_pages : Inner → ℕ → ℕ → CallResult
 sets_pages s p pages =
     refuses (nat_lt most_pages pages) E_MEMFUL

@@ -21,7 +21,7 @@ entered_at entries number =
 abbrev pub found_entry : List (Option ModuleEntry) → List ℕ → ℕ → Option Entered
 found_entry entries name kind = option_and_then (entered_at entries) (found_module entries name kind)
 
--- the address of an entered module whose group begins at this slot
+-- the address of an entered module with a group that begins at this slot
 abbrev pub header_address : ℕ → ModuleEntry → ℕ
 header_address slot entry = 8192 * slot + entry.info.at
 
@@ -34,7 +34,7 @@ is_at slots address entry =
 abbrev pub module_at : List (Option ModuleEntry) → Slots ℕ → ℕ → Option Entered
 module_at entries slots address = option_and_then (entered_at entries) (position (passes (is_at slots address)) entries)
 
--- a primary module that is entered still
+-- a primary module that is still entered
 abbrev pub still_primary : List (Option ModuleEntry) → Own → Own
 still_primary entries own =
     record own {
@@ -42,8 +42,8 @@ still_primary entries own =
           option_and_then (λ id. if is_some (module_entry_at entries id.0) then Some id else None) own.primary;
     }
 
--- a link of an entered module is given up; where its group leaves memory with it, no process has a primary module of
--- the group any more
+-- a link of an entered module is given up; if its group leaves memory with it, no process has a primary module of the
+-- group any more
 abbrev pub without_module_link : Inner → ℕ → Inner
 without_module_link s number =
     record s {
@@ -52,6 +52,6 @@ without_module_link s number =
       own = map (still_primary (unlinked s.memory number).modules) s.own;
     }
 
--- the link of its primary module is given up by a process, if it has one
+-- a process gives up the link to its primary module, if it has one
 abbrev pub without_primary_link : Inner → Own → Inner
 without_primary_link s own = option_map_or (λ id. without_module_link s id.0) own.primary s

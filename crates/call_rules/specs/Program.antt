@@ -1,6 +1,6 @@
 -- The program that F$Fork and F$Chain start (System Programmer's Manual, F$Fork and F$Chain).
--- A is its type and language, B the pages of its data area, X its name, Y and U the size and the address of its
--- parameters.
+-- A is its type and language, B the pages of its data area, X the address of its name, Y and U the size and the address
+-- of its parameters.
 -- Errors, in this order: E$BPAddr; E$NEMod (of A); E$BNam and E$MNF, since no file is loaded; E$NEMod (of the module).
 use Rattle.std.specs.Prelude.{ℕ, ◌+◌, ◌-◌, ◌*◌, ◌/◌, ◌%◌, ◌==◌, ◌||◌, not, max, Bool, true, false, Option, Some, None, unwrap_or, List, length, slice_get, replicate, slice_set, if◌then◌else◌}
 use Rattle.std.specs.Option.{option_map_or}
@@ -35,22 +35,22 @@ ends_in_slash bytes = unwrap_or (slice_get bytes (length bytes - 1)) 0 == slash
 abbrev pub name_of_run : List ℕ → ProgramName
 name_of_run bytes = option_map_or OneName (parsed_name bytes) PathList
 
--- the same of a run that ends in a slash, by the byte behind it: a character of a name makes it a path list
+-- the same for a run that ends in a slash, by the byte after it: a character of a name makes it a path list
 abbrev pub name_before_slash : List ℕ → Option ℕ → ProgramName
 name_before_slash bytes None = Unreadable
 name_before_slash bytes (Some byte) = if is_name_character (low_bits byte) then PathList else name_of_run bytes
 
--- the same of the run at an address: the byte behind a slash is read
+-- the same for the run at an address: the byte after a slash is read
 abbrev pub name_by_run : Cells → ℕ → List ℕ → ProgramName
 name_by_run cells at bytes =
     if ends_in_slash bytes then name_before_slash bytes (user_cell cells (at + length bytes)) else name_of_run bytes
 
--- What the bytes at an address name. They are one name unless they begin with a slash, or a slash with a character of a
--- name stands behind the first name; else they are a path list, or nothing that names a program.
+-- What the bytes at an address name. They are one name unless they begin with a slash, or a slash and a character of a
+-- name follow the first name; otherwise they are a path list, or nothing that names a program.
 abbrev pub program_name : Cells → ℕ → ProgramName
 program_name cells at = option_map_or (name_by_run cells at) (run_bytes cells at 30) Unreadable
 
--- a byte that has to be read is not there
+-- a byte that has to be read is missing
 abbrev pub is_unreadable : ProgramName → Bool
 is_unreadable Unreadable = true
 is_unreadable (OneName name) = false
@@ -68,21 +68,22 @@ name_at_x s p = program_name (cells_at s p) (regs_at s p).x
 
 -- ---- its type
 
--- a type and language of 6809 programs
+-- the type and language of 6809 programs
 abbrev pub program_kind : ℕ
 program_kind = 0x11
 
--- what a call may ask for: any type and language, or a program in any language or in 6809 code
+-- the types and languages that a call may ask for: any, or a program in any language or in 6809 code
 abbrev pub asks_for_program : ℕ → Bool
 asks_for_program kind = (kind == 0) || (kind == 0x10) || (kind == program_kind)
 
 -- ---- its data area
 
--- so many bytes in pages of 256
+-- the number of pages of 256 bytes for this number of bytes
 abbrev pub page_count : ℕ → ℕ
 page_count bytes = (bytes + 255) / 256
 
--- the pages of a new data area: one at least, those of the module's storage, those asked for, those of the parameters
+-- the pages of a new data area: at least one, those of the module's storage, those that the call asks for, those of the
+-- parameters
 abbrev pub area_pages : ModuleEntry → ℕ → ℕ → ℕ
 area_pages entry pages parameters = max 1 (max (page_count entry.info.storage) (max pages (page_count parameters)))
 
@@ -90,14 +91,14 @@ area_pages entry pages parameters = max 1 (max (page_count entry.info.storage) (
 abbrev pub most_pages : ℕ
 most_pages = MOST_GROUP_BYTES / 256
 
--- so many pages in blocks of 8,192 bytes
+-- the number of blocks of 8,192 bytes for this number of pages
 abbrev pub blocks_of_pages : ℕ → ℕ
 blocks_of_pages pages = (pages + 31) / 32
 
 -- ---- what is started
 
--- a program to be started: its module, the pages of its data area, the bytes of its parameters, and how many
--- characters its name has
+-- a program to be started: its module, the pages of its data area, the bytes of its parameters, and the length of its
+-- name
 pub record Program : Type 0 where
   pub entered : Entered
   pub pages : ℕ
@@ -112,7 +113,7 @@ program_slot program = 8 - length program.entered.entry.group
 abbrev pub area_size : Program → ℕ
 area_size program = 256 * program.pages
 
--- where its parameters begin: they end at the end of the data area
+-- the address of its parameters: they end at the end of the data area
 abbrev pub parameters_at : Program → ℕ
 parameters_at program = area_size program - length program.parameters
 
@@ -130,7 +131,7 @@ start_regs program = record {
   pc = header_address (program_slot program) program.entered.entry + program.entered.entry.info.entry;
 }
 
--- what it has beside its record and its memory
+-- its data other than its record and its memory
 abbrev pub start_own : Program → Own
 start_own program =
     record no_own {

@@ -1,6 +1,6 @@
 -- F$PrsNam: parses a name (System Programmer's Manual, F$PrsNam).
--- Takes the address of the name in X; one slash before it is passed. Answers the address of its first character in X,
--- that behind its last one in Y, its length in B, and the byte at Y in A.
+-- Takes the address of the name in X, and skips one slash before it. Returns the address of its first character in X,
+-- the address after its last one in Y, its length in B, and the byte at Y in A.
 -- Errors: E$BPAddr, E$BNam; then E$BPAddr of the byte at Y.
 use Rattle.std.specs.Prelude.{ℕ, ◌+◌, ◌==◌, length, if◌then◌else◌}
 use Rattle.os9_base.specs.Cells.{Cells}
@@ -12,11 +12,11 @@ use Rattle.call_rules.specs.Inner.{Inner, regs_at, cells_at, with_regs_of}
 use Rattle.call_rules.specs.Program.{slash}
 use Rattle.call_rules.specs.CallResult.{CallResult, done, needs, reads_name}
 
--- the address behind one slash, if there is one
+-- the address after one slash, if there is one
 abbrev pub past_slash : Cells → ℕ → ℕ
 past_slash cells at = option_map_or (λ byte. if byte == slash then at + 1 else at) (user_cell cells at) at
 
--- the registers for a name of so many characters at an address, with the byte behind it
+-- the registers for a name of this length at an address, with the byte after it
 abbrev pub name_regs : Regs → ℕ → ℕ → ℕ → Regs
 name_regs regs first count next = record regs { a = next; b = count; x = first; y = first + count }
 

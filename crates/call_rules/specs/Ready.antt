@@ -7,18 +7,18 @@ use Rattle.call_rules.specs.Sleep.{may_wake}
 use Rattle.call_rules.specs.Send.{is_call}
 use Rattle.os9_base.specs.declared.calls.TheConstants.{F_WAIT, F_SLEEP}
 
--- a child of a process that waits for one has ended, or the sleep of a process may end
+-- a child of a waiting process has ended, or the sleep of a process may end
 abbrev pub may_go_on : Inner → ℕ → Bool
 may_go_on s p =
     (is_call (own_at s p).call F_WAIT && is_some (ended_child s.records p))
     || (is_call (own_at s p).call F_SLEEP && may_wake s.tick (own_at s p))
 
--- input and output let no call that waits go on
+-- no pending call on input and output may go on
 abbrev pub no_io : ℕ → Bool
 no_io p = false
 
--- a process is Ready, where input and output let the calls of these go on: it lives, and does not wait, or a signal is
--- pending, or its wait for a child, its sleep or its call on input and output may end
+-- a process is Ready, given the processes with calls on input and output that may go on: it lives, and it does not
+-- wait, or has a pending signal, or its wait for a child, its sleep or its call on input and output may end
 abbrev pub is_ready : (ℕ → Bool) → Inner → ℕ → Bool
 is_ready io s p =
     is_living s.records p
@@ -35,7 +35,7 @@ pub data Act : Type 0 where
   executes : Act
 
 -- The next event of a process: the first that applies of the first attempt of its call, the delivery of a pending
--- signal, a further attempt, an instruction. A call whose process waits was attempted.
+-- signal, a further attempt, an instruction. A call of a waiting process was already attempted.
 abbrev pub next_act : Option ℕ → Bool → Option ℕ → Act
 next_act (Some code) false signal = attempts code
 next_act (Some code) true (Some signal) = delivers signal

@@ -1,4 +1,4 @@
--- States that are worked through by hand, one attempt after another.
+-- States computed by hand, one attempt after another.
 use Rattle.std.specs.Prelude.{ℕ, zero, suc, ◌+◌, true, Some, None, List, [], ◌∷◌, ◌++◌, replicate, slice_set}
 use Rattle.os9_base.specs.declared.calls.TheConstants.{F_SLEEP}
 use Rattle.os9_base.specs.declared.registers.Regs.{Regs}
@@ -33,11 +33,11 @@ next_tick s = record s { tick = s.tick + 1 }
 abbrev pub running_with : Regs → Record
 running_with regs = record (new_record (record { 0 = 1 }) 0 128) { regs = regs }
 
--- the maps where a process has this object in slot 0
+-- the maps in which a process has this object in slot 0
 abbrev pub with_data_in : ℕ → ℕ → List (Slots ℕ) → List (Slots ℕ)
 with_data_in p object maps = slice_set maps p (with_low no_slots (object ∷ []))
 
--- the state where processes 2 and 3 have these registers and see the same bytes from address 0 on
+-- the state in which processes 2 and 3 have these registers and see the same bytes from address 0 on
 abbrev pub two_processes : List ℕ → Regs → Regs → Inner
 two_processes bytes first second = record {
   memory = record {
@@ -52,7 +52,7 @@ two_processes bytes first second = record {
   tick = 10;
 }
 
--- the state where process 2 has these registers and sees these bytes from address 0 on
+-- the state in which process 2 has these registers and sees these bytes from address 0 on
 abbrev pub one_process : List ℕ → Regs → Inner
 one_process bytes regs = two_processes bytes regs zero_regs
 
@@ -62,15 +62,15 @@ one_process bytes regs = two_processes bytes regs zero_regs
 abbrev pub path_text : List ℕ
 path_text = replicate 0x40 0 ++ (0x2F ∷ 0x44 ∷ 0x30 ∷ 0x2F ∷ 0x43 ∷ 0x4D ∷ 0x44 ∷ 0x53 ∷ 0x0D ∷ [])
 
--- the state where process 2 parses what stands there
+-- the state in which process 2 parses the bytes at this address
 abbrev pub parsing : ℕ → Inner
 parsing at = one_process path_text (record zero_regs { x = at })
 
--- `abc`, and behind it `AB` and a C with bit 7
+-- `abc`, and after it `AB` and a C with bit 7
 abbrev pub two_names : List ℕ
 two_names = 0x61 ∷ 0x62 ∷ 0x63 ∷ 0x41 ∷ 0x42 ∷ 0xC3 ∷ []
 
--- the state where process 2 compares so many characters of the first with the second
+-- the state in which process 2 compares this number of characters of the first name with the second
 abbrev pub comparing : ℕ → Inner
 comparing count = one_process two_names (record zero_regs { b = count; y = 3 })
 
@@ -82,12 +82,12 @@ sleeper_and_sender ticks signal =
     with_own (two_processes (replicate 64 0) (record zero_regs { cc = 1; x = ticks; s = 0x30; pc = 0x22 })
     (record zero_regs { a = 2; b = signal })) 2 (record no_own { call = Some F_SLEEP })
 
--- the state two ticks after process 2 fell asleep, where process 3 has sent its signal to it in the first of them
+-- the state two ticks after process 2 fell asleep, in which process 3 sent it this signal in the first of them
 abbrev pub sent_asleep : ℕ → ℕ → Inner
 sent_asleep ticks signal =
     next_tick (after_call Call.Send 3 (next_tick (after_call Call.Sleep 2 (sleeper_and_sender ticks signal))))
 
--- the state where process 2 has an intercept, and process 3 has sent it signal 7
+-- the state in which process 2 has an intercept, and process 3 has sent it signal 7
 abbrev pub sent_seven : Inner
 sent_seven = after_call Call.Send 3 (record (sleeper_and_sender 0 7) {
   records =
@@ -95,7 +95,7 @@ sent_seven = after_call Call.Send 3 (record (sleeper_and_sender 0 7) {
   own = replicate 33 no_own;
 })
 
--- the state where it is delivered
+-- the state in which the signal is delivered
 abbrev pub seven_delivered : Inner
 seven_delivered = after_delivery sent_seven 2 (delivered sent_seven 2 7)
 
@@ -110,7 +110,7 @@ small_program = record {
   is_boot = true;
 }
 
--- the state where process 2 runs that program with one block of data, which has its name at 0 and five bytes behind it
+-- the state in which process 2 runs that program with one block of data: its name is at 0, and five bytes follow it
 abbrev pub forker : ℕ → Inner
 forker blocks = record {
   memory = record {
@@ -125,30 +125,30 @@ forker blocks = record {
   tick = 1;
 }
 
--- the state where it has these bytes at 0
+-- the state in which it has these bytes at 0
 abbrev pub forker_of : List ℕ → Inner
 forker_of bytes = with_memory (forker 64) (record (forker 64).memory { objects = zero_object ∷ bytes ∷ [] })
 
--- the state where process 2 has these registers
+-- the state in which process 2 has these registers
 abbrev pub calling : Regs → Inner → Inner
 calling regs s = with_regs_of s 2 regs
 
--- the state where its five parameters are those from an address on
+-- the state in which its five parameters begin at this address
 abbrev pub with_five : ℕ → Inner
 with_five at = calling (record zero_regs { y = 5; u = at }) (forker 64)
 
--- the state where process 2 has forked once
+-- the state in which process 2 has forked once
 abbrev pub first_child : Inner → Inner
 first_child s = after_call Call.Fork 2 s
 
--- the state after so many calls of F$Fork by process 2, each by the name at 0
+-- the state after this number of F$Fork calls by process 2, each by the name at 0
 abbrev pub after_forks : ℕ → Inner → Inner
 after_forks zero s = s
 after_forks (suc n) s = after_call Call.Fork 2 (calling zero_regs (after_forks n s))
 
 -- ---- modules that are linked
 
--- the module `S` of data, 32 bytes behind the front of a group of one block
+-- the module `S` of data, 32 bytes after the start of a group of one block
 abbrev pub shared_module : ModuleEntry
 shared_module = record {
   info = record { name = 0x53 ∷ []; at = 0x20; size = 0x40; kind = 0x40; attr = 0x81; entry = 0; storage = 0 };
@@ -157,7 +157,7 @@ shared_module = record {
   is_boot = true;
 }
 
--- the state where processes 2 and 3 may link that module by its name at 0
+-- the state in which processes 2 and 3 may link that module by its name at 0
 abbrev pub may_link : Inner
 may_link = with_module_there (two_processes (0xD3 ∷ []) zero_regs zero_regs)
   where
@@ -169,10 +169,10 @@ may_link = with_module_there (two_processes (0xD3 ∷ []) zero_regs zero_regs)
           modules = with_module_entry no_entries 0 shared_module;
         })
 
--- the state where both have linked it
+-- the state in which both have linked it
 abbrev pub both_linked : Inner
 both_linked = after_call Call.Link 3 (after_call Call.Link 2 may_link)
 
--- the state where process 2 has stored 77 in it
+-- the state in which process 2 has stored 77 in it
 abbrev pub stored_by_one : Inner
 stored_by_one = with_memory both_linked (stored both_linked.memory 2 0xE022 (0x77 ∷ []))

@@ -1,6 +1,6 @@
 -- F$Send: sends a signal (System Programmer's Manual, F$Send).
--- Takes the number of the process in A and the signal in B. Signal 1 wakes a process that sleeps, and is dropped where
--- it does not; any other one is pending from then on.
+-- Takes the number of the process in A and the signal in B. Signal 1 wakes a sleeping process, and is dropped if the
+-- process does not sleep. Any other signal is pending from then on.
 -- Errors: E$IPrcID, E$USigP.
 use Rattle.std.specs.Prelude.{ℕ, ◌==◌, ◌&&◌, Bool, true, false, Option, Some, None, if◌then◌else◌}
 use Rattle.os9_base.specs.declared.calls.TheConstants.{F_SLEEP}
@@ -12,7 +12,7 @@ use Rattle.proc_rules.specs.Signals.{wake_signal, send_fault, with_sent}
 use Rattle.call_rules.specs.Inner.{Inner, own_at, regs_at, user_at, with_records, with_own}
 use Rattle.call_rules.specs.CallResult.{CallResult, done, refused}
 
--- the call of a process that is not done has this code
+-- the unfinished call of a process has this code
 abbrev pub is_call : Option ℕ → ℕ → Bool
 is_call None code = false
 is_call (Some other) code = other == code
@@ -21,11 +21,11 @@ is_call (Some other) code = other == code
 abbrev pub is_asleep : Inner → ℕ → Bool
 is_asleep s p = is_waiting (record_at s.records p).life && is_call (own_at s p).call F_SLEEP
 
--- the state where a wake came for a process, if it sleeps
+-- the state in which a process has received a wake, if it sleeps
 abbrev pub woken : Inner → ℕ → Inner
 woken s p = if is_asleep s p then with_own s p (record (own_at s p) { woken = true }) else s
 
--- the state after a signal was sent that is not refused
+-- the state after a signal that is not refused
 abbrev pub after_signal : Inner → ℕ → ℕ → Inner
 after_signal s to signal =
     if signal == wake_signal then woken s to else with_records s (with_sent s.records to signal)

@@ -1,5 +1,5 @@
 -- F$Sleep: sleeps (System Programmer's Manual, F$Sleep).
--- Takes the ticks in X, 0 to sleep for ever; answers in X those that were left when the sleep ended, 0 of a sleep for
+-- Takes the ticks in X, or 0 to sleep for ever. Returns in X the ticks left at the end of the sleep, 0 for a sleep for
 -- ever. It ends at its tick, or with signal 1.
 use Rattle.std.specs.Prelude.{ℕ, ◌+◌, ◌-◌, ◌==◌, ◌||◌, nat_le, Bool, false, Option, Some, None, if◌then◌else◌}
 use Rattle.std.specs.Option.{option_map_or}
@@ -8,11 +8,11 @@ use Rattle.proc_rules.specs.Records.{record_at, is_waiting}
 use Rattle.call_rules.specs.Inner.{Inner, own_at, regs_at, with_regs_of, with_own}
 use Rattle.call_rules.specs.CallResult.{CallResult, done, waits}
 
--- the tick that ends a sleep of so many ticks that begins now; nothing if it is for ever
+-- the tick that ends a sleep of this number of ticks that begins now; nothing if it is for ever
 abbrev pub sleep_end : ℕ → ℕ → Option ℕ
 sleep_end tick ticks = if ticks == 0 then None else Some (tick + ticks)
 
--- a sleep may end: its tick is reached, or a wake came
+-- a sleep may end: its tick is reached, or a wake has arrived
 abbrev pub may_wake : ℕ → Own → Bool
 may_wake tick own = own.woken || option_map_or (λ until. nat_le until tick) own.until false
 

@@ -12,17 +12,17 @@ use Rattle.call_rules.specs.Link.{links_at, with_links_at}
 use Rattle.call_rules.specs.ModuleLinks.{Entered, module_at, without_module_link}
 use Rattle.call_rules.specs.CallResult.{CallResult, done, needs}
 
--- the memory where so many links of a process to a group are left
+-- the memory in which this number of links of a process to a group are left
 abbrev pub with_links_left : MemoryState → ℕ → List ℕ → ℕ → MemoryState
 with_links_left m p group left = if left == 0 then group_unmapped m p group else m
 
--- the state where a process has one link less to a group, which begins at this slot of its map
+-- the state in which a process has one link less to a group, which begins at this slot of its map
 abbrev pub without_group_link : Inner → ℕ → List ℕ → ℕ → Inner
 without_group_link s p group slot =
     with_own (with_memory s (with_links_left s.memory p group (links_at (own_at s p) slot - 1))) p
     (with_links_at (own_at s p) slot (links_at (own_at s p) slot - 1))
 
--- the state where a process has given up a link to a module in its map
+-- the state in which a process has given up a link to a module in its map
 abbrev pub after_unlink : Inner → ℕ → Entered → Inner
 after_unlink s p found =
     without_module_link (option_map_or (without_group_link s p found.entry.group)

@@ -1,5 +1,5 @@
 -- F$UnLoad: gives up a link to a module by its name (System Programmer's Manual, F$UnLoad).
--- Takes the type and language in A and the name at X. Maps that name the module's group keep it.
+-- Takes the type and language in A and the address of the name in X. Maps that name the module's group keep it.
 -- Errors: E$BPAddr, E$BNam, E$MNF.
 use Rattle.std.specs.Prelude.{ℕ}
 use Rattle.os9_base.specs.declared.errors.TheConstants.{E_BNAM, E_MNF}

@@ -4,11 +4,11 @@ use Rattle.os9_base.specs.Cells.{Cells}
 use Rattle.os9_base.specs.declared.registers.Regs.{Regs}
 use Rattle.user_names.specs.UserNames.{user_cell}
 
--- a byte before others, if all of them are there
+-- a byte and the bytes after it, if all of them are there
 abbrev pub byte_before : Option ℕ → Option (List ℕ) → Option (List ℕ)
 byte_before byte bytes = option_and_then (λ first. option_map (λ rest. first ∷ rest) bytes) byte
 
--- so many bytes from an address on; nothing if one of them is in no named slot or past FFFF
+-- this number of bytes from an address on; nothing if one of them is in no named slot or past FFFF
 abbrev pub user_bytes : Cells → ℕ → ℕ → Option (List ℕ)
 user_bytes cells at zero = Some []
 user_bytes cells at (suc count) = byte_before (user_cell cells at) (user_bytes cells (at + 1) count)

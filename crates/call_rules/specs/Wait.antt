@@ -1,6 +1,6 @@
 -- F$Wait: waits for the end of a child (System Programmer's Manual, F$Wait).
--- Answers the number of the ended child of least number in A, and its status in B; the child's record goes. It waits
--- while no child has ended.
+-- Returns the number of the ended child of least number in A, and its status in B; the child's record is removed. It
+-- waits while no child has ended.
 -- Errors: E$NoChld.
 use Rattle.std.specs.Prelude.{ℕ, Result, Ok, Err}
 use Rattle.os9_base.specs.declared.errors.TheConstants.{E_NOCHLD}
@@ -12,7 +12,7 @@ use Rattle.proc_rules.specs.Ends.{reaped, after_reap}
 use Rattle.call_rules.specs.Inner.{Inner, regs_at, with_records, with_regs_of}
 use Rattle.call_rules.specs.CallResult.{CallResult, done, refused, waits}
 
--- the registers after a child was given, with its status
+-- the registers after a child is returned, with its status
 abbrev pub reaped_regs : Regs → Pid × ℕ → Regs
 reaped_regs regs child = record regs { a = child.0.0; b = child.1 }
 

@@ -7,10 +7,10 @@ ghost use Rattle.call_rules.specs.Ready.{no_io};
 
 use os9_base::registers::Pid;
 
-/// How many processes there may be, by number from 0.
+/// The number of places for processes, by number from 0.
 const PLACES: usize = 33;
 
-/// The processes that wait in a call on input or output which may go on, by number.
+/// The processes, by number, whose pending call on input or output may go on.
 #[derive(Clone, Copy, Debug, PartialEq, Eq)]
 pub struct IoReady {
     places: [bool; PLACES],
@@ -44,7 +44,7 @@ impl IoReady {
     }
 }
 
-/// A choice asks input and output for living processes alone.
+/// A choice asks input and output only about living processes.
 pub fn a_choice_asks_for_the_living()
     ensures { (io other : ℕ → Bool) (s : Inner)
         → ((p : ℕ) → IsLiving s.records p → io p ≡ other p)

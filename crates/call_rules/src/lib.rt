@@ -1,4 +1,4 @@
-//! What each call on processes and modules answers and changes: the definitions that the bodies of
+//! What each call on processes and modules returns and changes: the definitions that the bodies of
 //! the calls cite, and the codes of these calls.
 #![tactic(auto)]
 

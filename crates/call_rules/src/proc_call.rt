@@ -29,7 +29,7 @@ pub enum ProcCall {
     Icpt,
     /// F$Sleep: sleeps.
     Sleep,
-    /// F$ID: asks for the process number and the user.
+    /// F$ID: returns the process number and the user.
     Id,
     /// F$SPrior: sets a priority.
     SPrior,
@@ -45,7 +45,7 @@ pub enum ProcCall {
     UnLoad,
 }
 
-/// The call on processes and modules that has this code; None if it is no such call's.
+/// The call on processes and modules with this code, or None if no such call has it.
 pub fn proc_call(code: u8) -> Option<ProcCall>
     ensures { result ≡ call_of code }
 {

@@ -9,14 +9,14 @@ use os9_base::name::Name;
 pub enum ProgramName {
     /// A byte that has to be read is in no named slot or past `FFFF`.
     Unreadable,
-    /// One name: the entered module of that name is meant, if there is one.
+    /// One name: it means the entered module of that name, if there is one.
     OneName(Name),
-    /// No one name: a path list, or bytes that name nothing.
+    /// Not one name: a path list, or bytes that name nothing.
     PathList,
 }
 
 impl ProgramName {
-    /// Is a byte that has to be read not there?
+    /// Is a byte missing that has to be read?
     pub fn is_unreadable(&self) -> bool
         ensures { result ≡ is_unreadable_lem self.now }
     {

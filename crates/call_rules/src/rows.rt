@@ -16,8 +16,8 @@ ghost use Rattle.call_rules.specs.Send.{f_send};
 ghost use Rattle.call_rules.specs.UserBytes.{user_bytes};
 ghost use Rattle.call_rules.specs.Rows.{regs_after, parsing, comparing, sent_asleep, sent_seven, seven_delivered, forker, forker_of, with_five, first_child, after_forks, both_linked, stored_by_one};
 
-/// F$PrsNam of `/D0/CMDS` answers its first name and the `/` behind it; a carriage return is no
-/// name. F$CmpNam finds `abc` and `ABC` the same by three characters, and not by two.
+/// F$PrsNam of `/D0/CMDS` returns its first name and the `/` after it; a carriage return is not a
+/// name. F$CmpNam finds that three characters of `abc` and `ABC` agree, and that two do not.
 pub fn names_are_parsed_and_compared()
     ensures parsed { regs_after Call.PrsNam 2 (parsing 0x40)
         ≡ record zero_regs { a = 0x2F; b = 2; x = 0x41; y = 0x43 } }
@@ -26,9 +26,9 @@ pub fn names_are_parsed_and_compared()
     ensures shorter { f_cmpnam (comparing 2) 2 ≡ refused E_BNAM }
 {}
 
-/// A sleep of 5 ticks that signal 1 ends at the second of them answers that 3 are left. A second
-/// signal is refused while the first one is pending. The routine that receives it finds it in B and
-/// the area in U, and the twelve bytes of the registers below the stack pointer.
+/// A sleep of 5 ticks that signal 1 ends at the second tick returns 3 ticks left. A second signal
+/// is refused while the first one is pending. The routine that receives the first one finds it in
+/// B, the area in U, and the twelve bytes of the registers below the stack pointer of the process.
 pub fn sleeps_and_signals_end()
     ensures left { regs_after Call.Sleep 2 (sent_asleep 5 1)
         ≡ record zero_regs { x = 3; s = 0x30; pc = 0x22 } }
@@ -51,8 +51,8 @@ pub fn programs_start_with_their_parameters()
     ensures unnamed { f_fork (with_five 2) 2 ≡ refused E_BPADDR }
 {}
 
-/// `Pr/` and a carriage return is the name `Pr`, and so is `Pr` with two slashes behind it; `/Pr` is
-/// a path list, and so is `Pr/x`, also if bit 7 ends it. The byte behind the slash is read.
+/// `Pr/` and a carriage return is the name `Pr`, and so is `Pr` with two slashes after it. `/Pr` is
+/// a path list, and so is `Pr/x`, even if bit 7 ends it. The byte after the slash is read.
 pub fn a_slash_may_end_a_name()
     ensures bare { program_name (slice_get (codes "Pr\r")) 0 ≡ OneName (codes "Pr") }
     ensures slash { program_name (slice_get (codes "Pr/\r")) 0 ≡ OneName (codes "Pr") }
@@ -63,8 +63,8 @@ pub fn a_slash_may_end_a_name()
     ensures cut { program_name (slice_get (codes "Pr/")) 0 ≡ Unreadable }
 {}
 
-/// F$Fork of `P/` starts the entered program `P`, with X left behind the name; of `Q/` it finds no
-/// module. `/P` and `P/x` name no entered module.
+/// F$Fork of `P/` starts the entered program `P`, and X is then the address after the name; of `Q/`
+/// it finds no module. `/P` and `P/x` do not name an entered module.
 pub fn a_slash_behind_the_name_of_a_program()
     ensures entered { regs_after Call.Fork 2 (forker_of (codes "P/\r"))
         ≡ record zero_regs { a = 3; x = 1 } }
@@ -75,8 +75,8 @@ pub fn a_slash_behind_the_name_of_a_program()
     ensures another { f_fork (forker_of (codes "P/x\r")) 2 ≡ refused E_BNAM }
 {}
 
-/// With 64 blocks process 2 has 30 children, and the next is refused; with 8 blocks, of which it
-/// uses two, it has six. A refusal changes B and the condition codes alone.
+/// With 64 blocks process 2 gets 30 children, and the next one is refused. With 8 blocks, two of
+/// which it uses, it gets six. A refusal changes only B and the condition codes.
 pub fn forks_end_at_a_limit()
     ensures last { (regs_at (after_forks 30 (forker 64)) 2).a ≡ 32 }
     ensures full { regs_at (after_forks 31 (forker 64)) 2 ≡ refused_regs zero_regs E_PRCFUL }
@@ -85,8 +85,8 @@ pub fn forks_end_at_a_limit()
     ensures none { free_blocks (after_forks 7 (forker 8)).memory ≡ 0 }
 {}
 
-/// Two processes that link a module see the same bytes of it, and after both have ended its block
-/// alone is in use.
+/// Two processes that link a module see the same bytes of it, and after both have ended only its
+/// block is in use.
 pub fn linked_modules_are_shared()
     ensures linked { (regs_at both_linked 3).u ≡ 0xE020 }
     ensures shared { cells_at stored_by_one 3 0xE022 ≡ Some 0x77 }
@@ -94,7 +94,8 @@ pub fn linked_modules_are_shared()
     ensures after { free_blocks (ended (ended both_linked 2 0) 3 0).memory ≡ 7 }
 {}
 
-/// The parent of a process that ends with status 228, as one does by an unnamed slot, is given it.
+/// The parent of a process that ends with status 228, the status after an access to an unnamed
+/// slot, receives that status.
 pub fn an_aborted_child_has_its_status()
     ensures status { regs_after Call.Wait 2 (ended (after_forks 1 (forker 8)) 3 E_PRCABT)
         ≡ record zero_regs { a = 3; b = E_PRCABT; x = 1 } }

@@ -2,7 +2,7 @@
 use Rattle.std.specs.Prelude.{◌≡◌, ℕ, zero, suc, ◌+◌, ◌-◌, ◌*◌, ◌%◌, ◌==◌, ◌&&◌, ◌||◌, not, nat_le, Bool, true, if◌then◌else◌}
 use Rattle.os9_base.specs.declared.registers.TimePacket.{TimePacket}
 
--- every fourth year is a leap year, but of the centuries only every fourth
+-- every fourth year is a leap year, except that only every fourth century year is
 abbrev pub is_leap : ℕ → Bool
 is_leap year = (year % 4 == 0) && (not (year % 100 == 0) || (year % 400 == 0))
 
@@ -42,11 +42,11 @@ is_civil t =
     nat_le 1 t.month && nat_le t.month 12 && nat_le 1 t.day && nat_le t.day (month_days (1900 + t.years) t.month)
     && nat_le t.hour 23 && nat_le t.minute 59 && nat_le t.second 59
 
--- how many days lie between 1 January 1900 and the date
+-- the number of days between 1 January 1900 and the date
 abbrev pub day_number : CivilTime → ℕ
 day_number t = days_of_years t.years + days_of_months (1900 + t.years) (t.month - 1) + (t.day - 1)
 
--- how many seconds lie between the beginning of 1900 and the time
+-- the number of seconds between the beginning of 1900 and the time
 abbrev pub second_number : CivilTime → ℕ
 second_number t = day_number t * 86400 + t.hour * 3600 + t.minute * 60 + t.second
 
@@ -65,7 +65,7 @@ packet_time t = record {
 abbrev pub is_time_packet : TimePacket → Bool
 is_time_packet t = is_civil (packet_time t)
 
--- the packet of a date and time: its year goes round after 2155
+-- the packet of a date and time: its year wraps around after 2155
 abbrev pub time_packet : CivilTime → TimePacket
 time_packet t = record {
   year = t.years % 256;
@@ -76,7 +76,7 @@ time_packet t = record {
   second = t.second;
 }
 
--- the packet is that of the civil time so many seconds after another packet's
+-- the packet of the civil time this number of seconds after another packet's
 pub record IsAfter (base : TimePacket) (seconds : ℕ) (packet : TimePacket) : Type 0 where
   pub time : CivilTime
   pub civil : is_civil time ≡ true

@@ -2,8 +2,8 @@ ghost use Rattle.std.specs.Prelude.{◌≡◌, ℕ, true};
 ghost use Rattle.os9_base.specs.declared.registers.TimePacket.{TimePacket};
 ghost use Rattle.civil_time.specs.CivilTime.{CivilTime, IsAfter, is_civil, is_time_packet, second_number};
 
-/// Each second has one date and time: so there is a packet of so many seconds after another, and
-/// only one.
+/// Each second has one date and time. So for any number of seconds after a packet there is exactly
+/// one packet.
 pub fn each_second_has_one_time()
     ensures there { (base : TimePacket) (seconds : ℕ) → is_time_packet base ≡ true
         → (packet : TimePacket) × IsAfter base seconds packet }

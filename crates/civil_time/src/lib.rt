@@ -1,4 +1,4 @@
-//! Civil dates and times, and the packets that give them: the definitions, a law of them, and dates
+//! Civil dates and times, and the packets for them: the definitions, a law about them, and dates
 //! worked through as laws that the check computes.
 #![tactic(auto)]
 

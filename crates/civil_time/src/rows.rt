@@ -2,7 +2,7 @@ ghost use Rattle.std.specs.Prelude.{◌≡◌, ◌+◌, true, false};
 ghost use Rattle.civil_time.specs.CivilTime.{is_leap, is_time_packet, packet_time, second_number, time_packet};
 ghost use Rattle.civil_time.specs.Rows.{at, civil_at};
 
-/// Of the years that end a century every fourth is a leap year.
+/// Of the years that end a century, every fourth is a leap year.
 pub fn leap_years()
     ensures fourth { is_leap 1992 ≡ true }
     ensures third { is_leap 1991 ≡ false }
@@ -10,8 +10,8 @@ pub fn leap_years()
     ensures fourth_century { is_leap 2000 ≡ true }
 {}
 
-/// A packet is a date and time where the calendar and a clock have it. A leap second and the end of
-/// a day as its hour 24 are none.
+/// A packet is a date and time if the calendar and a clock have it. A leap second is not one, and
+/// neither is the end of a day as its hour 24.
 pub fn packets_that_are_times()
     ensures leap_day { is_time_packet (at 92 2 29 0 0 0) ≡ true }
     ensures no_leap_day { is_time_packet (at 0 2 29 0 0 0) ≡ false }

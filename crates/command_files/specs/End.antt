@@ -8,7 +8,7 @@ use Rattle.command_files.specs.declared.status.Input.TheVariants.{Script, Slices
 use Rattle.command_files.specs.declared.status.End.{End}
 use Rattle.command_files.specs.declared.status.End.TheVariants.{Ended, Living, CannotRead, CannotWrite, CannotWriteImage, NoMemory, BadImage, BadText, BadBounds, BadModule, NoFirst, TooLarge, DriveFailed, CannotWriteFile, Refused, BadSource, TerminalFailed}
 
--- the status that the end gives
+-- the status of the end
 abbrev pub status_number : End → ℕ
 status_number Ended = 0
 status_number Living = 5
@@ -35,7 +35,7 @@ boot_end (BadModuleFault at error) = BadModule at error
 boot_end NoFirstFault = NoFirst
 boot_end TooLargeFault = TooLarge
 
--- the file of which the line of an end speaks, if it speaks of one
+-- the file that the line of an end names, if it names one
 abbrev pub named_by : End → Option Input
 named_by (CannotRead input) = Some input
 named_by (CannotWriteImage number) = Some (Image number)

@@ -6,7 +6,7 @@ use Rattle.asm6809.specs.Faults.{error_number}
 use Rattle.command_files.specs.declared.status.End.{End}
 use Rattle.command_files.specs.declared.status.End.TheVariants.{Ended, Living, CannotRead, CannotWrite, CannotWriteImage, NoMemory, BadImage, BadText, BadBounds, BadModule, NoFirst, TooLarge, DriveFailed, CannotWriteFile, Refused, BadSource, TerminalFailed}
 
--- the line that says why a command ended, with this name of the file of which it speaks; no bytes if none does
+-- the line that says why a command ended, with this name of the file that it names; no bytes if there is no line
 abbrev pub end_line : List ℕ → End → List ℕ
 end_line name (CannotRead input) = cannot_read_line name
 end_line name CannotWrite = cannot_write_output_line

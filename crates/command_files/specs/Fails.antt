@@ -6,7 +6,7 @@ use Rattle.command_files.specs.declared.status.End.TheVariants.{CannotRead, Cann
 use Rattle.command_files.specs.declared.status.Input.{Input}
 use Rattle.command_files.specs.declared.status.Input.TheVariants.{File, Image}
 
--- the host failed, and last at the read of this file, which the words name so
+-- the host failed, and last at the read of this file, named by the words
 abbrev pub FailsToReadInput : (Input → Option (List ℕ)) → Input → World → World → Type 0
 FailsToReadInput name_of input before after =
     (name : List ℕ) × (name_of input ≡ Some name) × FailsToReadFile name before after
@@ -16,7 +16,8 @@ abbrev pub FailsToWriteInput : (Input → Option (List ℕ)) → Input → World
 FailsToWriteInput name_of input before after =
     (name : List ℕ) × (name_of input ≡ Some name) × FailsToWriteFile name before after
 
--- the host failed as the end of the command says, whose words name its files so; at every other end it did not fail
+-- the host failed as the end of the command says, whose words give its files these names; at every other end it did not
+-- fail
 abbrev pub FailsAsTold : (Input → Option (List ℕ)) → End → World → World → Type 0
 FailsAsTold name_of (CannotRead input) before after = FailsToReadInput name_of input before after
 FailsAsTold name_of CannotWrite before after = FailsToWrite before after

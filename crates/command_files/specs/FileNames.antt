@@ -20,7 +20,7 @@ run_inputs run = script_names run ++ run.slices ∷ run.files
 abbrev pub IsFront : List (List ℕ) → List (List ℕ) → Type 0
 IsFront front names = (rest : List (List ℕ)) × (names ≡ front ++ rest)
 
--- those up to this name, with it
+-- those up to this name, which is included
 pub record IsUpTo (name : List ℕ) (front names : List (List ℕ)) : Type 0 where
   pub earlier : List (List ℕ)
   pub later : List (List ℕ)

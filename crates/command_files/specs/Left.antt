@@ -3,7 +3,7 @@ use Rattle.std.specs.Prelude.{◌≡◌, ◌≢◌, ℕ, List, All}
 use Rattle.os9_outer.specs.Host.{Files}
 use Rattle.boot_run.specs.World.{World}
 
--- the output and the devices are as they were
+-- the output and the devices are unchanged
 pub record IsSilent (before after : World) : Type 0 where
   pub out : after.out ≡ before.out
   pub devices : after.devices ≡ before.devices

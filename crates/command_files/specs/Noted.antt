@@ -1,4 +1,4 @@
--- Which files a command has read and written, as its host notes them (this project's own).
+-- The files that a command has read and written, as its host notes them (this project's own).
 use Rattle.std.specs.Prelude.{◌≡◌, ℕ, Option, List}
 use Rattle.os9_words.specs.Notes.{Notes, having_read, having_written}
 use Rattle.command_files.specs.FileNames.{IsFront}
@@ -7,15 +7,15 @@ use Rattle.command_files.specs.declared.status.End.{End}
 use Rattle.command_files.specs.declared.status.End.TheVariants.{CannotRead, NoMemory}
 use Rattle.command_files.specs.declared.status.Input.{Input}
 
--- of its inputs it has read these files: those up to the one that could not be read, some if memory was out, and else
--- all
+-- the files of its inputs that it has read: those up to the one that could not be read, some if memory was out, and
+-- else all
 abbrev pub Reads : (Input → Option (List ℕ)) → List (List ℕ) → End → List (List ℕ) → Type 0
 Reads name_of inputs (CannotRead input) read = StopsReads name_of inputs (CannotRead input) read
 Reads name_of inputs NoMemory read = IsFront read inputs
 Reads name_of inputs end read = read ≡ inputs
 
--- The files that a command has read and written, each once, in order, and no other: of its inputs, whose names are
--- these, and of the files that it writes when it ends so.
+-- The files that a command has read and written, each once, in order, and no other: of its inputs, which have these
+-- names, and of the files that it writes at this end.
 pub record NotesFiles (name_of : Input → Option (List ℕ)) (inputs : List (List ℕ))
     (may_write : End → List (List ℕ) → Type 0) (end : End) (before after : Notes) : Type 0 where
   pub read : List (List ℕ)

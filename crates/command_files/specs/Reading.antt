@@ -21,19 +21,20 @@ pub record HasRunFiles (files : Files) (run : RunWords) (read : RunFiles) : Type
   pub modules : (name : List ℕ) × (slice_get run.files 0 ≡ Some name)
       × (read.modules.items ≡ file_contents files name)
 
--- and of a boot
+-- the same for a boot
 pub record HasBootFiles (files : Files) (boot : RunWords) (read : BootFiles) : Type 0 where
   pub script : read.script.items ≡ script_of files boot
   pub slices : read.slices.items ≡ file_contents files boot.slices
   pub images : read.images ≡ images_of files boot.files
 
--- a script that gives keys to so many terminals, and a slice text behind it that is refused: its first bad line
+-- a script that gives keys to this number of terminals, and after it a refused slice text: its first bad line
 pub record BreaksSlices (terminals line : ℕ) (script slices : List ℕ) : Type 0 where
   pub keys : List ScriptKey
   pub accepted : keys_of terminals script ≡ Ok keys
   pub refused : slices_of slices ≡ Err line
 
--- why the texts end a command: memory was out; the script is refused for so many terminals, or the slice text behind it
+-- why the texts end a command: memory was out; the script is refused for this number of terminals, or the slice text
+-- after it
 abbrev pub RefusesTexts : ℕ → List ℕ → List ℕ → End → Type 0
 RefusesTexts terminals script slices NoMemory = ⊤
 RefusesTexts terminals script slices (BadText Script line) = keys_of terminals script ≡ Err line

@@ -14,7 +14,7 @@ use Rattle.boot_run.specs.Machine.{Setup}
 abbrev pub script_of : Files → RunWords → List ℕ
 script_of files run = option_map_or (λ script. file_contents files script) run.script []
 
--- the texts that the words name give these keys to so many terminals, and these slices
+-- the texts that the words name give these keys to this number of terminals, and these slices
 pub record HaveTexts (files : Files) (run : RunWords) (terminals : ℕ) (keys : List ScriptKey) (slices : List ℕ)
     : Type 0 where
   pub script : keys_of terminals (script_of files run) ≡ Ok keys

@@ -16,7 +16,7 @@ pub record CouldNotRead (name : List ℕ) (before after : World) : Type 0 where
   pub out : after.out ≡ before.out
   pub devices : after.devices ≡ before.devices
 
--- the file that is this input could not be read; or memory was out, and nothing has changed
+-- the file of this input could not be read; or memory was out, and nothing has changed
 abbrev pub StopsAtRead : (Input → Option (List ℕ)) → World → World → End → Type 0
 StopsAtRead name_of before after (CannotRead input) =
     (name : List ℕ) × (name_of input ≡ Some name) × CouldNotRead name before after
@@ -25,7 +25,7 @@ StopsAtRead name_of before after end = ⊥
 
 -- ---- which files were read
 
--- the reads of files of these names stopped: the file that is this input could not be read, or memory was out
+-- the reads of files of these names stopped: the file of this input could not be read, or memory was out
 abbrev pub StopsReads : (Input → Option (List ℕ)) → List (List ℕ) → End → List (List ℕ) → Type 0
 StopsReads name_of names (CannotRead input) read =
     (name : List ℕ) × (name_of input ≡ Some name) × IsUpTo name read names
@@ -39,7 +39,7 @@ pub record NotesStop (name_of : Input → Option (List ℕ)) (names : List (List
   pub stops : StopsReads name_of names end read
   pub noted : HasRead read before after
 
--- files of these names were read, each once and in this order; or as many as had been when the reads stopped
+-- files of these names were read, each once and in this order; or only those before the reads stopped
 abbrev pub NotesReads : {A : Type 0} → (Input → Option (List ℕ)) → List (List ℕ) → Result A End → Notes → Notes
     → Type 0
 NotesReads name_of names (Ok read) before after = HasRead names before after

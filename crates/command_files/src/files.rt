@@ -1,4 +1,4 @@
-//! The files that the words of a run or a boot name are read.
+//! The files that the words of a run or a boot name.
 
 ghost use Rattle.std.specs.Prelude.{◌≡◌, ◌≤◌, IfErr, IfOk, IfSome, OnOk, length};
 ghost use Rattle.os9_kernel.specs.Outside.{Outside};

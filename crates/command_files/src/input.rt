@@ -1,4 +1,4 @@
-//! A file that the words of a command name is read.
+//! A file that the words of a command name.
 
 ghost use Rattle.std.specs.Prelude.{◌≡◌, ◌∷◌, [], ℕ, IfErr, IfOk, IfSome, List, OnOk, Option, Some};
 ghost use Rattle.os9_outer.specs.Host.{file_contents};
@@ -12,7 +12,7 @@ use crate::status::{End, Input};
 use os9_outer::host::{Host, HostFault};
 use os9_words::word::Word;
 
-/// Reads the file of this name, which a command gives as this input.
+/// Reads the file of this name, which is this input of a command.
 ///
 /// # Errors
 ///

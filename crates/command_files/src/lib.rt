@@ -1,5 +1,5 @@
-//! What commands share that run a machine or work on images: the files that their words name are read, and the
-//! texts in them; how a command may end, and the line that says why.
+//! The common parts of commands that run a machine or work on images: reading the files that their
+//! words name, and the texts in them; how a command may end, and the line that says why.
 #![tactic(auto)]
 
 pub mod files;

@@ -19,7 +19,7 @@ pub fn name_in(run: &RunWords, input: Input) -> &str
     }
 }
 
-/// The name of the file of this place, from 0; empty where there are fewer.
+/// The name of the file of this place, from 0; empty if there are fewer.
 fn name_at(run: &RunWords, place: u8) -> &str
     ensures { result.now ≡ unwrap_or (slice_get run.now.files place) [] }
 {

@@ -14,8 +14,8 @@ use os9_words::word::Word;
 ///
 /// # Errors
 ///
-/// The end of the command: the output stream failed, or memory is out. A part of the bytes may be out
-/// then.
+/// The end of the command: the output stream failed, or memory is out. A part of the bytes may be
+/// out.
 pub fn print<H: Host>(host: &mut H, bytes: &[u8]) -> Result<(), End>
     ensures printed { (devices : Outside) → Prints bytes.now result
         (world_of H.Host host.old devices) (world_of H.Host host.new devices) }
@@ -35,7 +35,7 @@ pub fn print<H: Host>(host: &mut H, bytes: &[u8]) -> Result<(), End>
 ///
 /// # Errors
 ///
-/// Those of [`Host::write_file`]. The file may hold a part of the bytes then.
+/// Those of [`Host::write_file`]. The file may then hold a part of the bytes.
 pub fn write_output<H: Host>(host: &mut H, name: &Word, bytes: &[u8]) -> Result<(), HostFault>
     ensures wrote { (devices : Outside) → WritesOutput name.now bytes.now result
         (world_of H.Host host.old devices) (world_of H.Host host.new devices) }

@@ -9,12 +9,12 @@ use asm6809::error_number;
 use os9_outer::host::{Host, HostFault};
 use os9_words::message::{Message, report};
 
-/// Writes to the error stream why a command ended, if a message says so. This is the name of the file of
-/// which the line speaks ([`End::named`]); if it speaks of none, the name is not used.
+/// Writes to the error stream why a command ended, if a message says so. `name` is the name of the
+/// file that the line names ([`End::named`]); if it names none, `name` is not used.
 ///
 /// # Errors
 ///
-/// The line is not whole on the error stream: of its bytes the first ones are there, or none.
+/// The line is not whole on the error stream: only its first bytes, or none, were written.
 pub fn report_end<H: Host>(host: &mut H, end: End, name: &str) -> Result<(), HostFault>
     ensures { WritesErr H.Host (end_line name.now end) result host.old host.new }
 {

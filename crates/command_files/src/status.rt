@@ -14,9 +14,10 @@ pub enum Input {
     Slices,
     /// The file of modules.
     Modules,
-    /// The image of a disk: that of `check` and of `vol`, which is 0, or of a boot by its place, from 0.
+    /// The image of a disk: 0 for that of `check` and of `vol`, or for a boot its place, from 0.
     Image(u8),
-    /// FILE of `vol put`, which is read, or of `vol get`, which is written; OUT of `asm`, which is written.
+    /// FILE of `vol put`, which is read, or of `vol get`, which is written; or OUT of `asm`, which
+    /// is written.
     File,
     /// SOURCE of `asm`.
     Source,
@@ -53,20 +54,20 @@ pub enum End {
     NoFirst,
     /// The boot file is too long, or there is no room for it and the data area of `SysGo`.
     TooLarge,
-    /// A drive failed when its image was mounted, or for `vol` when its tool was used: its number, and
-    /// that of its fault.
+    /// A drive failed when its image was mounted, or for `vol` when its tool was used: its number,
+    /// and the number of its fault.
     DriveFailed(u8, u8),
     /// The tool of `vol` is refused: the number of the error.
     Refused(u8),
     /// A terminal failed when its keys were taken, for `debug` to go back: its number, 0 for TERM.
     TerminalFailed(u8),
-    /// The source of `asm` is refused: the first line, from 1, that breaks a rule, and the least rule that
-    /// it breaks. Line 0: all lines are right, and make no module.
+    /// The source of `asm` is refused: the first line, from 1, that breaks a rule, and the least
+    /// rule that it breaks. Line 0: all lines are right, but do not make a module.
     BadSource(u64, AsmError),
 }
 
 impl End {
-    /// The status that the end gives.
+    /// The status of the end.
     pub fn number(self) -> u8
         ensures { result ≡ status_number self }
     {
@@ -86,7 +87,7 @@ impl End {
         }
     }
 
-    /// How a command ends whose boot file is refused.
+    /// The end of a command whose boot file is refused.
     pub fn of_boot_fault(fault: BootFault) -> End
         ensures { result ≡ boot_end fault }
     {
@@ -98,7 +99,7 @@ impl End {
         }
     }
 
-    /// The file of which the line of the end speaks, if it speaks of one.
+    /// The file that the line of the end names, if it names one.
     pub fn named(self) -> Option<Input>
         ensures { result ≡ named_by self }
     {

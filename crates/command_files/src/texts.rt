@@ -1,4 +1,4 @@
-//! The texts that drive a run are read.
+//! The texts that drive a run.
 
 ghost use Rattle.std.specs.Prelude.{◌≡◌, ◌<◌, Ok, IfErr, IfOk, length};
 ghost use Rattle.script_text.specs.Script.{keys_of, AreKeys};
@@ -21,7 +21,7 @@ pub struct Texts {
     pub slices: Vec<u32>,
 }
 
-/// Reads the script, for a machine with so many terminals, and then the slices.
+/// Reads the script, for a machine with this number of terminals, and then the slices.
 ///
 /// # Errors
 ///

@@ -1,4 +1,4 @@
--- What carrying out an instruction leaves, before the registers are given back at an abort.
+-- The state after an instruction is executed, before the registers are restored at an abort.
 use Rattle.std.specs.Prelude.{◌≡◌}
 use Rattle.os9_base.specs.declared.registers.Regs.{Regs}
 use Rattle.os9_base.specs.Cells.{Cells}
@@ -6,7 +6,7 @@ use Rattle.cpu_model.specs.declared.stop.Stop.{Stop}
 use Rattle.cpu_model.specs.declared.stop.Stop.TheVariants.{Next, Call, Abort}
 use Rattle.cpu_model.specs.Step.{Outcome, Done, Calls, Aborts, write_cells}
 
--- as `Leaves`, but at an abort the registers are any
+-- as `Leaves`, but at an abort the registers can be any
 abbrev pub Does : Outcome → Stop → Regs → Cells → Cells → Type 0
 Does (Done effect) stop after cells now =
     (stop ≡ Next) × (after ≡ effect.regs) × (now ≡ write_cells cells effect.writes)

@@ -1,4 +1,4 @@
--- Operands, and the registers as their address has left them.
+-- Operands, and the registers after their address is formed.
 use Rattle.std.specs.Prelude.{ℕ}
 use Rattle.os9_base.specs.declared.registers.Regs.{Regs}
 use Rattle.cpu_model.specs.declared.operand.ByteOperand.{ByteOperand}

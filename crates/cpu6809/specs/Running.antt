@@ -7,13 +7,13 @@ use Rattle.cpu_model.specs.declared.stop.Stop.TheVariants.{Next}
 use Rattle.cpu_model.specs.Step.{step_of, Leaves}
 use Rattle.cpu6809.specs.declared.execution.Ran.{Ran}
 
--- so many instructions, each followed by the next one, lead from registers and cells to others
+-- this number of instructions, each followed by the next one, leads from registers and cells to others
 abbrev pub FollowOn : ℕ → Regs → Cells → Regs → Cells → Type 0
 FollowOn zero r cells after now = (after ≡ r) × (now ≡ cells)
 FollowOn (suc k) r cells after now =
     (next : Regs) × (held : Cells) × Leaves (step_of cells r) Next r next cells held × FollowOn k next held after now
 
--- so many of n instructions were followed by the next one; the run ended there, with all of them or with one that stops
+-- `followed` of n instructions were followed by the next one; the run ended after all n, or at one that stops
 abbrev pub EndsAfter : ℕ → ℕ → Stop → Regs → Cells → Regs → Cells → Type 0
 EndsAfter n followed Next r cells after now = (followed ≡ n) × (after ≡ r) × (now ≡ cells)
 EndsAfter n followed stop r cells after now = (followed < n) × Leaves (step_of cells r) stop r after cells now

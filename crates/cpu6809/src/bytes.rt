@@ -72,8 +72,8 @@ fn write_apart<B: Bus>(b: &mut B, at: u16, bytes: &[u8]) -> bool
     true
 }
 
-/// Writes bytes from an address on, counted round, and answers whether each address is named; if
-/// one is not, nothing is written.
+/// Writes bytes from an address on, which wraps around, and returns whether each address is named.
+/// If one is not, nothing is written.
 #[inline(always)]
 pub(crate) fn write<B: Bus>(b: &mut B, at: u16, bytes: &[u8]) -> bool
     ensures named { result ≡ all_named (B.cells b.old) (bytes_from at bytes.now) }

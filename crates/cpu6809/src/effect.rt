@@ -44,7 +44,7 @@ pub(crate) fn word_on(r: &mut Regs, operation: WordBinary, on: WordRegister, val
     r.cc = cc;
 }
 
-/// LEAX and LEAY set Z, LEAU and LEAS no flag.
+/// LEAX and LEAY set Z; LEAU and LEAS set no flag.
 #[inline(always)]
 pub(crate) fn lea(r: &mut Regs, to: IndexRegister, at: u16)
     ensures { r.new ≡ model.lea to (place at r.old) }
@@ -69,7 +69,7 @@ pub(crate) fn branch(r: &mut Regs, condition: Condition, target: u16)
     }
 }
 
-/// TFR: the source is named by the high half of the postbyte.
+/// TFR: the high half of the postbyte names the source.
 pub(crate) fn transfer(r: &mut Regs, pair: u8)
     ensures { r.new ≡ model.transfer r.old pair }
 {

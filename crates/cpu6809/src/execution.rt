@@ -20,10 +20,10 @@ use os9_base::errors::{E_ISWI, E_PRCABT};
 use os9_base::memory::Bus;
 use os9_base::registers::Regs;
 
-/// The most bytes that an instruction has.
+/// The greatest number of bytes of an instruction.
 const LONGEST: usize = 5;
 
-/// The bytes at an address, up to the first that is not named, and no more than an instruction has.
+/// The bytes at an address, up to the first that is not named, at most those of an instruction.
 fn fetch<B: Bus>(b: &B, mut at: u16) -> ArrayVec<u8, LONGEST>
     ensures { result.items ≡ model.window (B.cells b.now) at 5 }
 {
@@ -38,7 +38,7 @@ fn fetch<B: Bus>(b: &B, mut at: u16) -> ArrayVec<u8, LONGEST>
     bytes
 }
 
-/// SWI2: the code byte follows.
+/// SWI2: the code byte is next.
 fn system_call<B: Bus>(r: &mut Regs, b: &B) -> Stop
     ensures { Does (model.call_outcome r.old (B.cells b.now r.old.pc)) result r.new
         (B.cells b.now) (B.cells b.now) }
@@ -52,7 +52,7 @@ fn system_call<B: Bus>(r: &mut Regs, b: &B) -> Stop
     }
 }
 
-/// Executes an instruction whose own bytes PC is past.
+/// Executes an instruction; PC is already past its own bytes.
 #[inline(always)]
 #[tactic(auto, unfolding(cpu_model::specs::Step::outcome_of, cpu_model::specs::Step::effect_of))]
 fn execute<B: Bus>(r: &mut Regs, b: &mut B, i: Instr, row: Row) -> Stop
@@ -124,7 +124,7 @@ fn instruction_at<B: Bus>(b: &B, at: u16) -> Result<Decoded, DecodeFault>
     decode_with_row(&bytes[..LONGEST])
 }
 
-/// Carries out the instruction at PC, and leaves any registers at an `Abort`.
+/// Executes the instruction at PC. After an `Abort` the registers can be any.
 #[inline(always)]
 #[tactic(auto, unfolding(cpu_model::specs::Step::step_of))]
 fn carry_out<B: Bus>(r: &mut Regs, b: &mut B) -> Stop
@@ -142,13 +142,13 @@ fn carry_out<B: Bus>(r: &mut Regs, b: &mut B) -> Stop
     }
 }
 
-/// Executes the instruction at PC (MC6809 programming manual), or tells why the program stops.
+/// Executes the instruction at PC (MC6809 programming manual), or reports why the program stops.
 ///
-/// `Call` comes at SWI2, with the code byte after it; PC is then past the code byte and nothing
-/// else has changed. `Abort(227)` comes at SYNC, CWAI, SWI and SWI3. `Abort(228)` comes where no
-/// instruction is documented, and where an address is not named that is read or written, those of
-/// the instruction's own bytes included; this comes before a call and before 227. At an `Abort`
-/// nothing has changed.
+/// `Call` is returned at SWI2, with the code byte after it; PC is then past the code byte and
+/// nothing else has changed. `Abort(227)` is returned at SYNC, CWAI, SWI and SWI3. `Abort(228)` is
+/// returned if the bytes are not a documented instruction, or if an address that is read or written
+/// is not named, including those of the instruction's own bytes. It takes precedence over a call
+/// and over 227. After an `Abort` nothing has changed.
 #[inline(always)]
 pub fn step<B: Bus>(r: &mut Regs, b: &mut B) -> Stop
     ensures step { model.Leaves
@@ -167,14 +167,14 @@ pub fn step<B: Bus>(r: &mut Regs, b: &mut B) -> Stop
 /// How a run of instructions ended.
 #[derive(Clone, Copy, Debug, PartialEq, Eq)]
 pub struct Ran {
-    /// The instructions that the next one followed.
+    /// The number of instructions that were followed by the next one.
     pub followed: u32,
-    /// `Next`, or what the instruction after those stopped with.
+    /// `Next`, or how the instruction after those stopped.
     pub stop: Stop,
 }
 
-/// Executes `n` instructions one after another from PC on, or fewer, up to the first after which the
-/// next one does not follow: it stops with what [`step`] answers there.
+/// Executes up to `n` instructions, one after another from PC on. It ends early at the first one
+/// that the next one does not follow, with what [`step`] returns there.
 pub fn run<B: Bus>(r: &mut Regs, b: &mut B, n: u32) -> Ran
     ensures ran { Runs n result r.old (B.cells b.old) r.new (B.cells b.new) }
     ensures beside { B.same_beside b.old b.new }

@@ -78,7 +78,7 @@ pub(crate) fn store<B: Bus>(
     Stop::Next
 }
 
-/// STD to STS: a register that the address has stepped is stored as it then is.
+/// STD to STS: a register that the address has stepped is stored with its new value.
 #[inline(always)]
 pub(crate) fn store_word<B: Bus>(
     r: &mut Regs,

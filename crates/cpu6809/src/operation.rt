@@ -24,7 +24,7 @@ fn coded16(made: (u16, Flags), cc: u8) -> (u16, u8)
     (made.0, with_flags(cc, made.1))
 }
 
-/// NEG to CLR of a byte: what it becomes, and the condition codes.
+/// NEG to CLR of a byte: its new value, and the condition codes.
 #[inline(always)]
 pub(crate) fn unary(operation: Unary, a: u8, cc: u8) -> (u8, u8)
     ensures value { result.0 ≡ model.unary_value operation a (flags.flags_of cc) }
@@ -47,7 +47,7 @@ pub(crate) fn unary(operation: Unary, a: u8, cc: u8) -> (u8, u8)
     }
 }
 
-/// SUB to ADD of an accumulator and a byte: what the accumulator becomes, and the condition codes.
+/// SUB to ADD of an accumulator and a byte: the accumulator's new value, and the condition codes.
 #[inline(always)]
 pub(crate) fn binary(operation: Binary, a: u8, b: u8, cc: u8) -> (u8, u8)
     ensures value { result.0 ≡ model.binary_value operation a b (flags.flags_of cc) }
@@ -69,8 +69,8 @@ pub(crate) fn binary(operation: Binary, a: u8, b: u8, cc: u8) -> (u8, u8)
     }
 }
 
-/// SUB to ADD of a register of sixteen bits and a word: what the register becomes, and the condition
-/// codes.
+/// SUB to ADD of a register of sixteen bits and a word: the register's new value, and the
+/// condition codes.
 #[inline(always)]
 pub(crate) fn word_binary(operation: WordBinary, a: u16, b: u16, cc: u8) -> (u16, u8)
     ensures value { result.0 ≡ model.word_value operation a b }
@@ -86,7 +86,7 @@ pub(crate) fn word_binary(operation: WordBinary, a: u16, b: u16, cc: u8) -> (u16
     }
 }
 
-/// Does a branch with this condition branch? Each condition looks at its own flags alone.
+/// Is a branch with this condition taken? Each condition depends on its own flags alone.
 #[inline(always)]
 pub(crate) fn holds(condition: Condition, cc: u8) -> bool
     ensures { result ≡ model.holds condition (flags.flags_of cc) }

@@ -49,7 +49,7 @@ fn five_bits(post: u8) -> u16
     if bits > 0x0F { 0xFFE0 + bits } else { bits }
 }
 
-/// This far from an index register.
+/// At this distance from an index register.
 #[inline(always)]
 fn offset(r: &Regs, base: IndexRegister, by: u16) -> u16
     ensures { model.place result r.now ≡ model.offset_place r.now base by }
@@ -57,7 +57,7 @@ fn offset(r: &Regs, base: IndexRegister, by: u16) -> u16
     index_register(r, base).wrapping_add(by)
 }
 
-/// At an index register, which then is so much further.
+/// At an index register, which is then increased by this number.
 #[inline(always)]
 fn increment(r: &mut Regs, base: IndexRegister, by: u16) -> u16
     ensures { model.place result r.new ≡ model.increment_place r.old base by }
@@ -67,7 +67,7 @@ fn increment(r: &mut Regs, base: IndexRegister, by: u16) -> u16
     at
 }
 
-/// At an index register that has first been taken back so far.
+/// At an index register, after it is decreased by this number.
 #[inline(always)]
 fn decrement(r: &mut Regs, base: IndexRegister, by: u16) -> u16
     ensures { model.place result r.new ≡ model.decrement_place r.old base by }
@@ -77,7 +77,7 @@ fn decrement(r: &mut Regs, base: IndexRegister, by: u16) -> u16
     at
 }
 
-/// The address that a form of indexed addressing tells.
+/// The address of a form of indexed addressing.
 #[inline(always)]
 fn form_address(r: &mut Regs, form: Form, base: IndexRegister, post: u8, tail: Tail) -> u16
     ensures { model.place result r.new ≡ model.form_place r.old form base post tail }
@@ -100,7 +100,7 @@ fn form_address(r: &mut Regs, form: Form, base: IndexRegister, post: u8, tail: T
     }
 }
 
-/// The address of indexed addressing, of a pointer or of the operand itself.
+/// The address of indexed addressing: the operand's own, or the one in the pointer.
 #[inline(never)]
 fn indexed<B: Bus>(b: &B, r: &mut Regs, post: u8, tail: Tail, indexing: Indexing) -> Option<u16>
     ensures { option_map (λ at. model.place at r.new) result
@@ -140,7 +140,7 @@ pub(crate) fn address<B: Bus>(b: &B, r: &mut Regs, mode: Mode, i: Instr) -> Opti
     }
 }
 
-/// Where a branch goes.
+/// The target of a branch.
 #[inline(always)]
 pub(crate) fn target_of(r: &Regs, mode: Mode, tail: Tail) -> u16
     ensures { result ≡ model.target_of r.now mode tail }

@@ -156,7 +156,7 @@ pub(crate) fn register(r: &Regs, register: Register) -> u16
     }
 }
 
-/// A byte register takes the low byte.
+/// A byte register gets the low byte.
 #[inline(always)]
 pub(crate) fn set_register(r: &mut Regs, register: Register, value: u16)
     ensures { r.new ≡ model.with_register r.old register value }

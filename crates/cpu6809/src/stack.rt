@@ -15,10 +15,10 @@ use os9_base::errors::E_PRCABT;
 use os9_base::memory::Bus;
 use os9_base::registers::Regs;
 
-/// The most bytes that a push puts on a stack.
+/// The greatest number of bytes that a push puts on a stack.
 const FRAME: usize = 12;
 
-/// A subroutine is entered: the next instruction's address goes on the stack.
+/// A subroutine is entered: the next instruction's address is pushed on the stack.
 #[inline(always)]
 pub(crate) fn enter<B: Bus>(r: &mut Regs, b: &mut B, target: u16) -> Stop
     ensures step { Does (outcome_of_effect (B.cells b.old) (Some (model.enters r.old target)))
@@ -102,7 +102,7 @@ pub(crate) fn push<B: Bus>(r: &mut Regs, b: &mut B, stack: Stack, mask: u8) -> S
     Stop::Next
 }
 
-/// A byte register is taken from the stack at an address, if the mask names it; answers the next
+/// Takes a byte register from the stack at an address, if the mask names it, and returns the next
 /// address.
 #[inline(always)]
 fn pull_byte<B: Bus>(
@@ -125,7 +125,7 @@ fn pull_byte<B: Bus>(
     Some(at.wrapping_add(1))
 }
 
-/// A register of sixteen bits is taken from the stack at an address, if the mask names it; answers
+/// Takes a register of sixteen bits from the stack at an address, if the mask names it, and returns
 /// the next address.
 #[inline(always)]
 fn pull_word<B: Bus>(
@@ -170,7 +170,7 @@ fn pull_words<B: Bus>(b: &B, r: &mut Regs, stack: Stack, mask: u8, at: u16) -> O
     pull_word(b, r, mask, 128, Register::Pc, at)
 }
 
-/// The registers that a mask names are taken from a stack, if all their bytes can be read.
+/// Takes the registers that a mask names from a stack, if all their bytes can be read.
 #[inline(always)]
 #[tactic(auto, unfolding(cpu_model::specs::Effects::pull))]
 fn pulled<B: Bus>(b: &B, r: &mut Regs, stack: Stack, mask: u8) -> bool
@@ -200,7 +200,7 @@ pub(crate) fn pull<B: Bus>(r: &mut Regs, b: &B, stack: Stack, mask: u8) -> Stop
     Stop::Next
 }
 
-/// RTI: E of the CC on the stack tells whether all registers lie there, or CC and PC alone.
+/// RTI: E of the CC on the stack says whether all registers are there, or CC and PC alone.
 pub(crate) fn return_from_interrupt<B: Bus>(r: &mut Regs, b: &B) -> Stop
     ensures { Does
         (outcome_of_effect (B.cells b.now) (option_map model.changes

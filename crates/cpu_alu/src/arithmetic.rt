@@ -18,7 +18,7 @@ pub fn add8(a: u8, b: u8, carry: bool, f: Flags) -> (u8, Flags)
     let sum = (whole & 0xFF) as u8;
     let flags = Flags {
         h: low_half > 0x0F,
-        // Signed overflow is where the carry into bit 7 is not the carry out of it.
+        // Signed overflow: the carry into bit 7 differs from the carry out of it.
         v: (low_bits > 0x7F) != (whole > 0xFF),
         c: whole > 0xFF,
         ..result8_flags(sum, f)
@@ -37,7 +37,7 @@ pub fn sub8(a: u8, b: u8, borrow: bool, f: Flags) -> (u8, Flags)
     let whole = 0x100 + a as u16 - b as u16 - borrow_in as u16;
     let difference = (whole & 0xFF) as u8;
     let flags = Flags {
-        // Signed overflow is where the borrow into bit 7 is not the borrow out of it.
+        // Signed overflow: the borrow into bit 7 differs from the borrow out of it.
         v: (low_bits < 0x80) != (whole < 0x100),
         c: whole < 0x100,
         ..result8_flags(difference, f)
@@ -122,7 +122,7 @@ pub fn dec8(a: u8, f: Flags) -> (u8, Flags)
     (previous, flags)
 }
 
-/// DAA: a sum of two pairs of decimal digits, made such a pair again by its half carry and carry.
+/// DAA: corrects a sum of two pairs of decimal digits to such a pair, by its half carry and carry.
 pub fn daa(a: u8, f: Flags) -> (u8, Flags)
     ensures value { result.0 ≡ adjusted8 a f.h f.c }
     ensures flags { result.1 ≡ daa_flags a f }
@@ -144,7 +144,7 @@ pub fn daa(a: u8, f: Flags) -> (u8, Flags)
     (adjusted, flags)
 }
 
-/// MUL: the product, which D holds.
+/// MUL: the product, held in D.
 pub fn mul(a: u8, b: u8, f: Flags) -> (u16, Flags)
     ensures value { result.0 ≡ product a b }
     ensures flags { result.1 ≡ mul_flags a b f }
@@ -158,7 +158,7 @@ pub fn mul(a: u8, b: u8, f: Flags) -> (u16, Flags)
     (product, flags)
 }
 
-/// SEX: B with its sign, which D holds.
+/// SEX: B with its sign, held in D.
 pub fn sex(b: u8, f: Flags) -> (u16, Flags)
     ensures value { result.0 ≡ extended b }
     ensures flags { result.1 ≡ sex_flags b f }

@@ -3,7 +3,7 @@ ghost use Rattle.cpu_model.specs.Flags as model;
 
 use cpu_model::flags::Flags;
 
-/// The flags that the condition code register holds.
+/// The flags in the condition code register.
 #[inline(always)]
 pub fn flags_of(cc: u8) -> Flags
     ensures { result ≡ model.flags_of cc }
@@ -17,7 +17,7 @@ pub fn flags_of(cc: u8) -> Flags
     }
 }
 
-/// The condition code register with these flags, and with E, F and I as they were.
+/// The condition code register with these flags, and with E, F and I unchanged.
 #[inline(always)]
 pub fn with_flags(cc: u8, f: Flags) -> u8
     ensures { result ≡ model.cc_with f cc }

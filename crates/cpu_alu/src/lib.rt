@@ -1,7 +1,8 @@
-//! The arithmetic of the MC6809: each operation's result and the flags that it leaves.
+//! The arithmetic of the MC6809: the result of each operation and the flags after it.
 //!
-//! Each function takes its operands and the flags before it, and answers the result and the flags
-//! after it. A flag that the operation does not set stays (MC6809 programming manual, appendix A).
+//! Each function takes its operands and the flags before the operation, and returns the result and
+//! the flags after it. A flag that the operation does not set is unchanged (MC6809 programming
+//! manual, appendix A).
 #![tactic(auto)]
 
 pub use arithmetic::{add8, add16, daa, dec8, inc8, mul, neg8, sex, sub8, sub16};

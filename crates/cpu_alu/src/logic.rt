@@ -4,7 +4,7 @@ ghost use Rattle.cpu_model.specs.Flags as model;
 
 use cpu_model::flags::Flags;
 
-/// N and Z of a byte, and the other flags as they were.
+/// N and Z of a byte, with the other flags unchanged.
 #[inline(always)]
 pub(crate) fn result8_flags(r: u8, f: Flags) -> Flags
     ensures { result ≡ model.result8_flags r f }
@@ -16,7 +16,7 @@ pub(crate) fn result8_flags(r: u8, f: Flags) -> Flags
     }
 }
 
-/// N and Z of a word, and the other flags as they were.
+/// N and Z of a word, with the other flags unchanged.
 #[inline(always)]
 pub(crate) fn result16_flags(r: u16, f: Flags) -> Flags
     ensures { result ≡ model.result16_flags r f }
@@ -50,7 +50,7 @@ pub fn logic16(r: u16, f: Flags) -> Flags
     }
 }
 
-/// COM: each bit turned.
+/// COM: each bit inverted.
 #[inline(always)]
 pub fn com8(a: u8, f: Flags) -> (u8, Flags)
     ensures value { result.0 ≡ complement8 a }

@@ -5,7 +5,7 @@ ghost use Rattle.cpu_model.specs.Flags.{left8_flags, right8_flags, is_negative8}
 use crate::logic::result8_flags;
 use cpu_model::flags::Flags;
 
-/// One place to the left, with this bit coming in.
+/// One place to the left, with this bit shifted in.
 fn shift_left(a: u8, low: bool, f: Flags) -> (u8, Flags)
     ensures value { result.0 ≡ left8 a low }
     ensures flags { result.1 ≡ left8_flags a low f }
@@ -19,7 +19,7 @@ fn shift_left(a: u8, low: bool, f: Flags) -> (u8, Flags)
     (shifted, flags)
 }
 
-/// One place to the right, with this bit coming in.
+/// One place to the right, with this bit shifted in.
 fn shift_right(a: u8, high: bool, f: Flags) -> (u8, Flags)
     ensures value { result.0 ≡ right8 a high }
     ensures flags { result.1 ≡ right8_flags a high f }
@@ -32,7 +32,7 @@ fn shift_right(a: u8, high: bool, f: Flags) -> (u8, Flags)
     (shifted, flags)
 }
 
-/// ASL, which is LSL too: to the left, with 0 coming in.
+/// ASL, also named LSL: to the left, with 0 shifted in.
 #[inline(always)]
 pub fn asl8(a: u8, f: Flags) -> (u8, Flags)
     ensures value { result.0 ≡ left8 a false }
@@ -41,7 +41,7 @@ pub fn asl8(a: u8, f: Flags) -> (u8, Flags)
     shift_left(a, false, f)
 }
 
-/// ROL: to the left, with the carry coming in.
+/// ROL: to the left, with the carry shifted in.
 #[inline(always)]
 pub fn rol8(a: u8, f: Flags) -> (u8, Flags)
     ensures value { result.0 ≡ left8 a f.c }
@@ -50,7 +50,7 @@ pub fn rol8(a: u8, f: Flags) -> (u8, Flags)
     shift_left(a, f.c, f)
 }
 
-/// LSR: to the right, with 0 coming in.
+/// LSR: to the right, with 0 shifted in.
 #[inline(always)]
 pub fn lsr8(a: u8, f: Flags) -> (u8, Flags)
     ensures value { result.0 ≡ right8 a false }
@@ -59,7 +59,7 @@ pub fn lsr8(a: u8, f: Flags) -> (u8, Flags)
     shift_right(a, false, f)
 }
 
-/// ROR: to the right, with the carry coming in.
+/// ROR: to the right, with the carry shifted in.
 #[inline(always)]
 pub fn ror8(a: u8, f: Flags) -> (u8, Flags)
     ensures value { result.0 ≡ right8 a f.c }
@@ -68,7 +68,7 @@ pub fn ror8(a: u8, f: Flags) -> (u8, Flags)
     shift_right(a, f.c, f)
 }
 
-/// ASR: to the right, with the sign staying.
+/// ASR: to the right, with the sign unchanged.
 #[inline(always)]
 pub fn asr8(a: u8, f: Flags) -> (u8, Flags)
     ensures value { result.0 ≡ right8 a (is_negative8 a) }

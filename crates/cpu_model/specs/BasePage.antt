@@ -1,4 +1,4 @@
--- The opcode map, the opcodes without a prefix (MC6809 programming manual, appendix B).
+-- The opcode map: the opcodes without a prefix (MC6809 programming manual, appendix B).
 use Rattle.std.specs.Prelude.{List, [], ◌∷◌}
 use Rattle.cpu_model.specs.Line.{Line, line}
 use Rattle.cpu_model.specs.declared.rows.Operation.TheVariants.{Abx, Andcc, Binary, Branch, Bsr, Cwai, Daa, Exg, Jmp, Jsr, Lea, Mul, Nop, Orcc, Psh, Pul, Rti, Rts, Sex, Store, StoreWord, Swi, Sync, Tfr, Unary, UnaryOn, Word}

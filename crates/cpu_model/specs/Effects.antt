@@ -1,5 +1,5 @@
--- What an instruction changes, class by class. The registers are those after the instruction's own bytes; nothing
--- is an effect where a cell that is read is not named.
+-- What an instruction changes, class by class. The registers are those after the instruction's own bytes; there is
+-- no effect if a cell that is read is not named.
 use Rattle.std.specs.Prelude.{ℕ, ◌+◌, ◌-◌, ◌/◌, ◌%◌, nat_le, bit_and, bit_or, Option, Some, option_map, option_and_then, List, [], ◌∷◌, ◌++◌, length, if◌then◌else◌}
 use Rattle.os9_base.specs.declared.registers.Regs.{Regs}
 use Rattle.cpu_model.specs.declared.rows.Unary.{Unary}
@@ -24,14 +24,14 @@ use Rattle.cpu_model.specs.Registers.{wrapped, with_d, accumulator, with_accumul
 use Rattle.cpu_model.specs.Operations.{unary_value, unary_flags, binary_value, binary_flags, word_value, word_flags, holds}
 use Rattle.cpu_model.specs.Places.{place, word_at}
 
--- the registers afterwards, and the bytes that are written, in order, each with its address
+-- the registers afterwards, and the bytes written, in order, each with its address
 pub record Effect : Type 0 where
   pub regs : Regs
   pub writes : List (ℕ × ℕ)
 
 -- ---- what is written
 
--- these bytes from an address on, which is counted round
+-- these bytes from an address on, which wraps around
 abbrev pub bytes_from : ℕ → List ℕ → List (ℕ × ℕ)
 bytes_from at [] = []
 bytes_from at (byte ∷ bytes) = (at, byte) ∷ bytes_from (wrapped (at + 1)) bytes
@@ -86,7 +86,7 @@ store acc p =
     let value = accumulator p.regs acc in
     writes_byte (with_flags p.regs (logic8_flags value (flags_of p.regs.cc))) p.at value
 
--- a register that the address has stepped is stored as it then is
+-- a register that the address has stepped is stored with its new value
 abbrev pub store_word : WordRegister → Place → Effect
 store_word reg p =
     let value = word_register p.regs reg in
@@ -94,7 +94,7 @@ store_word reg p =
 
 -- ---- addresses
 
--- LEAX and LEAY set Z, LEAU and LEAS no flag
+-- LEAX and LEAY set Z; LEAU and LEAS set no flag
 abbrev pub lea : IndexRegister → Place → Regs
 lea index.X p = with_flags (record p.regs { x = p.at }) (lea_flags p.at (flags_of p.regs.cc))
 lea index.Y p = with_flags (record p.regs { y = p.at }) (lea_flags p.at (flags_of p.regs.cc))
@@ -107,14 +107,14 @@ jump p = changes (record p.regs { pc = p.at })
 abbrev pub branch : Regs → Condition → ℕ → Regs
 branch r condition target = if holds condition (flags_of r.cc) then record r { pc = target } else r
 
--- a subroutine is entered: the next instruction's address goes on the stack
+-- a subroutine is entered: the next instruction's address is pushed on the stack
 abbrev pub enters : Regs → ℕ → Effect
 enters r target =
     let at = wrapped (r.s + 65534) in writes_word (record r { s = at; pc = target }) at r.pc
 
 -- ---- stacks
 
--- the bytes of a register, where the mask has the bit of this weight
+-- the bytes of a register, if the mask has the bit of this weight
 abbrev pub part : ℕ → ℕ → List ℕ → List ℕ
 part mask weight bytes = if has_bit weight mask then bytes else []
 
@@ -155,13 +155,13 @@ pull_words cells stack mask p =
     (option_and_then (λ p. pull_word cells mask 64 (other_pointer stack) p)
     (option_and_then (λ p. pull_word cells mask 32 Y p) (pull_word cells mask 16 X p)))
 
--- what a pull with this mask leaves in the registers
+-- the registers after a pull with this mask
 unfoldable pub pull : (ℕ → Option ℕ) → Regs → Stack → ℕ → Option Regs
 pull cells r stack mask =
     option_map (λ p. with_stack_pointer p.regs stack p.at)
     (option_and_then (λ p. pull_words cells stack mask p) (pull_bytes cells mask (place (stack_pointer r stack) r)))
 
--- RTI: E of the CC on the stack tells whether all registers lie there, or CC and PC alone
+-- RTI: E of the CC on the stack says whether all registers are there, or CC and PC alone
 abbrev pub return_mask : ℕ → ℕ
 return_mask cc = if nat_le 128 cc then 255 else 129
 
@@ -174,7 +174,7 @@ return_from_subroutine cells r =
 
 -- ---- the other instructions on registers
 
--- the source is named by the high half of the postbyte
+-- the high half of the postbyte names the source
 abbrev pub transfer : Regs → ℕ → Regs
 transfer r pair = with_register r (register_coded (pair % 16)) (register r (register_coded (pair / 16)))
 

@@ -1,5 +1,5 @@
--- The flags that each instruction of the MC6809 leaves (programming manual, appendix A, "Condition codes" of each
--- instruction). A flag that a row does not name stays, those that the manual calls undefined too.
+-- The flags after each instruction of the MC6809 (programming manual, appendix A, "Condition codes" of each
+-- instruction). A flag that a row does not name is unchanged, even if the manual calls it undefined.
 use Rattle.std.specs.Prelude.{ℕ, ◌+◌, ◌*◌, ◌/◌, ◌%◌, ◌||◌, ◌==◌, not, nat_le, nat_lt, Bool, true, false, ℤ, pos, negsuc, ◌+ℤ◌, ◌-ℤ◌, int_lt, if◌then◌else◌}
 use Rattle.std.specs.Int.{from_bool, cast_signed, w8, w16}
 use Rattle.cpu_model.specs.declared.flags.Flags.{Flags}
@@ -21,14 +21,14 @@ has_bit weight a = a / weight % 2 == 1
 abbrev pub exclusive_or : Bool → Bool → Bool
 exclusive_or a b = if a then not b else b
 
--- the whole number that a byte or a word stands for in two's complement
+-- the whole number that a byte or a word represents in two's complement
 abbrev pub signed8 : ℕ → ℤ
 signed8 a = cast_signed w8 a
 
 abbrev pub signed16 : ℕ → ℤ
 signed16 a = cast_signed w16 a
 
--- a whole number that no byte, or no word, stands for in two's complement: signed overflow
+-- a whole number that no byte, or no word, represents in two's complement: signed overflow
 abbrev pub overflows8 : ℤ → Bool
 overflows8 z = int_lt z (negsuc 127) || int_lt (pos 127) z
 
@@ -92,11 +92,11 @@ neg8_flags a f = record (result8_flags (negative8 a) f) { v = a == 128; c = not 
 abbrev pub com8_flags : ℕ → Flags → Flags
 com8_flags a f = record (result8_flags (complement8 a) f) { v = false; c = true }
 
--- LSR, ROR and ASR, with what comes in as bit 7
+-- LSR, ROR and ASR; `high` becomes bit 7
 abbrev pub right8_flags : ℕ → Bool → Flags → Flags
 right8_flags a high f = record (result8_flags (right8 a high) f) { c = has_bit 1 a }
 
--- ASL and ROL, with what comes in as bit 0; V is bit 7 exclusive or bit 6
+-- ASL and ROL: `low` becomes bit 0, and V is bit 7 exclusive or bit 6
 abbrev pub left8_flags : ℕ → Bool → Flags → Flags
 left8_flags a low f =
     record (result8_flags (left8 a low) f) {
@@ -138,7 +138,7 @@ lea_flags address f = record f { z = address == 0 }
 abbrev pub flags_of : ℕ → Flags
 flags_of cc = record { h = has_bit 32 cc; n = has_bit 8 cc; z = has_bit 4 cc; v = has_bit 2 cc; c = has_bit 1 cc }
 
--- the register with these flags, and with E, F and I as they were
+-- the register with these flags, and with E, F and I unchanged
 abbrev pub cc_with : Flags → ℕ → ℕ
 cc_with f cc =
     cc / 64 * 64 + 32 * from_bool f.h + cc / 16 % 2 * 16 + 8 * from_bool f.n + 4 * from_bool f.z

@@ -4,7 +4,7 @@ use Rattle.cpu_model.specs.declared.rows.Row.{Row}
 use Rattle.cpu_model.specs.declared.rows.Operation.{Operation}
 use Rattle.cpu_model.specs.declared.rows.Mode.{Mode}
 
--- an opcode and what it stands for
+-- an opcode and its row
 pub record Line : Type 0 where
   pub opcode : ℕ
   pub row : Row
@@ -12,7 +12,7 @@ pub record Line : Type 0 where
 abbrev pub line : ℕ → Operation → Mode → Line
 line opcode operation mode = record { opcode = opcode; row = record { 0 = operation; 1 = mode } }
 
--- the row of the line that has this opcode, or nothing where no line has it
+-- the row of the line with this opcode, or nothing if no line has it
 abbrev pub row_among : List Line → ℕ → Option Row
 row_among [] opcode = None
 row_among (l ∷ ls) opcode = if l.opcode == opcode then Some l.row else row_among ls opcode

@@ -1,4 +1,4 @@
--- What instructions make of their operands (MC6809 programming manual, appendix A).
+-- What instructions compute from their operands (MC6809 programming manual, appendix A).
 use Rattle.std.specs.Prelude.{ℕ, ◌||◌, not, bit_and, bit_or, bit_xor, Bool, true, false}
 use Rattle.cpu_model.specs.declared.flags.Flags.{Flags}
 use Rattle.cpu_model.specs.declared.rows.Unary.{Unary}
@@ -14,7 +14,7 @@ use Rattle.cpu_model.specs.Flags.{is_negative8, exclusive_or, add8_flags, add16_
 
 -- ---- one byte
 
--- what the byte becomes; TST leaves it
+-- the new value of the byte; TST leaves it unchanged
 abbrev pub unary_value : Unary → ℕ → Flags → ℕ
 unary_value Neg a f = negative8 a
 unary_value Com a f = complement8 a
@@ -43,7 +43,7 @@ unary_flags Clr a f = clr_flags f
 
 -- ---- an accumulator and a byte
 
--- what the accumulator becomes; CMP and BIT leave it
+-- the new value of the accumulator; CMP and BIT leave it unchanged
 abbrev pub binary_value : Binary → ℕ → ℕ → Flags → ℕ
 binary_value Sub a b f = difference8 a b false
 binary_value Cmp a b f = a
@@ -70,7 +70,7 @@ binary_flags Add a b f = add8_flags a b false f
 
 -- ---- a register of sixteen bits and a word
 
--- what the register becomes; CMP leaves it
+-- the new value of the register; CMP leaves it unchanged
 abbrev pub word_value : WordBinary → ℕ → ℕ → ℕ
 word_value word.Sub a b = difference16 a b
 word_value word.Cmp a b = a

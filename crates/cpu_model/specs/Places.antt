@@ -1,4 +1,4 @@
--- Where operands lie. The registers are those after the instruction's own bytes: PC is the address of the next
+-- The places of operands. The registers are those after the instruction's own bytes: PC is the address of the next
 -- instruction.
 use Rattle.std.specs.Prelude.{ℕ, ◌+◌, ◌-◌, ◌*◌, ◌%◌, nat_le, Option, Some, None, option_map, option_and_then, unwrap_or, if◌then◌else◌}
 use Rattle.os9_base.specs.declared.registers.Regs.{Regs}
@@ -42,21 +42,21 @@ word_at cells at =
 abbrev pub place : ℕ → Regs → Place
 place at r = record { at = at; regs = r }
 
--- this far from an index register
+-- at this distance from an index register
 abbrev pub offset_place : Regs → IndexRegister → ℕ → Place
 offset_place r base offset = place (wrapped (index_register r base + offset)) r
 
--- at an index register, which then is so much further
+-- at an index register, which is then increased by this number
 abbrev pub increment_place : Regs → IndexRegister → ℕ → Place
 increment_place r base by =
     place (index_register r base) (with_index_register r base (wrapped (index_register r base + by)))
 
--- at an index register that has first been taken back so far
+-- at an index register, after it is decreased by this number
 abbrev pub decrement_place : Regs → IndexRegister → ℕ → Place
 decrement_place r base by =
     let at = wrapped (index_register r base + 65536 - by) in place at (with_index_register r base at)
 
--- the address that a form of indexed addressing tells
+-- the address of a form of indexed addressing
 abbrev pub form_place : Regs → Form → IndexRegister → ℕ → Tail → Place
 form_place r Offset5 base post tail = offset_place r base (five_bits post)
 form_place r Increment1 base post tail = increment_place r base 1
@@ -77,7 +77,7 @@ form_place r Absolute base post tail = place (tail_word tail) r
 abbrev pub pointed : (ℕ → Option ℕ) → Place → Option Place
 pointed cells p = option_map (λ at. place at p.regs) (word_at cells p.at)
 
--- the address of indexed addressing, of a pointer or of the operand itself
+-- the address of indexed addressing: the operand's own, or the one in the pointer
 abbrev pub indexed_place : (ℕ → Option ℕ) → Regs → ℕ → Tail → Indexing → Option Place
 indexed_place cells r post tail indexing =
     let p = form_place r indexing.0 indexing.1 post tail in if indexing.2 then pointed cells p else Some p
@@ -90,7 +90,7 @@ place_of cells r Indexed i =
     let post = unwrap_or i.post 0 in option_and_then (λ x. indexed_place cells r post i.tail x) (postbyte post)
 place_of cells r _ i = None
 
--- where a branch goes
+-- the target of a branch
 abbrev pub target_of : Regs → Mode → Tail → ℕ
 target_of r Relative8 tail = wrapped (r.pc + extended (tail_byte tail))
 target_of r _ tail = wrapped (r.pc + tail_word tail)

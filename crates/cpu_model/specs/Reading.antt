@@ -19,7 +19,7 @@ use Rattle.cpu_model.specs.Table.{row, postbyte, plain_postbyte, is_pair}
 abbrev pub Reading : Type 0
 Reading = Result (Instr × ℕ) DecodeFault
 
--- how many bytes follow the opcode or the postbyte
+-- the number of bytes that follow the opcode or the postbyte
 pub data Extent : Type 0 where
   none : Extent
   byte : Extent
@@ -48,7 +48,7 @@ abbrev pub instruction : Page → ℕ → Option ℕ → Tail → ℕ → Readin
 instruction page opcode post tail length =
     Ok (record { page = page; opcode = opcode; post = post; tail = tail }, length)
 
--- the operand bytes at the front of what follows, of an instruction that has this many bytes before them
+-- the operand bytes at the front of the rest, of an instruction with this number of bytes before them
 abbrev pub read_tail : Page → ℕ → Option ℕ → ℕ → Extent → List ℕ → Reading
 read_tail page opcode post length none rest = instruction page opcode post Empty length
 read_tail page opcode post length byte [] = Err Short
@@ -58,13 +58,13 @@ read_tail page opcode post length word (high ∷ []) = Err Short
 read_tail page opcode post length word (high ∷ low ∷ rest) =
     instruction page opcode post (Word (high * 256 + low)) (length + 2)
 
--- a pair of registers, which has to be a documented one
+-- a pair of registers, which must be documented
 abbrev pub read_pair : Page → ℕ → ℕ → List ℕ → Reading
 read_pair page opcode length [] = Err Short
 read_pair page opcode length (pair ∷ rest) =
     if is_pair pair then instruction page opcode None (Byte pair) (length + 1) else Err NotDocumented
 
--- what follows a postbyte of this meaning
+-- the bytes after a postbyte of this meaning
 abbrev pub read_form : Page → ℕ → ℕ → ℕ → Option Indexing → List ℕ → Reading
 read_form page opcode length post None rest = Err NotDocumented
 read_form page opcode length post (Some indexing) rest =
@@ -83,12 +83,12 @@ abbrev pub read_row : Page → ℕ → ℕ → Option Row → List ℕ → Readi
 read_row page opcode length None rest = Err NotDocumented
 read_row page opcode length (Some r) rest = read_operand page opcode length r.1 rest
 
--- an opcode of this page, with this many bytes up to it
+-- an opcode of this page, with this number of bytes up to it
 abbrev pub read_opcode : Page → ℕ → List ℕ → Reading
 read_opcode page length [] = Err Short
 read_opcode page length (opcode ∷ rest) = read_row page opcode length (row page opcode) rest
 
--- what the bytes at the front of a list spell
+-- the instruction that the bytes at the front of a list spell
 unfoldable pub reading : List ℕ → Reading
 reading [] = Err Short
 reading (b ∷ rest) =

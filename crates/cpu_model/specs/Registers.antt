@@ -14,7 +14,7 @@ use Rattle.cpu_model.specs.declared.rows.Register.{Register}
 use Rattle.cpu_model.specs.declared.rows.Register.TheVariants.{D, X, Y, U, S, Pc, A, B, Cc, Dp}
 use Rattle.cpu_model.specs.Flags.{cc_with}
 
--- an address counted round: FFFF is followed by 0000
+-- an address wrapped around: FFFF is followed by 0000
 abbrev pub wrapped : ℕ → ℕ
 wrapped address = address % 65536
 
@@ -98,7 +98,7 @@ register r B = r.b
 register r Cc = r.cc
 register r Dp = r.dp
 
--- a byte register takes the low byte
+-- a byte register gets the low byte
 abbrev pub with_register : Regs → Register → ℕ → Regs
 with_register r D value = with_d r value
 with_register r X value = record r { x = value }

@@ -17,7 +17,7 @@ use Rattle.cpu_model.specs.Places.{place_of, byte_operand, word_operand, target_
 use Rattle.cpu_model.specs.Effects.{Effect, changes, unary_effect_at, unary_on, binary_on, word_on, store, store_word, jump, lea, branch, enters, push, pull, return_from_interrupt, return_from_subroutine, transfer, exchange, abx, daa, mul, sex, orcc, andcc}
 
 -- an effect, a system call with its code byte and the registers when PC is past it, or the status with which
--- a program that does this ends
+-- the program ends
 pub data Outcome : Type 0 where
   Done : Effect → Outcome
   Calls : ℕ → Regs → Outcome
@@ -29,18 +29,18 @@ abbrev window_from : (ℕ → List ℕ) → ℕ → Option ℕ → List ℕ
 window_from rest at None = []
 window_from rest at (Some byte) = byte ∷ rest (wrapped (at + 1))
 
--- at most this many bytes from an address on, up to the first that is not named
+-- up to this number of bytes from an address on, up to the first that is not named
 unfoldable pub window : (ℕ → Option ℕ) → ℕ → ℕ → List ℕ
 window cells at zero = []
 window cells at (suc n) = window_from (λ address. window cells address n) at (cells at)
 
--- the registers when PC is past so many bytes
+-- the registers when PC is past this number of bytes
 abbrev pub past : Regs → ℕ → Regs
 past r length = record r { pc = wrapped (r.pc + length) }
 
 -- ---- what each operation changes
 
--- the effect of an operation, or nothing where a cell that it reads is not named
+-- the effect of an operation, or nothing if a cell that it reads is not named
 unfoldable pub effect_of : (ℕ → Option ℕ) → Regs → Instr → Mode → Operation → Option Effect
 effect_of cells r i mode (Unary u) = option_and_then (λ p. unary_effect_at cells u p) (place_of cells r mode i)
 effect_of cells r i mode (UnaryOn u acc) = Some (changes (unary_on r u acc))
@@ -70,17 +70,17 @@ effect_of cells r i mode _ = None
 
 -- ---- outcomes
 
--- every address that is written is named
+-- every address written is named
 abbrev pub all_named : (ℕ → Option ℕ) → List (ℕ × ℕ) → Bool
 all_named cells [] = true
 all_named cells (w ∷ ws) = is_some (cells w.0) && all_named cells ws
 
--- nothing is done where a cell is read or written that is not named
+-- nothing is done if a cell that is read or written is not named
 abbrev pub outcome_of_effect : (ℕ → Option ℕ) → Option Effect → Outcome
 outcome_of_effect cells None = Aborts E_PRCABT
 outcome_of_effect cells (Some e) = if all_named cells e.writes then Done e else Aborts E_PRCABT
 
--- SWI2: the code byte follows
+-- SWI2: the code byte is next
 abbrev pub call_outcome : Regs → Option ℕ → Outcome
 call_outcome r None = Aborts E_PRCABT
 call_outcome r (Some code) = Calls code (past r 1)
@@ -107,7 +107,7 @@ outcome_of_reading cells r (Ok found) =
 unfoldable pub step_of : (ℕ → Option ℕ) → Regs → Outcome
 step_of cells r = outcome_of_reading cells r (reading (window cells r.pc 5))
 
--- ---- what a step leaves
+-- ---- the state after a step
 
 -- the cells after these writes
 abbrev pub write_cells : (ℕ → Option ℕ) → List (ℕ × ℕ) → (ℕ → Option ℕ)

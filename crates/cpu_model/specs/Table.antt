@@ -21,7 +21,7 @@ page_lines Base = base_page
 page_lines Ten = ten_page
 page_lines Eleven = eleven_page
 
--- what an opcode of a page stands for, or nothing where it is not documented
+-- the row of an opcode of a page, or nothing if the opcode is not documented
 unfoldable pub row : Page → ℕ → Option Row
 row page opcode = row_among (page_lines page) opcode
 
@@ -64,19 +64,19 @@ base_register post =
 abbrev indexing : Form → ℕ → Bool → Indexing
 indexing form post indirect = record { 0 = form; 1 = base_register post; 2 = indirect }
 
--- bit 4 of a postbyte with bit 7 asks for a pointer, where the form may have one
+-- bit 4 of a postbyte with bit 7 asks for a pointer, if the form may have one
 abbrev indexing_of_line : ℕ → FormLine → Option Indexing
 indexing_of_line post l =
     if has_bit 16 post && not l.may_be_indirect then None else Some (indexing l.form post (has_bit 16 post))
 
--- what a postbyte means, or nothing where it is not documented
+-- the meaning of a postbyte, or nothing if it is not documented
 unfoldable pub postbyte : ℕ → Option Indexing
 postbyte post =
     if nat_lt post 128 then Some (indexing Offset5 post false)
     else (if post == 0x9F then Some (indexing Absolute post true)
     else option_and_then (λ l. indexing_of_line post l) (form_among form_lines (post % 16)))
 
--- bits 6 and 5 do not matter where the offset counts from PC; they are read as 0
+-- bits 6 and 5 do not matter if the offset is counted from PC; they are read as 0
 abbrev pub plain_postbyte : Form → ℕ → ℕ
 plain_postbyte FromPc8 post = post % 32 + 128
 plain_postbyte FromPc16 post = post % 32 + 128
@@ -91,7 +91,7 @@ is_word_code code = nat_le code 5
 abbrev pub is_byte_code : ℕ → Bool
 is_byte_code code = nat_le 8 code && nat_le code 11
 
--- both halves name registers, of one size
+-- both halves name registers of one size
 abbrev pub is_pair : ℕ → Bool
 is_pair post =
     (is_word_code (post / 16) && is_word_code (post % 16)) || (is_byte_code (post / 16) && is_byte_code (post % 16))

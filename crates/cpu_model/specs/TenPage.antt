@@ -1,4 +1,4 @@
--- The opcode map, the opcodes after the prefix 10 (MC6809 programming manual, appendix B).
+-- The opcode map: the opcodes after the prefix 10 (MC6809 programming manual, appendix B).
 use Rattle.std.specs.Prelude.{List, [], ◌∷◌}
 use Rattle.cpu_model.specs.Line.{Line, line}
 use Rattle.cpu_model.specs.declared.rows.Operation.TheVariants.{Branch, StoreWord, Swi2, Word}

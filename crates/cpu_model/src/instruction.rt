@@ -1,6 +1,6 @@
 use thiserror::Error;
 
-/// The part of the opcode map that an opcode stands in: no prefix, `10` or `11`.
+/// The part of the opcode map that holds an opcode: no prefix, `10` or `11`.
 #[derive(Clone, Copy, Debug, PartialEq, Eq)]
 pub enum Page {
     Base,
@@ -26,13 +26,13 @@ pub struct Instr {
     pub tail: Tail,
 }
 
-/// Why bytes are no instruction.
+/// Why bytes are not an instruction.
 #[derive(Clone, Copy, Debug, PartialEq, Eq, Error)]
 pub enum DecodeFault {
-    /// No documented instruction is spelled so.
+    /// No documented instruction has this spelling.
     #[error("no documented instruction")]
     NotDocumented,
-    /// The bytes are the beginning of one.
+    /// The bytes are the beginning of a documented instruction.
     #[error("the bytes end inside an instruction")]
     Short,
 }

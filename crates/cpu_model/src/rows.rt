@@ -5,8 +5,8 @@ pub enum Accumulator {
     B,
 }
 
-/// A register of sixteen bits, as load, store and compare instructions name it; D is A as the
-/// high byte and B as the low one.
+/// A register of sixteen bits, as load, store and compare instructions name it. D has A as its
+/// high byte and B as its low byte.
 #[derive(Clone, Copy, Debug, PartialEq, Eq)]
 pub enum WordRegister {
     D,
@@ -87,7 +87,7 @@ pub enum WordBinary {
     Ld,
 }
 
-/// The conditions of branches, each named as in its mnemonic's last two letters in words.
+/// The conditions of branches, each named by the last two letters of its mnemonic in words.
 #[derive(Clone, Copy, Debug, PartialEq, Eq)]
 pub enum Condition {
     Always,
@@ -153,7 +153,7 @@ pub enum Operation {
     Cwai,
 }
 
-/// Where an instruction's operand is (MC6809 programming manual, "Addressing modes").
+/// The place of an instruction's operand (MC6809 programming manual, "Addressing modes").
 #[derive(Clone, Copy, Debug, PartialEq, Eq)]
 pub enum Mode {
     /// No bytes after the opcode.
@@ -164,7 +164,7 @@ pub enum Mode {
     Immediate16,
     /// At the address whose high byte is DP and whose low byte follows the opcode.
     Direct,
-    /// At the address that a postbyte and up to two more bytes tell.
+    /// At the address given by a postbyte and up to two more bytes.
     Indexed,
     /// At the address that follows the opcode.
     Extended,
@@ -176,6 +176,6 @@ pub enum Mode {
     Pair,
 }
 
-/// A row of the opcode map: what the instruction does and where its operand is.
+/// A row of the opcode map: what the instruction does and the place of its operand.
 #[derive(Clone, Copy, Debug, PartialEq, Eq)]
 pub struct Row(pub Operation, pub Mode);

@@ -15,6 +15,6 @@ abbrev pub reading_of : Result Decoded DecodeFault → Reading
 reading_of (Err fault) = Err fault
 reading_of (Ok decoded) = Ok (decoded.instr, decoded.length)
 
--- the row is the one that the opcode map has for the instruction
+-- the row is that of the instruction in the opcode map
 abbrev pub HasItsRow : Decoded → Type 0
 HasItsRow decoded = row decoded.instr.page decoded.instr.opcode ≡ Some decoded.row

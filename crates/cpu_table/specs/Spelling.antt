@@ -1,4 +1,4 @@
--- How instructions are spelled: which are documented, the bytes of each, and which bytes spell it. Nothing here reads.
+-- The spelling of instructions: which are documented, the bytes of each, and which bytes spell it; no reading.
 use Rattle.std.specs.Prelude.{◌≡◌, ◌≢◌, ℕ, ◌/◌, ◌%◌, ◌<◌, ◌≤◌, true, Option, Some, None, IsSomeAnd, option_map, option_to_list, List, [], ◌∷◌, ◌++◌, length, take, All, ⊤}
 use Rattle.std.specs.Option.{option_map_or}
 use Rattle.cpu_model.specs.declared.rows.Mode.{Mode}
@@ -13,7 +13,7 @@ use Rattle.cpu_model.specs.Reading.{Extent, none, byte, word, extent_of_mode, ex
 
 -- ---- which instructions are documented (programming manual, "Addressing modes" and appendix B)
 
--- the operand bytes are as many as this
+-- the operand bytes have this extent
 abbrev pub HasExtent : Extent → Tail → Type 0
 HasExtent none Empty = ⊤
 HasExtent byte (Byte _) = ⊤
@@ -29,7 +29,7 @@ HasOperand Pair _ _ = ⊥
 HasOperand mode None tail = HasExtent (extent_of_mode mode) tail
 HasOperand _ (Some _) tail = ⊥
 
--- the opcode map has a row for the opcode, and the rest is what the row's mode has
+-- the opcode map has a row for the opcode, and the rest is as the row's mode asks
 abbrev pub IsDocumented : Instr → Type 0
 IsDocumented i = IsSomeAnd (row i.page i.opcode) (λ r. HasOperand r.1 i.post i.tail)
 
@@ -53,26 +53,25 @@ spelling i = prefix i.page ++ (i.opcode ∷ (option_to_list i.post ++ tail_bytes
 
 -- ---- which bytes spell an instruction
 
--- the same instruction with bits 6 and 5 of its postbyte 0 where they do not matter, which is where the offset counts
--- from PC
+-- the same instruction, with bits 6 and 5 of its postbyte 0 if its offset is counted from PC: they do not matter then
 abbrev pub plain_post : ℕ → ℕ
 plain_post post = option_map_or (λ indexing. plain_postbyte indexing.0 post) (postbyte post) post
 
 abbrev pub plain : Instr → Instr
 plain i = record i { post = option_map plain_post i.post }
 
--- an instruction that decoding can give
+-- an instruction that decoding can return
 abbrev pub IsPlain : Instr → Type 0
 IsPlain i = IsDocumented i × (plain i ≡ i)
 
--- these bytes, and no more and no fewer, spell the instruction
+-- exactly these bytes spell the instruction
 pub record Spells (i : Instr) (bytes : List ℕ) : Type 0 where
   pub written : Instr
   pub documented : IsDocumented written
   pub bytes_are : bytes ≡ spelling written
   pub plainly : i ≡ plain written
 
--- the first so many of these bytes spell the instruction
+-- the first `count` of these bytes spell the instruction
 pub record BeginsWith (bytes : List ℕ) (i : Instr) (count : ℕ) : Type 0 where
   pub enough : count ≤ length bytes
   pub spells : Spells i (take count bytes)
@@ -85,6 +84,6 @@ pub record IsBegun (bytes : List ℕ) : Type 0 where
   pub i : Instr
   pub spells : Spells i (bytes ++ more)
 
--- some instruction is spelled at the front of these bytes
+-- the bytes begin with the spelling of some instruction
 abbrev pub IsSpelled : List ℕ → Type 0
 IsSpelled bytes = (i : Instr) × (count : ℕ) × BeginsWith bytes i count

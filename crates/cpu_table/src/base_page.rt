@@ -10,8 +10,8 @@ use cpu_model::rows::Stack::{System, User};
 use cpu_model::rows::WordRegister::{D, U, X};
 use cpu_model::rows::{Binary, IndexRegister, Operation, Row, Unary, WordBinary};
 
-/// The opcodes without a prefix (MC6809 programming manual, appendix B): a row for each high half of the
-/// opcode, a column for each low half.
+/// The opcodes without a prefix (MC6809 programming manual, appendix B): a row for each high half
+/// of the opcode, a column for each low half.
 pub(crate) static BASE_PAGE: [Option<Row>; 256] = [
     Some(Row(Operation::Unary(Unary::Neg), Direct)),
     None,

@@ -2,8 +2,8 @@ use cpu_model::rows::Mode::{Direct, Extended, Immediate16, Indexed, Inherent};
 use cpu_model::rows::WordRegister::{S, U};
 use cpu_model::rows::{Operation, Row, WordBinary};
 
-/// The opcodes after the prefix `11` (MC6809 programming manual, appendix B): a row for each high half of the
-/// opcode, a column for each low half.
+/// The opcodes after the prefix `11` (MC6809 programming manual, appendix B): a row for each high
+/// half of the opcode, a column for each low half.
 pub(crate) static ELEVEN_PAGE: [[Option<Row>; 16]; 16] = [
     [None; 16],
     [None; 16],

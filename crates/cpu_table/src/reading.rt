@@ -10,7 +10,7 @@ use cpu_model::indexing::{Form, Indexing};
 use cpu_model::instruction::{DecodeFault, Instr, Page, Tail};
 use cpu_model::rows::{Mode, Row};
 
-/// What is known of an instruction before its operand bytes, and how many bytes that takes.
+/// What is known of an instruction before its operand bytes, and the number of bytes up to them.
 #[derive(Clone, Copy)]
 struct Head {
     page: Page,
@@ -76,7 +76,7 @@ fn with_word(head: Head, rest: &[u8]) -> Result<(Instr, u8), DecodeFault>
     }
 }
 
-/// The instruction whose operand bytes, the first of `rest`, are those that its postbyte's form has.
+/// The instruction with the operand bytes of its postbyte's form, the first of `rest`.
 #[inline(always)]
 fn with_form(head: Head, form: Form, rest: &[u8]) -> Result<(Instr, u8), DecodeFault>
     requires { head.length ≤ 3 }
@@ -92,7 +92,7 @@ fn with_form(head: Head, form: Form, rest: &[u8]) -> Result<(Instr, u8), DecodeF
     }
 }
 
-/// The postbyte as it is given: bits 6 and 5 do not matter where the offset counts from PC.
+/// The postbyte as it is reported: bits 6 and 5 do not matter if the offset is counted from PC.
 #[inline(always)]
 fn plain_postbyte(form: Form, post: u8) -> u8
     ensures { result ≡ tables.plain_postbyte form post }
@@ -131,7 +131,7 @@ fn with_postbyte(head: Head, rest: &[u8]) -> Result<(Instr, u8), DecodeFault>
     }
 }
 
-/// Do both halves of this byte name registers, and of one size?
+/// Do both halves of this byte name registers of one size?
 #[inline(always)]
 fn is_pair(post: u8) -> bool
     ensures { result ≡ tables.is_pair post }
@@ -181,7 +181,7 @@ pub struct Decoded {
 }
 
 /// The instruction of this row of the opcode map, whose bytes after the opcode are the first of
-/// `rest`, with `length` bytes up to and with the opcode.
+/// `rest`; `length` is the number of bytes up to and including the opcode.
 #[inline(always)]
 fn from_row(
     page: Page,
@@ -221,8 +221,8 @@ fn from_opcode(page: Page, bytes: &[u8]) -> Result<Decoded, DecodeFault>
     }
 }
 
-/// The instruction that begins with this prefix or with an opcode that is not documented, and goes
-/// on with these bytes.
+/// The instruction that begins with this byte, a prefix or an undocumented opcode, and continues
+/// with these bytes.
 #[inline(always)]
 #[tactic(auto, unfolding(cpu_model::specs::Reading::reading))]
 fn from_prefix(first: u8, rest: &[u8]) -> Result<Decoded, DecodeFault>
@@ -238,7 +238,7 @@ fn from_prefix(first: u8, rest: &[u8]) -> Result<Decoded, DecodeFault>
     from_opcode(page, rest)
 }
 
-/// The instruction that begins with this byte and goes on with these.
+/// The instruction that begins with this byte and continues with these.
 #[inline(always)]
 fn from_first(first: u8, rest: &[u8]) -> Result<Decoded, DecodeFault>
     ensures value { reading_of result ≡ model.reading (first ∷ rest.now) }
@@ -265,14 +265,14 @@ pub fn decode_with_row(bytes: &[u8]) -> Result<Decoded, DecodeFault>
 }
 
 /// The instruction at the front of these bytes, and the number of its bytes (MC6809 programming
-/// manual, appendix B). Of SWI2 that is 2: a code byte behind it is not its own.
+/// manual, appendix B). For SWI2 that is 2: a code byte after it is not part of it.
 ///
-/// `Short` where the bytes are the beginning of a longer spelling, and `NotDocumented` where
-/// nothing documented is spelled so, whatever follows.
+/// `Short` if the bytes are the beginning of a longer spelling, and `NotDocumented` if no
+/// documented instruction is spelled so, whatever follows.
 pub fn decode(bytes: &[u8]) -> Result<(Instr, u8), DecodeFault>
     ensures value { result ≡ model.reading bytes.now }
 
-    // What is answered is documented and spelled so, and whatever is spelled so is answered.
+    // The result is documented and spelled so, and each instruction spelled so is the result.
     ensures found { IfOk result (λ found. BeginsWith bytes.now found.0 found.1) }
     ensures plain { IfOk result (λ found. IsPlain found.0) }
     ensures only { (i : Instr) (count : ℕ) → BeginsWith bytes.now i count → result ≡ Ok (i, count) }

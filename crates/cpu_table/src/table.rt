@@ -9,7 +9,7 @@ use cpu_model::indexing::Indexing;
 use cpu_model::instruction::Page;
 use cpu_model::rows::Row;
 
-/// What an opcode of a page stands for, or None where it is not documented.
+/// The row of an opcode of a page, or None if the opcode is not documented.
 #[inline(always)]
 pub fn row(page: Page, opcode: u8) -> Option<Row>
     ensures { result ≡ model.row page opcode }
@@ -23,7 +23,7 @@ pub fn row(page: Page, opcode: u8) -> Option<Row>
     }
 }
 
-/// What a postbyte of indexed addressing means, or None where it is not documented.
+/// The meaning of a postbyte of indexed addressing, or None if it is not documented.
 #[inline(always)]
 pub fn postbyte(post: u8) -> Option<Indexing>
     ensures { result ≡ model.postbyte post }

@@ -38,7 +38,7 @@ fn of_page(page: Page) -> Spelling
     }
 }
 
-/// The spelling with a postbyte at its end, where there is one.
+/// The spelling with a postbyte at its end, if there is one.
 fn with_post(spelled: Spelling, post: Option<u8>) -> Spelling
     requires { spelled.len < 5 }
     ensures len { result.len ≡ spelled.len + length (option_to_list post) }
@@ -70,8 +70,8 @@ fn with_tail(spelled: Spelling, tail: Tail) -> Spelling
 
 /// The bytes of an instruction: prefix, opcode, postbyte and operand, in this order.
 ///
-/// Of each instruction that [`decode`](crate::decode) can give, they are read as it again,
-/// whatever follows them.
+/// Of each instruction that [`decode`](crate::decode) can return, these bytes are decoded to it
+/// again, whatever follows them.
 pub fn spell(i: &Instr) -> Spelling
     ensures bytes { take result.len result.bytes ≡ spelling i.now }
     ensures len { result.len ≡ length (spelling i.now) }

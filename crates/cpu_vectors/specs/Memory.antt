@@ -1,4 +1,4 @@
--- What a program sees of the memory.
+-- The memory that a program sees.
 use Rattle.std.specs.Prelude.{ℕ, ◌/◌, ◌%◌, ◌^◌, ◌==◌, Bool, Option, None, List, slice_get, if◌then◌else◌}
 
 -- the slot of an address is named

@@ -1,6 +1,6 @@
-//! Runs steps of the processor whose outcome is known from elsewhere, one a line, and prints how
-//! many there were and how many came out otherwise: over a memory whose bytes lie together, slot
-//! by slot, and over one of which no bytes do.
+//! Runs steps of the processor whose outcome is known from elsewhere, one a line, and prints the
+//! number of steps and the number of those with another outcome: over a memory whose bytes lie
+//! together, slot by slot, and over one in which no bytes do.
 #![tactic(auto)]
 
 ghost use Rattle.std.specs.Prelude.{IsTrue};
@@ -16,7 +16,7 @@ use std::alloc::{AllocError, Global};
 use std::io::{BufRead, BufReader};
 use vector::Vector;
 
-/// Over which memory a step came out as its line says.
+/// The memories over which a step ends as its line says.
 #[derive(Clone, Copy)]
 struct Agreement {
     together: bool,
@@ -33,7 +33,7 @@ fn comes_out<B: Bus>(vector: &Vector, bus: &mut B) -> bool
     stop == vector.stop && regs == vector.after
 }
 
-/// Does the step come out as the line says, in registers, in every cell and in how it ends?
+/// Does the step end as the line says, in registers, in every cell and in how it ends?
 fn agreement_of(alloc: Global, vector: &Vector) -> Result<Agreement, AllocError> {
     let expected = Memory::after(alloc, vector)?;
     let mut memory = Memory::before(alloc, vector)?;
@@ -48,7 +48,7 @@ fn agreement_of(alloc: Global, vector: &Vector) -> Result<Agreement, AllocError>
     })
 }
 
-/// The agreement of a line, which is none where it has other fields.
+/// The agreement of a line; there is none if the line has other fields.
 fn agreement_of_line(alloc: Global, line: &str) -> Result<Agreement, AllocError> {
     match vector::parse(alloc, line)? {
         Some(vector) => agreement_of(alloc, &vector),

@@ -9,7 +9,7 @@ use std::alloc::{AllocError, Global};
 
 const ADDRESSES: usize = 0x1_0000;
 
-/// How many addresses lie in a slot.
+/// The number of addresses in a slot.
 const SLOT_LEN: usize = 0x2000;
 
 /// A byte at each address.
@@ -40,7 +40,7 @@ impl Bytes {
 }
 
 impl Memory {
-    /// What the step finds.
+    /// The memory before the step.
     pub(crate) fn before(alloc: Global, vector: &Vector) -> Result<Memory, AllocError> {
         let mut bytes = vec![in alloc; 0u8; ADDRESSES]?;
         fill(&mut bytes, &vector.cells);
@@ -50,7 +50,7 @@ impl Memory {
         })
     }
 
-    /// What the step is to leave.
+    /// The memory that the step is expected to leave.
     pub(crate) fn after(alloc: Global, vector: &Vector) -> Result<Memory, AllocError> {
         let mut memory = Memory::before(alloc, vector)?;
         fill(&mut memory.bytes.all, &vector.written);
@@ -71,7 +71,7 @@ impl Memory {
     }
 }
 
-/// Makes these bytes those at their addresses.
+/// Puts the bytes of these cells at their addresses.
 fn fill(bytes: &mut [u8], cells: &[Cell])
     requires { length bytes.old ≡ 65536 }
 {
@@ -80,7 +80,7 @@ fn fill(bytes: &mut [u8], cells: &[Cell])
     }
 }
 
-/// Where the slot of an address ends.
+/// The end of the slot of an address.
 fn slot_end(at: u16) -> usize
     ensures { result ≡ at / 8192 * 8192 + 8192 }
 {
@@ -143,7 +143,7 @@ impl Bus for Memory {
     }
 }
 
-/// The same memory, of which no bytes lie together.
+/// The same memory, in which no bytes lie together.
 #[derive(Drop)]
 pub(crate) struct Scattered {
     pub(crate) memory: Memory,

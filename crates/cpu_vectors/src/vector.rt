@@ -10,8 +10,8 @@ pub(crate) struct Cell {
     pub(crate) byte: u8,
 }
 
-/// A step: bit n of `slots` tells whether slot n of 8,192 bytes is named; bytes that `cells` does
-/// not give are 0.
+/// A step. Bit n of `slots` is set if slot n of 8,192 bytes is named; bytes that are not in `cells`
+/// are 0.
 #[derive(Drop)]
 pub(crate) struct Vector {
     pub(crate) slots: u8,
@@ -77,7 +77,7 @@ fn stop(text: &str) -> Option<Stop> {
     }
 }
 
-/// The step of a line, or None where it has other fields.
+/// The step of a line, or None if the line has other fields.
 pub(crate) fn parse(alloc: Global, line: &str) -> Result<Option<Vector>, AllocError> {
     let mut fields = line.split_whitespace();
     let Some((slots, before, held)) = head(&mut fields) else {

@@ -12,7 +12,7 @@ use itoa::Buffer;
 use os9_base::registers::{Pid, Regs};
 use std::alloc::AllocError;
 
-// Puts texts at the end, one behind another.
+// Appends texts, one after another.
 fn push_pieces(out: &mut Vec<u8>, pieces: &[&[u8]]) -> Result<(), AllocError>
     ensures { OnOk result (out.new.items
         ≡ out.old.items ++ flat_map (λ piece. piece.now) pieces.now) }
@@ -23,7 +23,7 @@ fn push_pieces(out: &mut Vec<u8>, pieces: &[&[u8]]) -> Result<(), AllocError>
     Ok(())
 }
 
-/// Puts the line of the last position at the end: `end at L`.
+/// Appends the line of the last position: `end at L`.
 pub fn push_end(out: &mut Vec<u8>, last: u64) -> Result<(), AllocError>
     ensures { OnOk result (out.new.items ≡ out.old.items ++ end_line last) }
 {
@@ -31,8 +31,8 @@ pub fn push_end(out: &mut Vec<u8>, last: u64) -> Result<(), AllocError>
     push_pieces(out, &[b"end at ", text.format(last).as_bytes(), b"\n"])
 }
 
-/// Puts the line of the registers of a process at a position at the end: `at K process P` and the
-/// registers by name in hexadecimal digits, or `ended` if it has ended.
+/// Appends the line of the registers of a process at a position: `at K process P` and the registers
+/// by name in hexadecimal digits, or `ended` if it has ended.
 pub fn push_regs(
     out: &mut Vec<u8>,
     at: u64,
@@ -57,7 +57,7 @@ pub fn push_regs(
     Ok(())
 }
 
-// Puts the registers of a process at the end, or that it has ended.
+// Appends the registers of a process, or that it has ended.
 fn push_life(out: &mut Vec<u8>, regs: Option<Regs>) -> Result<(), AllocError>
     ensures { OnOk result (out.new.items ≡ out.old.items ++ life_text regs) }
 {
@@ -67,7 +67,7 @@ fn push_life(out: &mut Vec<u8>, regs: Option<Regs>) -> Result<(), AllocError>
     }
 }
 
-// Puts registers at the end, by name in hexadecimal digits.
+// Appends registers, by name in hexadecimal digits.
 fn push_registers(out: &mut Vec<u8>, regs: &Regs) -> Result<(), AllocError>
     ensures { OnOk result (out.new.items ≡ out.old.items ++ regs_text regs.now) }
 {
@@ -101,14 +101,14 @@ fn push_registers(out: &mut Vec<u8>, regs: &Regs) -> Result<(), AllocError>
     )
 }
 
-/// Puts an address at the end, in four hexadecimal digits.
+/// Appends an address, in four hexadecimal digits.
 pub fn push_address(out: &mut Vec<u8>, at: u16) -> Result<(), AllocError>
     ensures { OnOk result (out.new.items ≡ out.old.items ++ four_digits_lem at) }
 {
     out.extend_from_slice(&four_digits(at))
 }
 
-/// Puts a byte of memory at the end: a space and two hexadecimal digits, or `--` if none is there.
+/// Appends a byte of memory: a space and two hexadecimal digits, or `--` if there is none.
 pub fn push_seen(out: &mut Vec<u8>, byte: Option<u8>) -> Result<(), AllocError>
     ensures { OnOk result (out.new.items ≡ out.old.items ++ byte_text byte) }
 {
@@ -118,8 +118,9 @@ pub fn push_seen(out: &mut Vec<u8>, byte: Option<u8>) -> Result<(), AllocError>
     }
 }
 
-/// Puts the line of the instruction at the end that the bytes at an address begin with: the address
-/// and the text, `?` if they are none. Returns how many bytes it has, 1 if they are none.
+/// Appends the line of the instruction with which the bytes at an address begin: the address and
+/// the text, or `?` if they are not an instruction. Returns the number of its bytes, 1 if they are
+/// not.
 pub fn push_instruction(out: &mut Vec<u8>, at: u16, bytes: &[u8]) -> Result<u8, AllocError>
     ensures text { OnOk result (out.new.items
         ≡ out.old.items ++ dis_line at (reading bytes.now)) }

@@ -9,15 +9,15 @@ pub record Course : Type 0 where
   pub start : State
   pub states : List State
 
--- the state after k events: the tick and the choice of a slice come with the event that follows
+-- the state after k events: the tick and the choice of a slice occur with the next event
 abbrev pub state_at : Course → ℕ → State
 state_at course k = slice_index_or (course.start ∷ course.states) k course.start
 
--- the position behind the last event
+-- the position after the last event
 abbrev pub last_of : Course → ℕ
 last_of course = length course.states
 
--- the position after a command: no further than the last event, and not before the first
+-- the position after a command: not after the last event, and not before the first
 abbrev pub position_after : Course → ℕ → Command → ℕ
 position_after course at (To k) = min k (last_of course)
 position_after course at (Back n) = at - n

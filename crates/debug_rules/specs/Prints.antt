@@ -18,13 +18,13 @@ shows course k Regs = regs_line k (shown (state_at course k)) (shown_regs (state
 shows course k (Mem span) = mem_line (shown_cells (state_at course k)) span
 shows course k (Dis span) = dis_lines (shown_cells (state_at course k)) span.at span.count
 
--- what a list of commands prints: each what it shows at the position to which those before it lead
+-- what a list of commands prints: for each what it shows at the position to which the earlier ones lead
 abbrev pub printed_from : Course → ℕ → List Command → List ℕ
 printed_from course k [] = []
 printed_from course k (command ∷ commands) =
     shows course k command ++ printed_from course (position_after course k command) commands
 
--- a course of a machine that starts so, over these slices: that of a run in which no device fails
+-- a course of a machine with this start, over these slices: that of a run in which no device fails
 pub record IsCourse (boot : Boot) (slices : List ℕ) (course : Course) : Type 0 where
   pub starts : Starts boot course.start
   pub written : List ℕ

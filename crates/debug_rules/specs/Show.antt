@@ -11,7 +11,7 @@ use Rattle.machine_model.specs.State.{State}
 use Rattle.asm_model.specs.Numbers.{two_digits, four_digits}
 use Rattle.debug_text.specs.declared.command.Span.{Span}
 
--- the process that is shown: that of the last event, and the first process before any
+-- the process that is shown: that of the last event, and the first process before any event
 abbrev pub shown : State → ℕ
 shown s = unwrap_or s.chosen first_process.0
 
@@ -30,7 +30,7 @@ regs_text regs =
     ++ codes " dp " ++ two_digits regs.dp ++ codes " cc " ++ two_digits regs.cc ++ codes " x " ++ four_digits regs.x
     ++ codes " y " ++ four_digits regs.y ++ codes " u " ++ four_digits regs.u ++ codes " s " ++ four_digits regs.s
 
--- those of a process, or that it has ended
+-- those of a process, or the text that it has ended
 abbrev pub life_text : Option Regs → List ℕ
 life_text None = codes " ended"
 life_text (Some regs) = regs_text regs
@@ -39,12 +39,12 @@ life_text (Some regs) = regs_text regs
 abbrev pub regs_line : ℕ → ℕ → Option Regs → List ℕ
 regs_line k p regs = codes "at " ++ decimal k ++ codes " process " ++ decimal p ++ life_text regs ++ codes "\n"
 
--- a byte that the process sees, or that none is there
+-- a byte that the process sees, or the text that there is none
 abbrev pub byte_text : Option ℕ → List ℕ
 byte_text None = codes " --"
 byte_text (Some byte) = codes " " ++ two_digits byte
 
--- so many bytes from an address on; behind FFFF comes 0000
+-- a number of bytes from an address on; 0000 follows FFFF
 abbrev pub mem_line : Cells → Span → List ℕ
 mem_line cells span =
     four_digits span.at ++ flat_map (λ at. byte_text (cells (at % 65536))) (range_with_len span.at span.count)

@@ -9,8 +9,8 @@ ghost use Rattle.debug_rules.specs.Course.{Course};
 ghost use Rattle.debug_rules.specs.Prints.{IsCourse};
 
 /// A machine without disk images goes through the same states in each run over the same slices in
-/// which no device fails, so what a debugger shows at a position is one. There is such a run from
-/// each start with one to four terminals whose counts of faults can rise.
+/// which no device fails, so a debugger shows only one thing at a position. There is such a run
+/// from each start with one to four terminals whose counts of faults can rise.
 pub fn a_machine_without_images_has_one_course()
     ensures one { (boot : Boot) (slices : List ℕ) (one other : Course) → boot.images ≡ []
         → IsCourse boot slices one → IsCourse boot slices other → one ≡ other }

@@ -1,5 +1,5 @@
-//! Lines of a debugger, as laws that the check computes from the definitions. The expected lines are
-//! those of a worked run, and by the opcode map of the MC6809 programming manual.
+//! Lines of a debugger, as laws that the check computes from the definitions. The expected lines
+//! are those of a worked run, and follow the opcode map of the MC6809 programming manual.
 
 ghost use Rattle.std.specs.Prelude.{◌≡◌, codes};
 ghost use Rattle.debug_rules.specs.Disassembly.{dis_lines};

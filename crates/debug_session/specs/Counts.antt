@@ -1,4 +1,4 @@
--- Counts of faults, as time goes on.
+-- Changes of counts of faults.
 use Rattle.std.specs.Prelude.{◌≡◌, ℕ, zero, suc, ◌+◌, ◌-◌, ◌<◌, ◌≤◌, ◌^◌, Some, List, [], ◌∷◌, slice_get}
 use Rattle.std.specs.List.{AllZip}
 use Rattle.os9_base.specs.Count.{Rose}

@@ -27,7 +27,7 @@ config_of machine = record { blocks = machine.blocks; images = 0; time = machine
 abbrev pub HasTick : ScriptKey → Type 0
 HasTick key = key.tick < 2 ^ 32
 
--- what it needs to be started on these devices: as what runs, with no image
+-- what it needs to be started on these devices: those of any run, without images
 pub record CanStart (machine : Machine) (devices : Outside) : Type 0 where
   pub can_run : CanRun (config_of machine) machine.slices.now devices
   pub ticks : All HasTick machine.keys.now
@@ -73,7 +73,7 @@ start_fault (BadModule at error) = Refused (BadModule at error)
 start_fault NoFirst = Refused NoFirst
 start_fault TooLarge = Refused TooLarge
 
--- the answer of a call that fails only for want of memory
+-- the result of a call that fails only if memory is out
 abbrev pub or_no_memory : {Value Error : Type 0} → Result Value Error → Result Value SessionFault
 or_no_memory (Ok value) = Ok value
 or_no_memory (Err error) = Err NoMemory

@@ -1,4 +1,4 @@
--- A position of a session, and what its steps leave.
+-- A position of a session, and the effect of its steps.
 use Rattle.std.specs.Prelude.{◌≡◌, ℕ, ◌-◌, ◌<◌, ⊤, Result, All, OnOk, IfOk, IfErr, List}
 use Rattle.os9_base.specs.Cells.{Cells}
 use Rattle.key_loading.specs.Loaded.{loaded}
@@ -24,7 +24,7 @@ use Rattle.debug_session.specs.declared.machine.SessionFault.TheVariants.{Refuse
 
 -- ---- a start
 
--- the boot file is refused, and the devices are as they were; or memory was out, and no count of faults fell
+-- the boot file is refused, and the devices are unchanged; or memory was out, and no count of faults fell
 abbrev pub FailsToStart : Machine → Outside → Outside → SessionFault → Type 0
 FailsToStart machine before after (Refused fault) =
     Refuses machine.file.now machine.blocks fault × (after ≡ before)
@@ -65,7 +65,7 @@ abbrev pub IsUnderWay : Machine → Position → Outside → Type 0
 IsUnderWay machine position devices =
     (first : Outside) × CanStart machine first × IsPositionOf machine first position devices
 
--- why a move fails: the boot file is refused, or a terminal failed, or memory was out and no count of faults fell
+-- why a move fails: the boot file is refused, a terminal failed, or memory was out and no count of faults fell
 abbrev pub FailsToMove : Machine → Outside → Outside → SessionFault → Type 0
 FailsToMove machine before after (Refused fault) = Refuses machine.file.now machine.blocks fault
 FailsToMove machine before after (TerminalFailed n) =
@@ -79,18 +79,18 @@ LeadsBack (To k) at = k < at
 LeadsBack (Back n) at = at - n < at
 LeadsBack command at = ⊥
 
--- a command may fail so at this position: for want of memory, or else only if it leads back from there
+-- a command may have this fault at this position: out of memory, or another only if it leads back from there
 abbrev pub MayFailSo : Command → ℕ → SessionFault → Type 0
 MayFailSo command at NoMemory = ⊤
 MayFailSo command at fault = LeadsBack command at
 
--- what holds of every start after which the position was one of the course
+-- what holds for every start after which the position was one of the course
 abbrev pub FromStart : Machine → Position → Outside → (Outside → Type 0) → Type 0
 FromStart machine position devices fact =
     (first : Outside) → CanStart machine first → IsPositionOf machine first position devices → fact first
 
--- The machine was started again, where it was started on the first of these devices before: the position is the first
--- of its course, if the drives were as they were then.
+-- The machine was started again, after a start on the first of these devices: the position is the first of its course,
+-- if the drives were as at that start.
 pub record IsBack (machine : Machine) (first : Outside) (position : Position) (before after : Outside) : Type 0 where
   pub gains : DevicesGain (loaded_devices machine first) after
   pub at : All HasNoBytes first.terms → Unfailed first after
@@ -116,19 +116,19 @@ pub record MovesOn {Value : Type 0} (machine : Machine) (command : Command) (old
   pub fails : IfErr answer (FailsToMove machine before after)
   pub may_fail : IfErr answer (MayFailSo command old.events)
 
--- the position is the last one of the course, and before the one that was asked for
+-- the position is the last one of the course, and before the requested one
 pub record IsAtEnd (k : ℕ) (machine : Machine) (old new : Position) (before after : Outside) : Type 0 where
   pub short : new.events < k
   pub last : FromStart machine old before (λ first. InCourse machine first after (λ course.
       last_of course ≡ new.events))
 
--- what holds of each course in which the position is
+-- what holds for each course in which the position is
 abbrev pub AtPosition : Position → (Course → Type 0) → Type 0
 AtPosition position fact =
     (course : Course) (last : State) (slices : List ℕ) (devices : Outside) → IsAt course last slices position devices
     → fact course
 
--- what holds of the bytes that the process sees which is shown there
+-- what holds for the bytes that the shown process sees there
 abbrev pub SeesCells : Position → (Cells → Type 0) → Type 0
 SeesCells position fact = AtPosition position (λ course. fact (shown_cells (state_at course position.events)))
 

@@ -46,8 +46,8 @@ FailsToPrint machine commands before after =
 abbrev pub position_behind : Course → List Command → ℕ
 position_behind course commands = fold (position_after course) 0 commands
 
--- The machine starts, so many commands are done, and a terminal fails in the next one, which leads back and shows
--- nothing. The output gained what those show, if nothing else failed.
+-- The machine starts, n commands are done, and a terminal fails in the next one, which leads back and shows nothing.
+-- The output gained what those n show, if nothing else failed.
 pub record StopsAtTerminal (n : ℕ) (machine : Machine) (commands : List Command) (before after : World) : Type 0 where
   pub starts : HasStart machine before.devices
   pub rose : TerminalRose n before.devices after.devices

@@ -72,7 +72,7 @@ fn told(line: Result<Vec<u8>, AllocError>) -> Result<Vec<u8>, SessionFault>
     }
 }
 
-// `to`: goes to the position behind `k` events, and shows the last one if it is before that.
+// `to`: goes to the position after `k` events, and shows the last one if it is before that.
 fn to(
     alloc: Global,
     machine: &Machine,
@@ -128,7 +128,7 @@ fn back(
     }
 }
 
-/// Does a command: goes where it leads, and returns what it shows.
+/// Does a command: goes to its position, and returns what it shows.
 pub(crate) fn obey(
     alloc: Global,
     machine: &Machine,

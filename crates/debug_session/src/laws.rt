@@ -8,8 +8,8 @@ ghost use Rattle.debug_session.specs.Machine.{CanStart, HasNoBytes};
 ghost use Rattle.debug_session.specs.Session.{CanFail, SessionCall, ShowsTheCourse};
 ghost use Rattle.debug_session.specs.declared.machine.Machine.{Machine};
 
-/// A session that is done shows the one course of its machine: command by command, and whether the
-/// position was come to forwards or back. No bytes may be on the terminals before, and no count of faults
+/// A finished session shows the one course of its machine: command by command, whether the position
+/// was reached forwards or back. No bytes may be on the terminals before, and no count of faults
 /// may rise, though each could.
 pub fn a_session_shows_the_one_course()
     ensures { (machine : Machine) (commands : List Command) (before after : World)

@@ -17,10 +17,10 @@ use os9_outer::terminal::CharDriver;
 use script_text::script::ScriptKey;
 use std::alloc::Global;
 
-/// What is run, beside the devices. No image of a disk is mounted.
+/// What is run, in addition to the devices. No image of a disk is mounted.
 #[derive(Clone, Copy)]
 pub struct Machine<'a> {
-    /// How many blocks of 8,192 bytes its memory has, from 8 to 256.
+    /// The number of blocks of 8,192 bytes of its memory, from 8 to 256.
     pub blocks: u16,
     /// The date and time at its start.
     pub time: TimePacket,
@@ -87,7 +87,7 @@ pub(crate) fn start(
     }
 }
 
-/// Starts the machine again, once each terminal is emptied of its keys and its bytes.
+/// Starts the machine again, after each terminal is emptied of its keys and its bytes.
 pub(crate) fn restart(
     alloc: Global,
     machine: &Machine,

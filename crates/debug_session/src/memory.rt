@@ -15,7 +15,8 @@ use std::alloc::AllocError;
 /// The most bytes of an instruction.
 const LONGEST: usize = 5;
 
-// The bytes from an address on up to the first that is not there, at most as many as an instruction has.
+// The bytes from an address on up to the first missing one, at most those of the longest
+// instruction.
 fn bytes_from(position: &Position, mut at: u16) -> ArrayVec<u8, LONGEST>
     requires { position.now.process.0 < PROCESS_PLACES }
     ensures { SeesCells position.now
@@ -32,7 +33,7 @@ fn bytes_from(position: &Position, mut at: u16) -> ArrayVec<u8, LONGEST>
     bytes
 }
 
-/// Puts the line of these bytes of memory at the end.
+/// Appends the line of these bytes of memory.
 pub(crate) fn push_memory(
     out: &mut Vec<u8>,
     position: &Position,
@@ -50,7 +51,7 @@ pub(crate) fn push_memory(
     Ok(())
 }
 
-/// Puts the lines of these instructions at the end, each behind the bytes of the one before.
+/// Appends the lines of these instructions, each after the bytes of the one before.
 pub(crate) fn push_instructions(
     out: &mut Vec<u8>,
     position: &Position,

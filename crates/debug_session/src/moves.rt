@@ -12,7 +12,7 @@ use os9_outer::drive::BlockDriver;
 use os9_outer::terminal::CharDriver;
 use std::alloc::Global;
 
-// Goes to the first position, if the one behind `k` events is before this one.
+// Goes to the first position, if the one after `k` events is before this one.
 fn go_back(
     alloc: Global,
     machine: &Machine,
@@ -42,7 +42,7 @@ fn go_back(
     }
 }
 
-/// Goes to the position behind `k` events, forwards or back, or to the last one.
+/// Goes to the position after `k` events, forwards or back, or to the last one.
 pub(crate) fn go_to(
     alloc: Global,
     machine: &Machine,

@@ -29,12 +29,12 @@ fn write_out<H: Host>(host: &mut H, bytes: &[u8]) -> Result<(), HostFault>
 }
 
 /// Starts a machine, and does the commands, one after another. What each shows goes to the output
-/// stream. A position before the one that was reached is come to by a new start: the terminals are
-/// emptied, and loaded with their keys again.
+/// stream. A position before the current one is reached by a new start: the terminals are emptied,
+/// and loaded with their keys again.
 ///
 /// # Errors
 ///
-/// `TerminalFailed` only if the count of faults of the terminal of that number rose, in a command
+/// `TerminalFailed` only if the count of faults of the terminal of that number rose in a command
 /// that leads back; `OutputFailed` only if the commands show something.
 pub fn debug<H: Host>(
     alloc: Global,

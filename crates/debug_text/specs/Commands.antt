@@ -1,4 +1,4 @@
--- The commands of a debugger, as a text has them (this project's own).
+-- The commands of a debugger, in the form of a text (this project's own).
 use Rattle.std.specs.Prelude.{ℕ, ◌+◌, ◌-◌, ◌*◌, ◌^◌, min, true, Option, Some, None, option_map, option_and_then, Result, List, [], ◌∷◌, codes, if◌then◌else◌}
 use Rattle.std.specs.Str.{bytes_eq}
 use Rattle.number_text.specs.Number.{number_of, within}
@@ -8,7 +8,7 @@ use Rattle.debug_text.specs.declared.command.Command.{Command}
 use Rattle.debug_text.specs.declared.command.Command.TheVariants.{To, Back, Regs, Mem, Dis}
 use Rattle.debug_text.specs.declared.command.Span.{Span}
 
--- the last position that is told apart: no run has so many events
+-- the last distinguished position: no run has this number of events
 abbrev pub last_position : ℕ
 last_position = 2 ^ 64 - 1
 
@@ -31,7 +31,7 @@ abbrev pub span_of : List ℕ → List ℕ → Option Span
 span_of address count =
     option_and_then (λ at. option_map (λ n. record { at = at; count = n }) (count_of count)) (address_of address)
 
--- the command that words are: its name, and a number, or an address and a count
+-- the command that words spell: its name, and a number, or an address and a count
 abbrev pub command_of : List (List ℕ) → Option Command
 command_of (name ∷ []) = if bytes_eq name (codes "regs") then Some Regs else None
 command_of (name ∷ number ∷ []) =
@@ -51,6 +51,6 @@ abbrev pub line_commands : List ℕ → Option (List Command)
 line_commands [] = Some []
 line_commands (byte ∷ bytes) = option_map (λ command. command ∷ []) (line_command (byte ∷ bytes))
 
--- the commands of a text, or its first line that is refused
+-- the commands of a text, or its first refused line
 abbrev pub commands_of : List ℕ → Result (List Command) ℕ
 commands_of text = text_gives line_commands (λ commands. true) text

@@ -5,7 +5,7 @@ use Rattle.debug_text.specs.declared.cut.Cut.{Cut}
 use Rattle.debug_text.specs.Commands.{span_of}
 use Rattle.script_text.specs.Lines.{line_words}
 
--- the words of a line that was cut behind its first word, of a line without words if it was not
+-- the words of a line that was cut after its first word, or of a line without words if it was not cut
 abbrev pub cut_words : Option Cut → List (List ℕ)
 cut_words None = []
 cut_words (Some cut) = cut.word.now ∷ line_words cut.rest.now

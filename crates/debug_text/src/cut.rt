@@ -4,14 +4,14 @@ ghost use Rattle.debug_text.specs.Cuts.{cut_words, of_only};
 
 use text_cuts::{first_space, without_spaces};
 
-/// A line that was cut behind its first word.
+/// A line that was cut after its first word.
 #[derive(Clone, Copy)]
 pub(crate) struct Cut<'a> {
     pub(crate) word: &'a [u8],
     pub(crate) rest: &'a [u8],
 }
 
-/// Cuts a line behind its first word, if it has one.
+/// Cuts a line after its first word, if it has one.
 pub(crate) fn cut_word(line: &[u8]) -> Option<Cut>
     ensures { cut_words result ≡ line_words line.now }
 {
@@ -26,7 +26,7 @@ pub(crate) fn cut_word(line: &[u8]) -> Option<Cut>
     }
 }
 
-/// The word of a line that has one.
+/// The word of a line with one word.
 pub(crate) fn only_word(line: &[u8]) -> Option<&[u8]>
     ensures { option_map (λ word. word.now) result ≡ of_only Some (line_words line.now) }
 {

@@ -1,4 +1,4 @@
-//! The commands of a debugger, as a text has them.
+//! The commands of a debugger, in the form of a text.
 #![tactic(auto)]
 
 pub mod command;

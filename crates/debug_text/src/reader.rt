@@ -12,10 +12,10 @@ use std::alloc::Global;
 
 /// Reads the commands of a debugger.
 ///
-/// A text has lines that end with a line feed, which the last may lack; empty lines are skipped.
-/// Every other line is a command, its words with one or more spaces between them: `to K`, `back N`,
-/// `regs`, `mem A N` or `dis A N`. K is any decimal number, N one from 1 to 256, and A has four
-/// hexadecimal digits of either case (this project's own).
+/// A text has lines that end with a line feed, which may be missing from the last; empty lines are
+/// skipped. Every other line is a command, its words with one or more spaces between them: `to K`,
+/// `back N`, `regs`, `mem A N` or `dis A N`. K is any decimal number, N one from 1 to 256, and A
+/// has four hexadecimal digits of either case (this project's own).
 ///
 /// # Errors
 ///
@@ -52,7 +52,7 @@ fn read_line(line: &[u8]) -> Option<Command>
     read_command(line)
 }
 
-// The command that the words of a line are.
+// The command that the words of a line spell.
 fn read_command(line: &[u8]) -> Option<Command>
     ensures { result ≡ command_of (line_words line.now) }
 {

@@ -18,7 +18,7 @@ pub fn commands_are_read()
     ensures empty { commands_of [] ≡ Ok [] }
 {}
 
-/// Lines that are no command.
+/// Lines that are not commands.
 pub fn lines_are_refused()
     ensures none_back { commands_of (codes "back 0") ≡ Err 1 }
     ensures far_back { commands_of (codes "regs" ++ 10 ∷ codes "back 257") ≡ Err 2 }
@@ -31,7 +31,7 @@ pub fn lines_are_refused()
     ensures first_line { commands_of (10 ∷ codes "regs 1" ++ 10 ∷ codes "x") ≡ Err 2 }
 {}
 
-/// Lines with a character where none stands.
+/// Lines with a misplaced character.
 pub fn characters_are_refused()
     ensures space_before { commands_of (codes " regs") ≡ Err 1 }
     ensures space_behind { commands_of (codes "regs ") ≡ Err 1 }

@@ -1,5 +1,6 @@
-//! Has sessions of the debugger whose lines are known from elsewhere, one a row, and prints how many
-//! there were and how many came out otherwise. A line that begins with `#` names those behind it.
+//! Has sessions of the debugger whose lines are known from elsewhere, one for each row, and prints
+//! the number of rows and the number of differences. A line that begins with `#` names the rows
+//! after it.
 #![tactic(auto)]
 
 mod row;

@@ -1,10 +1,10 @@
 use hex::{FromHexError, decode};
 use std::alloc::{AllocError, Global};
 
-/// The most zero bytes that a row has behind its file of modules.
+/// The most zero bytes of a row after its file of modules.
 const MOST_ZEROS: usize = 65_536;
 
-/// A command line with its files, and what the debugger answers to it.
+/// A command line with its files, and the debugger's answer to it.
 #[derive(Drop)]
 pub(crate) struct Row {
     /// The words, separated by single spaces. They name the files `modules`, `slices`, `script` and
@@ -17,17 +17,17 @@ pub(crate) struct Row {
     pub(crate) status: u8,
     /// The lines on the output stream, each with its line feed.
     pub(crate) out: Vec<u8>,
-    /// The line on the error stream, without its line feed; none where it is empty.
+    /// The line on the error stream, without its line feed; none if it is empty.
     pub(crate) err: String,
-    /// The call of TERM that fails, from 1, or 0 where none does.
+    /// The call of TERM that fails, from 1, or 0 if none does.
     pub(crate) failing: u64,
 }
 
-/// The row of a line: the words, the file of modules, the number of zero bytes behind it, the slice
+/// The row of a line: the words, the file of modules, the number of zero bytes after it, the slice
 /// text, the script of keys, the commands, the status, the lines written with `;` between them, the
-/// line on the error stream, and the call of TERM that fails, separated by tabs, with `-` for what is
-/// empty. Files are hexadecimal digits. The last field may be missing. None where the line has other
-/// fields.
+/// line on the error stream, and the call of TERM that fails, separated by tabs, with `-` for what
+/// is empty. Files are hexadecimal digits. The last field may be missing. None if the line has
+/// other fields.
 pub(crate) fn parse(alloc: Global, line: &str) -> Result<Option<Row>, AllocError> {
     let mut fields = line.split('\t');
     let (Some(words), Some(modules), Some(zeros)) = (fields.next(), fields.next(), fields.next())
@@ -67,12 +67,12 @@ pub(crate) fn parse(alloc: Global, line: &str) -> Result<Option<Row>, AllocError
     }))
 }
 
-/// The field, where `-` is what is empty.
+/// The field; `-` is an empty one.
 fn text(field: &str) -> &str {
     if field == "-" { "" } else { field }
 }
 
-/// The bytes of a field, or None where it is no hexadecimal digits.
+/// The bytes of a field, or None if it is not hexadecimal digits.
 fn bytes(alloc: Global, field: &str) -> Result<Option<Vec<u8>>, AllocError> {
     match decode(alloc, text(field)) {
         Ok(bytes) => Ok(Some(bytes)),

@@ -25,7 +25,7 @@ pub(crate) struct Shown {
     status: u8,
     out: Vec<u8>,
     err: Vec<u8>,
-    /// The files are as they were.
+    /// The files are unchanged.
     kept: bool,
 }
 
@@ -44,8 +44,8 @@ impl Shown {
     }
 }
 
-/// Has the session of a row's words over a host in memory that has its files, four drives without an
-/// image and four terminals, of which TERM fails in the call that the row says.
+/// Has the session of a row's words over a host in memory that has its files, four drives without
+/// an image and four terminals, with the failing call of TERM that the row says.
 pub(crate) fn run(alloc: Global, row: &Row) -> Result<Shown, AllocError> {
     let mut drives = Vec::new(alloc);
     add_drive(&mut drives, Box::new(alloc, SureDrive::new())?)?;
@@ -55,7 +55,7 @@ pub(crate) fn run(alloc: Global, row: &Row) -> Result<Shown, AllocError> {
     run_over(alloc, row, drives)
 }
 
-/// The same over these drives, of which there are four without an image.
+/// The same over these drives, four without an image.
 fn run_over(
     alloc: Global,
     row: &Row,
@@ -72,7 +72,7 @@ fn run_over(
     run_on(alloc, row, Devices { drives, terms })
 }
 
-/// Puts a drive without an image behind others.
+/// Appends a drive without an image.
 fn add_drive(
     drives: &mut Vec<Box<dyn BlockDriver>>,
     drive: Box<dyn BlockDriver>,
@@ -87,7 +87,7 @@ fn add_drive(
     Ok(())
 }
 
-/// Puts a terminal without keys behind others.
+/// Appends a terminal without keys.
 fn add_terminal(
     terms: &mut Vec<Box<dyn CharDriver>>,
     term: Box<dyn CharDriver>,

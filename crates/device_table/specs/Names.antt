@@ -19,13 +19,13 @@ is_called word name = bytes_eq (map lower name) (map lower word)
 abbrev pub named_device : List ℕ → Option Dev
 named_device name = option_map (λ entry. entry.1) (find (λ entry. is_called entry.0 name) device_names)
 
--- a device of this number is there, among this many drives and terminals
+-- a device of this number exists, on a machine with these counts of drives and of terminals
 abbrev pub is_there : ℕ → ℕ → Dev → Bool
 is_there drives terms (Drive n) = nat_lt n drives
 is_there drives terms (Term n) = nat_lt n terms
 is_there drives terms Pipe = true
 
--- the device that a name names, where it is there
+-- the device that a name names, if it exists
 abbrev pub device_of : ℕ → ℕ → List ℕ → Option Dev
 device_of drives terms name =
     option_and_then (λ device. if is_there drives terms device then Some device else None) (named_device name)

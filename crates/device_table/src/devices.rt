@@ -28,8 +28,8 @@ pub type Devices = DeviceTable<Box<dyn BlockDriver>, Box<dyn CharDriver>>;
 
 impl Devices {
     /// The device of this name: `D0` to `D3`, `TERM`, `T1` to `T3` or `PIPE`, with the case of
-    /// letters ignored. None where the name is none of these, or where no such drive or terminal
-    /// is there.
+    /// letters ignored. None if the name is not one of these, or if the drive or terminal does not
+    /// exist.
     pub fn find(&self, name: &Name) -> Option<Dev>
         ensures { result
             ≡ device_of (vec_len self.now.drives) (vec_len self.now.terms) name.now }

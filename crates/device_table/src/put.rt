@@ -24,7 +24,7 @@ fn put_byte(term: &mut dyn CharDriver, byte: u8) -> Result<(), PutFault>
 ///
 /// # Errors
 ///
-/// Those of [`CharDriver::put`] at the byte that is refused. It and those behind it are not put.
+/// Those of [`CharDriver::put`] at the refused byte. It and the bytes after it are not put.
 pub fn put_bytes(term: &mut dyn CharDriver, bytes: &[u8]) -> Result<(), PutFault>
     ensures put_all { OnOk result
         (bytes_put term.new ≡ stream_with (bytes_put term.old) bytes.now) }
@@ -64,8 +64,8 @@ fn put_in_box(term: &mut Box<dyn CharDriver>, bytes: &[u8]) -> Result<(), PutFau
 ///
 /// # Errors
 ///
-/// Those of [`CharDriver::put`] at the byte that is refused. It and those behind it are not put. The
-/// terminal's count of faults has risen after `Fault`, and stands still after `OutOfMemory`.
+/// Those of [`CharDriver::put`] at the refused byte. It and the bytes after it are not put. The
+/// terminal's count of faults has risen after `Fault`, and is unchanged after `OutOfMemory`.
 pub fn put_on(devices: &mut Devices, n: u8, bytes: &[u8]) -> Result<(), PutFault>
     requires { n < vec_len devices.old.terms }
     ensures terminal { ChangesOneTerminal (Puts result bytes.now) n

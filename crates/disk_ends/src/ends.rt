@@ -1,4 +1,4 @@
-//! What stays of the volumes and of their images, as laws over all runs.
+//! What is unchanged in the volumes and their images, as laws over all runs.
 
 ghost use Rattle.std.specs.Prelude.{◌≡◌, ℕ, List, None, Some, slice_get};
 ghost use Rattle.event_rules.specs.declared.ends.EventEnd.{EventEnd};
@@ -12,8 +12,9 @@ ghost use Rattle.machine_model.specs.State.{State};
 ghost use Rattle.disk_ends.specs.Ends.{KeepsEnds, VolumesKeepEnds};
 ghost use Rattle.disk_ends.specs.Images.{IsWrittenBack};
 
-/// No volume is lost and none appears, and each keeps its first sector and the bytes behind its end:
-/// along an event, also where a drive fails in it, a tick and a choice, so along slices, the first
+/// No volume is lost and none appears, and each keeps its first sector and the bytes after its end:
+/// in an event, even if a drive fails in it, in a tick and in a choice, and so in slices, in the
+/// first events of a slice, and in complete runs. That holds from every state.
 /// events of one, and whole runs. That holds from every state.
 pub fn volumes_keep_their_ends()
     ensures event { (s t : State) (end : EventEnd) → Event s end t → VolumesKeepEnds s t }
@@ -27,8 +28,8 @@ pub fn volumes_keep_their_ends()
         → Run slices s states written t → VolumesKeepEnds s t }
 {}
 
-/// A machine starts with the volumes of its images in its first drives, in their order, and with none
-/// in the others.
+/// A machine starts with the volumes of its images in its first drives, in their order, and with
+/// none in the other drives.
 pub fn images_are_in_the_first_drives()
     ensures image { (boot : Boot) (s : State) → Starts boot s → (n : ℕ) (image : List ℕ)
         → slice_get boot.images n ≡ Some image
@@ -37,9 +38,9 @@ pub fn images_are_in_the_first_drives()
         → slice_get boot.images n ≡ None → volume_at s.files n ≡ None }
 {}
 
-/// An image that represents a volume whose ends were kept is as long as the image before, with its
-/// first sector and its bytes behind the volume. So it is at the end of every run with each image
-/// that the machine started with.
+/// An image that represents a volume whose ends were kept has the length of the image before, its
+/// first sector and its bytes after the volume. This holds at the end of every run for each image
+/// with which the machine started.
 pub fn images_keep_their_ends()
     ensures volume { (old new : List ℕ) (v w : DiskVolume) → Vol old v → Vol new w
         → KeepsEnds v w → IsWrittenBack old new w }

@@ -1,5 +1,5 @@
-//! Laws of what no run of the machine changes of its images: the first sector of each
-//! volume, and the bytes behind its end.
+//! Laws of what no run of the machine changes in its images: the first sector of each volume, and
+//! the bytes after its end.
 #![tactic(auto)]
 
 pub mod ends;

@@ -9,16 +9,16 @@ ghost use Rattle.os9_kernel.specs.Outside.{Outside};
 ghost use Rattle.os9_kernel.specs.Tie.{Represents};
 ghost use Rattle.disk_numbers.specs.Numbers.{DifferInNumbersAlone};
 
-/// The state that a kernel and its devices represent is one but for the numbers of objects: of two
-/// such states the objects that live in one are those that live in the other, one to one and with
-/// the same bytes, and all else is equal, also the volumes that are mounted on the drives.
+/// A kernel and its devices represent a single state, except for the numbers of objects: two such
+/// states have the same live objects, one to one and with the same bytes, and all else is equal,
+/// including the volumes that are mounted on the drives.
 pub fn representation_is_unique()
     ensures { (kernel : Kernel) (devices : Outside) (s t : State)
         → Represents kernel devices s → Represents kernel devices t
         → DifferInNumbersAlone s t }
 {}
 
-/// Where two states differ in the numbers of objects alone, each process sees the same byte at each
+/// If two states differ only in the numbers of objects, each process sees the same byte at each
 /// address.
 pub fn numbers_of_objects_are_not_seen()
     ensures { (s t : State) (process address : ℕ) → DifferInNumbersAlone s t

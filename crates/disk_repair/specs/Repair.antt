@@ -1,4 +1,4 @@
--- An image that is repaired.
+-- A repaired image.
 use Rattle.std.specs.Prelude.{◌≡◌, ℕ, List, length}
 use Rattle.os9_base.specs.declared.registers.TimePacket.{TimePacket}
 use Rattle.rbf_model.specs.Geometry.{image_geometry}
@@ -7,8 +7,8 @@ use Rattle.tool_rules.specs.Tool.{repair, repaired, freed_line, Gives}
 use Rattle.disk_repair.specs.Clearing.{ClearsBits}
 use Rattle.disk_repair.specs.declared.image.Repaired.{Repaired}
 
--- the image represents the volume without lost clusters, as many as were lost are free now and reported so, and no bit
--- but theirs has changed
+-- the image represents the volume without lost clusters; the clusters that were lost are free now, their number is
+-- reported, and only their bits have changed
 pub record IsRepaired (old : List ℕ) (outcome : Repaired) : Type 0 where
   pub volume : DiskVolume
   pub was : Vol old volume

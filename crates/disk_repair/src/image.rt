@@ -10,12 +10,12 @@ use std::alloc::Global;
 #[derive(Debug, Drop)]
 pub struct Repaired {
     pub image: Vec<u8>,
-    /// The number of clusters that are free now, and were lost.
+    /// The number of clusters that were lost and are free now.
     pub freed: u32,
 }
 
 /// Clears the marks of the lost clusters of an image (this project's own). All other bits of the
-/// image stay.
+/// image are unchanged.
 ///
 /// # Errors
 ///

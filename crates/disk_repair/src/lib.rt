@@ -1,4 +1,4 @@
-//! The repair of images: clusters in use for nothing become free.
+//! The repair of images: marked clusters that are in no file become free.
 #![tactic(auto)]
 
 pub use image::{Repaired, repair};

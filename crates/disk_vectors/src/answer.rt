@@ -6,7 +6,7 @@ use std::alloc::AllocError;
 use std::fmt;
 use thiserror::Error;
 
-/// What a call answered that was done.
+/// The answer of a successful call.
 #[derive(Clone, Copy, Debug, PartialEq, Eq)]
 pub(crate) enum Done {
     Plainly,
@@ -29,7 +29,7 @@ impl fmt::Display for Done {
     }
 }
 
-/// What a descriptor says, but for the segments.
+/// The fields of a descriptor, except for the segments.
 #[derive(Clone, Copy)]
 pub(crate) struct Described<'a>(pub(crate) &'a Fd);
 
@@ -69,7 +69,7 @@ pub(crate) enum Undone {
     Refused(u8),
     #[error("device {0}")]
     Device(u8),
-    /// No call on the bytes of a file is made on a directory.
+    /// A call on the bytes of a file was asked for on a directory.
     #[error("directory")]
     Directory,
     #[error("no memory")]

@@ -63,7 +63,7 @@ pub(crate) enum FileCall {
 }
 
 impl FileCall {
-    /// The user as whom the path is walked: the call's own, or user 0 where it has none.
+    /// The user as whom the path is walked: the call's own, or user 0 if it has none.
     pub(crate) fn walker(self) -> u16 {
         match self {
             FileCall::Walk { user, .. } | FileCall::Attr { user, .. } => user,
@@ -78,7 +78,7 @@ impl FileCall {
         }
     }
 
-    // The call of this name, if it is one on a file.
+    // The call of this name, if it is a call on a file.
     fn parse(name: &str, words: &mut Words<'_>) -> Result<Option<FileCall>, RowError> {
         let call = match name {
             "walk" => FileCall::Walk {
@@ -166,7 +166,7 @@ pub(crate) enum Call {
 }
 
 impl Call {
-    /// The call of a field: its name, then its path, and then what else it has.
+    /// The call of a field: its name, then its path, and then its other words.
     pub(crate) fn parse(alloc: Global, field: &str) -> Result<Call, RowError> {
         let mut words = Words::of(field);
         let name = words.word()?;

@@ -2,7 +2,7 @@ use crate::words::{RowError, number};
 use hex::{FromHexError, decode};
 use std::alloc::Global;
 
-/// The bytes of the longest image that a row may have: those of a volume of the most sectors.
+/// The bytes of the longest image of a row: those of a volume of the greatest number of sectors.
 const MOST_BYTES: usize = 134_217_728;
 
 /// The image of a field: its length, and then for each sector that is not all zero `;`, its number,
@@ -21,7 +21,7 @@ pub(crate) fn parse_image(alloc: Global, field: &str) -> Result<Vec<u8>, RowErro
     Ok(image)
 }
 
-// Puts a sector into an image. The one behind the last whole sector is shorter.
+// Puts a sector into an image. The one after the last whole sector is shorter.
 fn put_sector(alloc: Global, image: &mut Vec<u8>, part: &str) -> Result<(), RowError> {
     let (lsn, digits) = part.split_once(':').ok_or(RowError::Missing)?;
     let lsn = number(lsn.parse::<u32>().ok())?;

@@ -12,8 +12,8 @@ use std::fmt::Write;
 /// The bytes of an entry's name field.
 const NAME: usize = 29;
 
-/// Writes what an image holds: what its check answers, and where it is well formed the line on what
-/// no file has, and its tree.
+/// Writes the contents of an image: the answer of its check, and if it is well formed, the line on
+/// the bytes outside all files, and its tree.
 pub(crate) fn write_state(
     alloc: Global,
     image: &[u8],
@@ -34,7 +34,7 @@ pub(crate) fn write_state(
     write_tree(alloc, &tree.nodes, text)
 }
 
-// What of a tree is still to be written. `entry` is the `crc24` of the 29 bytes of a name field.
+// The unwritten items of a tree. `entry` is the `crc24` of the 29 bytes of a name field.
 #[derive(Debug, Drop)]
 enum Item {
     // The root.
@@ -71,7 +71,7 @@ fn root_of(nodes: &Nodes) -> Option<u32> {
     None
 }
 
-// Writes the lines of an item, and puts what stands in it before the other items.
+// Writes the lines of an item, and puts the items in it before the other items.
 fn write_item(
     alloc: Global,
     nodes: &Nodes,
@@ -99,7 +99,7 @@ fn write_item(
     Ok(())
 }
 
-// What stands of a file in its line.
+// The fields of a file in its line.
 #[derive(Clone, Copy)]
 struct Described<'a>(&'a Node);
 
@@ -124,8 +124,8 @@ impl fmt::Display for Described<'_> {
     }
 }
 
-// Writes the line on the first two entries of a directory, and makes items of the others,
-// the last one first: items are taken from the end.
+// Writes the line on the first two entries of a directory, and makes items of the others, the last
+// one first: items are taken from the end.
 fn write_directory(
     alloc: Global,
     path: &str,
@@ -174,7 +174,7 @@ fn item_of(alloc: Global, path: &str, entry: &[u8]) -> Result<Item, AllocError>
     })
 }
 
-// A path with one name more, whose last character has bit 7.
+// A path with one more name, whose last character has bit 7.
 fn joined(alloc: Global, path: &str, name: &[u8]) -> Result<String, AllocError> {
     let mut text = String::from_str(alloc, path)?;
     text.push('/')?;
@@ -187,7 +187,7 @@ fn joined(alloc: Global, path: &str, name: &[u8]) -> Result<String, AllocError> 
     Ok(text)
 }
 
-// The node of this descriptor number. They stand by rising numbers.
+// The node of this descriptor number. The nodes are in order of their numbers.
 fn node_of(nodes: &Nodes, fd: u32) -> Option<&Node> {
     let (mut low, mut high) = (0, nodes.len());
     while low < high {

@@ -1,5 +1,5 @@
-//! Makes calls on disk images, one row a line, and prints what each call answers and what it leaves.
-//! In a row whose one call is swept, that call is tried with a fault at each of its driver calls.
+//! Makes calls on disk images, one row per line, and prints the answer of each call and what it
+//! leaves. If a row has a swept call, that call is tried with a fault at each of its driver calls.
 #![tactic(auto)]
 
 mod answer;

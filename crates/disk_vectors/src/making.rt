@@ -22,7 +22,7 @@ use rbf_walk::{may, walk};
 use rbf_write::write_at;
 use std::alloc::Global;
 
-// The greatest attributes of a file that is no directory.
+// The greatest attributes of a file that is not a directory.
 const MOST_FILE_ATTRIBUTES: u8 = 0x7f;
 
 /// Makes a call on a mounted volume.
@@ -89,7 +89,7 @@ fn call_file(
     }
 }
 
-// Reads a file into a buffer of so many bytes.
+// Reads a file into a buffer of `room` bytes.
 fn read_file(
     alloc: Global,
     volume: &mut Volume,
@@ -111,7 +111,7 @@ fn read_file(
     })
 }
 
-// Sees that a file is no directory.
+// Tests that a file is not a directory.
 fn see_data_file(volume: &mut Volume, d: &mut dyn BlockDriver, fd: u32) -> Result<(), Undone>
     requires mounted { IsMounted volume.old (media d.old) }
     requires file { HasFile (media d.old) fd }

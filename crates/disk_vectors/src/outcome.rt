@@ -13,15 +13,15 @@ use std::alloc::{AllocError, Global};
 use std::fmt::Write;
 use thiserror::Error;
 
-/// What a run of a row prints, and whether the swept call came to the driver call that was to fail.
+/// What a run of a row prints, and whether the swept call made the driver call that was to fail.
 #[derive(Debug, Drop)]
 pub(crate) struct Outcome {
     pub(crate) text: String,
     pub(crate) failed: bool,
 }
 
-/// Runs the calls of a row on a copy of its image. Of the driver calls of the swept one the one of
-/// this number fails.
+/// Runs the calls of a row on a copy of its image. The driver call of this number fails in the
+/// swept call.
 pub(crate) fn run_row(alloc: Global, row: &Row, failing: u64) -> Result<Outcome, AllocError> {
     let mut text = String::from_str(alloc, "outcome\n")?;
     let mut mounting = RamDrive::new(row.swept.mount_plan(alloc, failing)?);
@@ -76,7 +76,7 @@ impl From<VolFault> for NotMounted {
     }
 }
 
-// Mounts the volume of an image, which has to be well formed.
+// Mounts the volume of an image, which must be well formed.
 fn mount(alloc: Global, image: &[u8], d: &mut dyn BlockDriver) -> Result<Volume, NotMounted>
     requires { media d.old ≡ Some image.now }
     ensures { IfOk result (λ volume. IsMounted volume (media d.new)) }
@@ -101,7 +101,7 @@ fn move_image(from: &mut dyn BlockDriver, to: &mut dyn BlockDriver)
 }
 
 // Mounts the image of a row and makes its calls: those before the swept one, that one, and those
-// after it, each over a drive of its own, in the last of which the image is left.
+// after it. Each part has a drive of its own, and the image is left in the last.
 fn call_row(
     alloc: Global,
     row: &Row,

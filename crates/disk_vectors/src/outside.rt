@@ -3,8 +3,8 @@ use rbf_sector::{Ident, is_header, read_ident, system_sectors};
 use std::alloc::{AllocError, Global};
 use std::fmt::Write;
 
-/// Writes the line on what of an image no file has: its sector 0, its map with the marks of all
-/// clusters cleared, and the bytes past its sectors.
+/// Writes the line on the bytes of an image outside all files: its sector 0, its map with the marks
+/// of all clusters cleared, and the bytes past its sectors.
 pub(crate) fn write_outside(
     alloc: Global,
     image: &[u8],
@@ -25,7 +25,7 @@ pub(crate) fn write_outside(
     )
 }
 
-// The sectors of the map, which begins there, without the marks of the clusters.
+// The sectors of the map, at the beginning of these bytes, without the marks of the clusters.
 fn cleared_map(alloc: Global, ident: &Ident, behind: &[u8]) -> Result<Vec<u8>, AllocError> {
     let length = usize::from(ident.map_bytes).div_ceil(256) * 256;
     let mut map = behind.get(..length).unwrap_or(&[]).to_vec(alloc)?;
@@ -37,7 +37,7 @@ fn cleared_map(alloc: Global, ident: &Ident, behind: &[u8]) -> Result<Vec<u8>, A
     Ok(map)
 }
 
-// A byte of the map without the marks of the first of so many clusters.
+// A byte of the map without the marks of the first `clusters` clusters.
 fn past_marks(byte: u8, clusters: u32) -> u8 {
     match clusters {
         0..8 => byte & (0xff >> clusters),

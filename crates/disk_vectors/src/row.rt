@@ -7,7 +7,7 @@ use os9_outer::drive::DriveFault;
 use os9_outer::ram_drive::PlannedFault;
 use std::alloc::{AllocError, Global};
 
-/// A call with its number in the row, where the mount is call 1.
+/// A call with its number in the row; the mount is call 1.
 #[derive(Debug, Drop)]
 pub(crate) struct NumberedCall {
     pub(crate) number: u32,
@@ -15,7 +15,7 @@ pub(crate) struct NumberedCall {
 }
 
 impl NumberedCall {
-    /// When the call is made: its number is the minute, modulo 256.
+    /// The time of the call: its number is the minute, modulo 256.
     pub(crate) fn time(&self) -> TimePacket {
         TimePacket {
             year: 90,
@@ -33,12 +33,13 @@ impl NumberedCall {
 pub(crate) enum Swept {
     Nothing,
     Mount(DriveFault),
-    /// The call in this place behind the mount, from 0.
+    /// The call in this place after the mount, from 0.
     Call(usize, DriveFault),
 }
 
 impl Swept {
-    /// The plan of the drive for the mount, if the driver call of this number fails in what is swept.
+    /// The plan of the drive for the mount, if the driver call of this number fails in the swept
+    /// call.
     pub(crate) fn mount_plan(
         self,
         alloc: Global,
@@ -68,7 +69,7 @@ fn plan(alloc: Global, call: u64, fault: DriveFault) -> Result<Vec<PlannedFault>
     Ok(vec![in alloc; PlannedFault { call, fault }]?)
 }
 
-/// The calls of a row before the swept one, that one alone, and the calls after it.
+/// The calls of a row before the swept one, that call itself, and the calls after it.
 #[derive(Clone, Copy)]
 pub(crate) struct Parts<'a> {
     pub(crate) before: &'a [NumberedCall],
@@ -76,7 +77,7 @@ pub(crate) struct Parts<'a> {
     pub(crate) after: &'a [NumberedCall],
 }
 
-/// An image, the calls that are made on it after it was mounted, and which of them is swept.
+/// An image, the calls that are made on it after the mount, and which of them is swept.
 #[derive(Debug, Drop)]
 pub(crate) struct Row {
     pub(crate) number: u32,
@@ -86,8 +87,8 @@ pub(crate) struct Row {
 }
 
 impl Row {
-    /// The row of a line: its number, the image, `-` or the swept call and its fault, and the calls,
-    /// of which the first is `mount`, with a tab between each two.
+    /// The row of a line: its number, the image, `-` or the swept call and its fault, and the
+    /// calls, the first of which is `mount`, separated by tabs.
     pub(crate) fn parse(alloc: Global, line: &str) -> Result<Row, RowError> {
         let mut fields = line.split('\t');
         let text = fields.next().ok_or(RowError::Missing)?;
@@ -111,7 +112,7 @@ impl Row {
         })
     }
 
-    /// The parts of the calls. Where none of them is swept all are before it.
+    /// The parts of the calls. If none of them is swept, all are before it.
     pub(crate) fn parts(&self) -> Parts<'_> {
         let calls = self.calls.as_slice();
         let place = match self.swept {

@@ -3,8 +3,8 @@ use crate::row::Row;
 use anyhow::Result;
 use std::alloc::Global;
 
-/// Prints the outcomes of a row: the one without a fault, or where a call is swept those with a fault
-/// at each of its driver calls, each of them once, and last the one without.
+/// Prints the outcomes of a row: if a call is swept, those with a fault at each of its driver
+/// calls, each of them once; and last the one without a fault.
 pub(crate) fn print_outcomes(rt: &impl Print, alloc: Global, row: &Row) -> Result<()> {
     let mut last = String::new(alloc);
     for failing in 1..u64::MAX {

@@ -2,7 +2,7 @@ use os9_base::name::{Name, parse_name};
 use std::alloc::{AllocError, AllocFailed, Global};
 use thiserror::Error;
 
-/// Why a line is no row.
+/// Why a line is not a row.
 #[derive(Clone, Copy, Debug, PartialEq, Eq, Error)]
 pub(crate) enum RowError {
     #[error("a word or a field is missing")]
@@ -37,7 +37,7 @@ impl<T: Drop> From<AllocFailed<T>> for RowError {
     }
 }
 
-/// The words of a field, which single spaces separate, and which are taken from its front.
+/// The words of a field, separated by single spaces, which are taken from its front.
 #[derive(Drop)]
 pub(crate) struct Words<'a> {
     rest: Option<&'a str>,
@@ -99,7 +99,7 @@ pub(crate) fn number<T: Drop>(parsed: Option<T>) -> Result<T, RowError> {
     parsed.ok_or(RowError::BadNumber)
 }
 
-// The names of a path, which begins with `/`; `/` alone has none.
+// The names of a path, which begins with `/`; the path `/` has none.
 fn path(alloc: Global, text: &str) -> Result<Vec<Name>, RowError> {
     let mut names = Vec::new(alloc);
     let Some(behind) = text.strip_prefix('/') else {

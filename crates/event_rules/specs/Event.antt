@@ -1,4 +1,4 @@
--- What an event of a process makes of the processes, and how it ends: an instruction, an attempt of its call, or the
+-- The effect of an event of a process on the processes, and its end: an instruction, an attempt of its call, or the
 -- delivery of a signal.
 use Rattle.std.specs.Prelude.{ℕ, Option, Some, None, Result, Ok, Err}
 use Rattle.cpu_model.specs.Step.{Outcome, Done, Calls, Aborts, step_of}
@@ -42,7 +42,7 @@ call_event_end (ends status) = Ended
 
 -- ---- the delivery of a signal
 
--- the processes where the call of one is broken off: Y has the count that it answers, if it answers one
+-- the processes after the call of one is broken off: Y has the count that it answers, if it answers one
 abbrev pub broken_off : Inner → ℕ → Option ℕ → Inner
 broken_off m p None = m
 broken_off m p (Some count) = with_regs_of m p (record (regs_at m p) { y = count })
@@ -54,7 +54,7 @@ delivery_end (Err status) = Ended
 
 -- ---- the cost of an event
 
--- instructions that a process executes by what it does: attempts and deliveries cost none
+-- instructions executed by an act of a process: attempts and deliveries cost none
 abbrev pub cost_of : Act → ℕ
 cost_of (attempts code) = 0
 cost_of (delivers signal) = 0

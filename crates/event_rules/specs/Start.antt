@@ -22,12 +22,12 @@ use Rattle.event_rules.specs.declared.ends.BootFault.TheVariants.{OutOfMemory, B
 abbrev pub boot_group : List ℕ → List ℕ
 boot_group file = range_with_len 0 (file_blocks file)
 
--- what comes of the modules of the boot file, entered in a directory without entries: its entries, or the place and
--- the error of the first module that is refused
+-- the outcome of entering the modules of the boot file in a directory without entries: the entries, or the place and
+-- the error of the first refused module
 abbrev pub EntersBoot : List ℕ → Result (List (Option ModuleEntry)) (ℕ × ℕ) → Type 0
 EntersBoot file outcome = EntersModules file (boot_group file) true 0 no_entries outcome
 
--- the memory of a machine with so many blocks that has the boot file, where these are the entries of its modules
+-- the memory of a machine with this number of blocks that has the boot file, if these are the entries of its modules
 abbrev pub boot_memory : List ℕ → ℕ → List (Option ModuleEntry) → MemoryState
 boot_memory file blocks entries = record (first_memory blocks) { objects = file_objects file; modules = entries }
 
@@ -76,7 +76,7 @@ abbrev pub first_started : List ℕ → ℕ → List (Option ModuleEntry) → �
 first_started file blocks entries number entry =
     started (boot_memory file blocks entries) first_process.0 number (blocks_of_pages (area_pages entry 0 0))
 
--- the only process, which begins with this program in this memory: the module has one link more
+-- the only process, which begins with this program in this memory: its module has one more link
 abbrev pub only_process : MemoryState → Program → Inner
 only_process memory program = record {
   memory = linked memory program.entered.number;
@@ -90,7 +90,7 @@ only_process memory program = record {
 
 -- ---- the start
 
--- Why a boot file does not start a machine with so many blocks: the first cause of those below.
+-- Why a boot file does not start a machine with this number of blocks: the first cause of those below.
 abbrev pub Refuses : List ℕ → ℕ → BootFault → Type 0
 -- it has more bytes than a group; or there are too few blocks or slots for it and the first program's data area
 Refuses file blocks TooLarge =
@@ -106,7 +106,7 @@ Refuses file blocks NoFirst =
     × ((entries : List (Option ModuleEntry)) × EntersBoot file (Ok entries) × (first_program entries ≡ None))
 Refuses file blocks OutOfMemory = ⊥
 
--- the processes with which a machine with so many blocks starts a boot file
+-- the processes with which a machine with this number of blocks starts a boot file
 pub record StartsProcesses (file : List ℕ) (blocks : ℕ) (inner : Inner) : Type 0 where
   pub entries : List (Option ModuleEntry)
   pub number : ℕ

@@ -10,6 +10,6 @@ pub record OnlyGains (old new : TerminalState) : Type 0 where
   pub faults : old.faults ≤ new.faults  -- its count of faults did not fall
   pub observed : is_some new.put ≡ is_some old.put  -- its bytes are observed exactly if they were
 
--- there are as many terminals, and each has only gained
+-- the number of terminals is the same, and each has only gained
 abbrev pub TerminalsOnlyGain : List TerminalState → List TerminalState → Type 0
 TerminalsOnlyGain before now = AllZip OnlyGains before now

@@ -9,7 +9,7 @@ use thiserror::Error;
 pub enum EventEnd {
     /// The process goes on.
     Ran,
-    /// Its call waits.
+    /// Its call is pending.
     Waits,
     /// The process has ended.
     Ended,

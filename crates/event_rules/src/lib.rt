@@ -1,4 +1,4 @@
-//! What an event makes of the processes, and the start of a boot file.
+//! The effect of an event on the processes, and the start of a boot file.
 #![tactic(auto)]
 
 pub mod calls;

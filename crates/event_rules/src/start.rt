@@ -5,8 +5,8 @@ ghost use Rattle.call_rules.specs.Inner.{Inner};
 ghost use Rattle.event_rules.specs.declared.ends.BootFault.{BootFault};
 ghost use Rattle.event_rules.specs.Start.{StartsProcesses, Refuses};
 
-/// A boot file comes to an end, and to one only: it starts a machine with these processes, or it is
-/// refused for one cause, and never both.
+/// A boot file has one outcome: it starts a machine with these processes, or it is refused for one
+/// cause, and never both.
 pub fn a_boot_file_comes_to_one_end()
     ensures one_start { (file : List ℕ) (blocks : ℕ) (m n : Inner) → StartsProcesses file blocks m
         → StartsProcesses file blocks n → m ≡ n }

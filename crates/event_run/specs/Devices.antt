@@ -1,4 +1,4 @@
--- What becomes of the devices on the way from one event to the next.
+-- The changes of the devices from one event to the next.
 use Rattle.std.specs.Prelude.{◌≡◌}
 use Rattle.std.specs.List.{AllZip}
 use Rattle.os9_outer.specs.TerminalState.{TerminalState}
@@ -18,7 +18,7 @@ pub record Unfailed (before after : Outside) : Type 0 where
   pub terminals : AllZip NotFailed before.terms after.terms
   pub drives : NoDriveFailed (drive_states before.drives) (drive_states after.drives)
 
--- there are as many devices, and no count of faults fell
+-- the number of devices is the same, and no count of faults fell
 pub record DevicesGain (before after : Outside) : Type 0 where
   pub terminals : TerminalsOnlyGain before.terms after.terms
   pub drives : DrivesOnlyGain (drive_states before.drives) (drive_states after.drives)

@@ -11,19 +11,19 @@ use Rattle.event_run.specs.declared.position.Position.{Position}
 use Rattle.event_run.specs.declared.position.Step.{Step}
 use Rattle.event_run.specs.declared.position.Step.TheVariants.{Event, End}
 
--- the position stays in each course in which it was, if no device failed
+-- the position stays in each of its courses, if no device failed
 abbrev pub StaysIn : List ℕ → Position → Position → Outside → Outside → Type 0
 StaysIn slices old new before after =
     (course : Course) (last : State) → IsAt course last slices old before → Unfailed before after
     → IsAt course last slices new after
 
--- it is the last one of each course in which it was
+-- it is the last position of each of its courses
 abbrev pub IsLast : List ℕ → Position → Outside → Outside → Type 0
 IsLast slices old before after =
     (course : Course) (last : State) → IsAt course last slices old before → Unfailed before after
     → last_of course ≡ old.events
 
--- the position behind k events was reached, or the last one, which is before it
+-- the position after k events was reached, or the last one, which is before it
 pub record HasGone (k : ℕ) (slices : List ℕ) (old new : Position) (answer : Result Step OutOfMemory)
     (before after : Outside) : Type 0 where
   pub goes_on : OnOk answer (CanGoOn slices new after)
@@ -36,12 +36,12 @@ pub record HasGone (k : ℕ) (slices : List ℕ) (old new : Position) (answer : 
 
 -- ---- its parts
 
--- the next of these slices has so many instructions, and a process lives that may have it
+-- the next of these slices has n instructions, and a process lives that may have it
 pub record BeginsWith (n : ℕ) (slices : List ℕ) (position : Position) (devices : Outside) : Type 0 where
   pub next : slice_get slices (ticks position.kernel) ≡ Some n
   pub lives : (s : State) → Represents position.kernel devices s → has_living s ≡ true
 
--- a slice of so many instructions was begun, if a process is Ready; else it is over
+-- a slice of n instructions was begun, if a process is Ready; else it is over
 pub record HasBegun (n : ℕ) (old new : Position) (answer : Result Step OutOfMemory) (before after : Outside) : Type 0
   where
     pub goes_on : OnOk answer ((slices : List ℕ) → BeginsWith n slices old before → CanGoOn slices old before
@@ -64,7 +64,7 @@ pub record HasFound (slices : List ℕ) (old new : Position) (answer : Result St
   pub events : OnOk answer (new.events ≡ old.events)
   pub end : answer ≡ Ok End → IsLast slices old before after
 
--- one event was had or more, up to that of number k
+-- one or more events, up to event k
 pub record HasEvents (k : ℕ) (old new : Position) (answer : Result (Unit {0}) OutOfMemory) (before after : Outside)
     : Type 0 where
   pub goes_on : OnOk answer ((slices : List ℕ) → CanGoOn slices old before → CanGoOn slices new after)

@@ -14,11 +14,11 @@ use Rattle.event_run.specs.declared.position.Position.{Position}
 
 -- ---- what is left of a run
 
--- between two slices: the run over those that are left
+-- between two slices: the run over the remaining slices
 abbrev pub Continues : List ℕ → State → List State → State → Type 0
 Continues slices s states last = (written : List ℕ) × Run slices s states written last
 
--- in a slice of which so many instructions are left: its events, and the run over the slices behind it
+-- in a slice with `left` instructions left: its events, and the run over the slices after it
 pub record ContinuesIn (left : ℕ) (slices : List ℕ) (s : State) (states : List State) (last : State) : Type 0 where
   pub some : 0 < left
   pub first : List State
@@ -28,7 +28,7 @@ pub record ContinuesIn (left : ℕ) (slices : List ℕ) (s : State) (states : Li
   pub rest : Continues slices (record m { terms = terminals_emptied m.terms }) later last
   pub all : states ≡ first ++ later
 
--- the slices that are left
+-- the remaining slices
 abbrev pub slices_left : List ℕ → Position → List ℕ
 slices_left slices position = drop (ticks position.kernel) slices
 
@@ -40,13 +40,13 @@ Remains slices position s states last =
 
 -- ---- a position
 
--- every process has the same registers in two states, or has ended in both, and they have one memory
+-- in both states every process has the same registers, or has ended, and the memory is the same
 pub record LooksAlike (s t : State) : Type 0 where
   pub memory : t.inner.memory ≡ s.inner.memory
   pub regs : (p : ℕ) → living_regs t.inner p ≡ living_regs s.inner p
 
--- The position is that behind so many events of this course, whose last state is given: the kernel has come there, and
--- perhaps to slices in which no process is Ready.
+-- The position is after a number of events of this course, with this last state: the kernel has reached it, and perhaps
+-- slices in which no process is Ready.
 pub record IsAt (course : Course) (last : State) (slices : List ℕ) (position : Position) (devices : Outside) : Type 0
   where
     pub s : State
@@ -67,7 +67,7 @@ pub record CanGoOn (slices : List ℕ) (position : Position) (devices : Outside)
   pub stands : Stands position.kernel devices
   pub begun : ticks position.kernel ≤ length slices
   pub few : length slices < LAST_TICK
-  -- in a slice the chosen process lives, and has instructions left
+  -- in a slice the chosen process lives and has instructions left
   pub going : 0 < position.slice → IsGoing position.kernel
   pub left : 0 < position.slice → executed position.kernel < position.slice
   pub numbered : position.process.0 < PROCESS_PLACES

@@ -7,7 +7,7 @@ ghost use Rattle.event_run.specs.Devices.{IsEmptied};
 use device_table::devices::Devices;
 use os9_outer::terminal::CharDriver;
 
-// [`CharDriver::take`], whose bytes nobody wants.
+// [`CharDriver::take`] with its bytes discarded.
 fn empty_terminal(term: &mut dyn CharDriver)
     ensures none_left { bytes_put term.new ≡ emptied (bytes_put term.old) }
     ensures keys_kept { keys_left term.new ≡ keys_left term.old }
@@ -16,7 +16,7 @@ fn empty_terminal(term: &mut dyn CharDriver)
     let _ = term.take();
 }
 
-// The same of the terminal in a box.
+// The same for the terminal in a box.
 fn empty_box(term: &mut Box<dyn CharDriver>)
     ensures none_left { bytes_put term.new ≡ emptied (bytes_put term.old) }
     ensures keys_kept { keys_left term.new ≡ keys_left term.old }
@@ -25,7 +25,7 @@ fn empty_box(term: &mut Box<dyn CharDriver>)
     empty_terminal(&mut **term);
 }
 
-// The same of the terminal of this number.
+// The same for the terminal of this number.
 fn empty_at(devices: &mut Devices, n: usize)
     requires { n < vec_len devices.old.terms }
     ensures terminal { ChangesOneTerminal IsEmptied n

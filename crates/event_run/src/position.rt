@@ -22,28 +22,28 @@ use os9_outer::terminal::CharDriver;
 /// The process with which a machine starts.
 const FIRST: Pid = Pid(2);
 
-/// A kernel in its run: behind so many events.
+/// A kernel in its run, after a number of events.
 #[derive(Drop)]
 pub struct Position {
     kernel: Kernel,
-    /// The instructions of the slice that is under way, 0 between two slices.
+    /// The instructions of the current slice, 0 between two slices.
     slice: u32,
     /// The events from the start on.
     events: u64,
-    /// The process of the last event; before any that with which the machine starts.
+    /// The process of the last event; before any event, the process with which the machine starts.
     process: Pid,
 }
 
-/// What a run comes to next.
+/// The next step of a run.
 #[derive(Clone, Copy, Debug, PartialEq, Eq)]
 pub enum Step {
     /// An event.
     Event,
-    /// Its end: no process lives, or none is Ready in the slices that are left.
+    /// Its end: no process lives, or none is Ready in the remaining slices.
     End,
 }
 
-// Has a slice of so many instructions events, if this process was chosen?
+// Has a slice of `n` instructions events, if this process was chosen?
 fn has_events(chosen: Option<Pid>, n: u32) -> bool
     ensures yes { result ≡ true → IsSome chosen × (0 < n) }
     ensures no { result ≡ false → (chosen ≡ None) ⊎ (n ≡ 0) }
@@ -54,8 +54,8 @@ fn has_events(chosen: Option<Pid>, n: u32) -> bool
     }
 }
 
-// How many events a turn of so many instructions has: each of these is one, and one that has none is
-// another event.
+// The number of events of a turn of `count` instructions: each instruction is one, and a turn
+// without instructions is another event.
 fn events_of(count: u32) -> u64
     ensures instructions { 0 < count → result ≡ count }
     ensures other { count ≡ 0 → result ≡ 1 }
@@ -64,7 +64,7 @@ fn events_of(count: u32) -> u64
 }
 
 impl Position {
-    /// The start of a run of a kernel that has begun no slice.
+    /// The start of a run of a kernel that has not begun a slice.
     pub fn start(kernel: Kernel) -> Self
         requires { ticks kernel ≡ 0 }
         ensures goes_on { (slices : List ℕ) (devices : Outside) → Stands kernel devices
@@ -82,14 +82,14 @@ impl Position {
         }
     }
 
-    /// How many events were had.
+    /// The number of events so far.
     pub fn events(&self) -> u64
         ensures { result ≡ self.now.events }
     {
         self.events
     }
 
-    /// The process that is shown here: that of the last event, before any the first process.
+    /// The process that is shown: that of the last event; before any event, the first process.
     pub fn process(&self) -> Pid
         ensures shown { (course : Course) (last : State) (slices : List ℕ) (devices : Outside)
             → IsAt course last slices self.now devices
@@ -99,7 +99,7 @@ impl Position {
         self.process
     }
 
-    /// The registers of the process that is shown, if it lives.
+    /// The registers of the shown process, if it lives.
     pub fn regs(&self) -> Option<Regs>
         ensures { (course : Course) (last : State) (slices : List ℕ) (devices : Outside)
             → IsAt course last slices self.now devices
@@ -108,7 +108,7 @@ impl Position {
         self.kernel.regs(self.process)
     }
 
-    /// The byte that the process that is shown sees at an address, if one is there.
+    /// The byte of the shown process at an address, if there is one.
     pub fn byte(&self, at: u16) -> Option<u8>
         requires { self.now.process.0 < PROCESS_PLACES }
         ensures { (course : Course) (last : State) (slices : List ℕ) (devices : Outside)
@@ -118,12 +118,13 @@ impl Position {
         self.kernel.byte(self.process, at)
     }
 
-    /// Goes on over these slices to the position behind `k` events, which is not before this one, or to
-    /// the last one. What the terminals are given in a slice is taken from them when it is over.
+    /// Goes on over these slices to the position after `k` events, which is not before this one, or
+    /// to the last position. The bytes that the terminals are given in a slice are taken from them
+    /// after it.
     ///
     /// # Errors
     ///
-    /// Out of memory. The position is used no more then.
+    /// Out of memory. The position is not used after that.
     pub fn advance_to(
         &mut self,
         k: u64,
@@ -154,7 +155,7 @@ impl Position {
         Ok(Step::Event)
     }
 
-    // What comes next. Begins slices for an event if none is under way.
+    // The next step. Begins slices for an event if none is under way.
     fn find_event(&mut self, slices: &[u32], devices: &mut Devices) -> Result<Step, OutOfMemory>
         requires { CanGoOn slices.now self.old
             (outside ⟦<dyn BlockDriver as BlockDriver>⟧ devices.old.drives.items
@@ -197,8 +198,8 @@ impl Position {
         Ok(Step::End)
     }
 
-    // Begins a slice of so many instructions: it has an event, or it ends at once, since no process is
-    // Ready or it has no instructions.
+    // Begins a slice of `n` instructions: it has an event, or it ends at once, since no process is
+    // Ready or `n` is 0.
     fn begin_slice(&mut self, n: u32, devices: &mut Devices) -> Result<Step, OutOfMemory>
         requires count { ticks self.old.kernel < LAST_TICK }
         requires stands { Stands self.old.kernel
@@ -224,7 +225,7 @@ impl Position {
         Ok(Step::End)
     }
 
-    // A turn in the slice that is under way: its next event or events, up to the one of number `k`.
+    // A turn in the current slice: its next event or events, up to the one of number `k`.
     fn turn(&mut self, k: u64, devices: &mut Devices) -> Result<(), OutOfMemory>
         requires stands { Stands self.old.kernel
             (outside ⟦<dyn BlockDriver as BlockDriver>⟧ devices.old.drives.items
@@ -254,7 +255,7 @@ impl Position {
         Ok(())
     }
 
-    // The most instructions of the next turn: so many are left of the slice, and up to `k` events.
+    // The most instructions of the next turn: those left of the slice, but not beyond event `k`.
     fn most(&self, k: u64) -> u32
         requires left { executed self.now.kernel < self.now.slice }
         requires before { self.now.events < k }
@@ -271,7 +272,7 @@ impl Position {
         }
     }
 
-    // Does the slice go on behind a turn that ended so?
+    // Does the slice go on after a turn with this end?
     fn goes_on(&self, end: EventEnd) -> bool
         ensures ran { result ≡ true → end ≡ EventEnd.Ran }
         ensures left { result ≡ true → executed self.now.kernel < self.now.slice }

@@ -1,4 +1,4 @@
--- Events, slices and runs that there are, in which no device fails.
+-- The existence of events, slices and runs in which no device fails.
 use Rattle.std.specs.Prelude.{ℕ, List}
 use Rattle.file_rules.specs.Files.{NoneFailed}
 use Rattle.event_rules.specs.declared.ends.EventEnd.{EventEnd}
@@ -10,7 +10,7 @@ use Rattle.run_laws.specs.Mounted.{CanGo}
 use Rattle.run_laws.specs.Runs.{SameCounts}
 use Rattle.faultless_laws.specs.InOrder.{AreInOrder}
 
--- a state from which the machine goes on, whose volumes are in order
+-- a state with volumes in order, from which the machine goes on
 pub record GoesOnWell (s : State) : Type 0 where
   pub can : CanGo s
   pub order : AreInOrder s.files
@@ -27,7 +27,7 @@ pub record HasFaultlessEvent (s : State) : Type 0 where
   pub event : Event s end last
   pub faultless : IsFaultless s last
 
--- and a slice of so many instructions
+-- and a slice of n instructions
 pub record HasFaultlessSlice (n : ℕ) (s : State) : Type 0 where
   pub states : List State
   pub end : SliceEnd

@@ -1,5 +1,5 @@
--- Volumes on which each change finds its place. Rules 5 and 6 of a disk and the 48 pairs of a descriptor give it (OS-9
--- Technical Reference, Random Block File Manager, FD.SEG), and each change keeps it.
+-- Volumes on which each change finds its place. It follows from rules 5 and 6 of a disk and the 48 pairs of a
+-- descriptor (OS-9 Technical Reference, Random Block File Manager, FD.SEG), and each change keeps it.
 use Rattle.std.specs.Prelude.{◌≡◌, ℕ, ◌≤◌, true, Some, length}
 use Rattle.rbf_model.specs.File.{DiskFile, has_room, is_directory}
 use Rattle.rbf_model.specs.Volume.{DiskVolume}
@@ -7,7 +7,8 @@ use Rattle.rbf_change.specs.Calls.{shape}
 use Rattle.file_rules.specs.Change.{Change, writes, sizes, sets_attributes, creates, makes_directory, deletes}
 use Rattle.file_rules.specs.Files.{Files, volume_at}
 
--- a descriptor can describe the file: its segments have room for its contents, and are no more than the pairs of FD.SEG
+-- a descriptor can describe the file: its segments have room for its contents, and their number is at most that of the
+-- pairs of FD.SEG
 pub record IsDescribable (file : DiskFile) : Type 0 where
   pub room : has_room file.segments (length file.contents) ≡ true
   pub few : length file.segments ≤ 48

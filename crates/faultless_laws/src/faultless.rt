@@ -8,10 +8,10 @@ ghost use Rattle.machine_model.specs.State.{State};
 ghost use Rattle.run_laws.specs.Faults.{CanRise, NoneFailed};
 ghost use Rattle.faultless_laws.specs.Faultless.{GoesOnWell, HasFaultlessEvent, HasFaultlessRun, HasFaultlessSlice, IsFaultless};
 
-/// Over devices that do not fail the machine never stands still, with volumes too: the chosen
-/// process has an event without a fault while it lives, and there is a run without a fault over every
-/// list of slices, from the start of a machine with a drive for each well formed image on. In it no
-/// count of faults has risen, if each could.
+/// Over devices that do not fail the machine never stops, even with volumes: the chosen process has
+/// an event without a fault while it lives, and there is a run without a fault over every list of
+/// slices, from the start of a machine with a drive for each well formed image. In it no count of
+/// faults has risen, if each could.
 pub fn some_run_without_faults()
     ensures event { (s : State) (p : ℕ) → GoesOnWell s → s.chosen ≡ Some p
         → IsLiving s.inner.records p → HasFaultlessEvent s }

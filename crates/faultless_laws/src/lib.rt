@@ -1,5 +1,5 @@
 //! Runs in which no device fails: there is one over every list of slices, from the start of a
-//! machine with well formed disks on.
+//! machine with well formed disks.
 #![tactic(auto)]
 
 pub mod faultless;

@@ -15,7 +15,8 @@ ghost use Rattle.faultless_laws.specs.InOrder.{AreInOrder, DeletesNoDirectory, I
 
 /// The volume of a well formed image is in order: the segments of each file hold its contents, no
 /// list of segments is longer than a descriptor, and the root is a directory. Each change of a
-/// volume keeps it so, and so does a fault of the drive that ends one, if no directory is deleted.
+/// volume keeps it in order, and so does a fault of the drive that ends a change, if no directory
+/// is deleted.
 pub fn each_change_keeps_a_volume_in_order()
     ensures image { (image : List ℕ) (v : DiskVolume) → Vol image v → IsInOrder v }
     ensures made { (change : Change) (user : ℕ) (now : TimePacket) (v w : DiskVolume) (number : ℕ)
@@ -26,7 +27,7 @@ pub fn each_change_keeps_a_volume_in_order()
 {}
 
 /// The volumes with which a machine starts are in order, and each event, each tick and each choice
-/// keeps them so, with faults too.
+/// keeps them in order, even with faults.
 pub fn volumes_stay_in_order()
     ensures start { (boot : Boot) (s : State) → Starts boot s → AreInOrder s.files }
     ensures event { (s t : State) (end : EventEnd) → Event s end t → CanGo s → AreInOrder s.files

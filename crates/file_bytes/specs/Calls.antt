@@ -1,4 +1,4 @@
--- How often the drive is called at most in an attempt to read or write the file of a path (this project's own).
+-- The greatest number of drive calls in an attempt to read or write the file of a path (this project's own).
 use Rattle.std.specs.Prelude.{ℕ, ◌+◌, List, length}
 use Rattle.std.specs.Option.{option_map_or}
 use Rattle.io_rules.specs.Transfer.{line_at}
@@ -14,11 +14,11 @@ use Rattle.file_rules.specs.Files.{Asker, Files, OpenFile, open_file}
 abbrev pub reading_attempt_calls : Asker → OpenFile → ℕ
 reading_attempt_calls asker opened = read_calls opened.file opened.opened.desc.at asker.caller.regs.y
 
--- how many clusters the file needs to have so many bytes
+-- the number of clusters that the file needs to have `size` bytes
 abbrev pub needed_for : OpenFile → ℕ → ℕ
 needed_for opened size = clusters_needed (cluster_size opened.volume) opened.file.segments size
 
--- a write of so many bytes: one for the descriptor, and what the bytes take, with a sector of the map for each cluster
+-- a write of `count` bytes: one for the descriptor, and those for the bytes, with a sector of the map for each cluster
 abbrev pub writing_attempt_calls : ℕ → OpenFile → ℕ
 writing_attempt_calls count opened =
     1 + laying_calls opened.volume opened.file (needed_for opened (opened.opened.desc.at + count))
@@ -39,7 +39,7 @@ i_write_calls asker files terms =
     option_map_or (writing_attempt_calls asker.caller.regs.y)
     (open_file files asker.caller.process.0 asker.caller.regs.a) 0
 
--- how many bytes the line of a line write has
+-- the number of bytes in the line of a line write
 abbrev pub line_count : Asker → ℕ
 line_count asker =
     option_map_or (λ (line : List ℕ). length line)

@@ -1,4 +1,4 @@
--- How attempts end on the file of a path, of the processes and of the state of input and output.
+-- The ends of attempts on the file of a path, for the processes and the state of input and output.
 use Rattle.std.specs.Prelude.{◌≡◌, ◌≢◌, ℕ, ◌+◌, None, List, length, Result, Ok, Err}
 use Rattle.os9_base.specs.declared.call.CallEnd.{CallEnd}
 use Rattle.os9_base.specs.declared.call.CallEnd.TheVariants.{Done, Error}
@@ -14,14 +14,16 @@ use Rattle.rbf_access.specs.declared.faults.FileFault.{FileFault}
 use Rattle.file_state.specs.declared.state.OpenFile.{OpenFile}
 use Rattle.file_bytes.specs.Opened.{moved_to}
 
--- the call of a process is done, with these registers, and leaves this but for what is kept of the call
+-- the call of a process is done with these registers. It leaves this state of input and output, but keeps nothing of
+-- the call
 pub record IsDone (m : Inner) (p : ℕ) (regs : Regs) (io : Io) (end : CallEnd) (processes : ProcState) (new : Io)
     : Type 0 where
   pub end_is : end ≡ Done
   pub tied : Represents processes (with_regs_of m p regs)
   pub io_is : new ≡ with_call io p None
 
--- the call of a process is refused with this number, and leaves this but for what is kept of the call
+-- the call of a process is refused with this number. It leaves this state of input and output, but keeps nothing of the
+-- call
 pub record IsRefused (number : ℕ) (m : Inner) (p : ℕ) (io : Io) (end : CallEnd) (processes : ProcState) (new : Io)
     : Type 0 where
   pub end_is : end ≡ Error number
@@ -30,17 +32,17 @@ pub record IsRefused (number : ℕ) (m : Inner) (p : ℕ) (io : Io) (end : CallE
 
 -- ---- reads
 
--- the processes where these bytes are stored from an address on
+-- the processes after these bytes are stored from an address on
 abbrev pub with_bytes : Inner → ℕ → ℕ → List ℕ → Inner
 with_bytes m p at bytes = with_memory m (stored m.memory p at bytes)
 
--- a process is given these bytes at X and their count in Y, and the position of its path is behind them
+-- a process gets these bytes at X and their count in Y, and the position of its path moves past them
 abbrev pub GivesBytes : List ℕ → Regs → OpenFile → Inner → ℕ → Io → CallEnd → ProcState → Io → Type 0
 GivesBytes bytes regs opened m p io end processes new =
     IsDone (with_bytes m p regs.x bytes) p (record regs { y = length bytes })
     (moved_to io opened (opened.desc.at + length bytes)) end processes new
 
--- a read that found these bytes, of which it gives those, or the end of the file
+-- a read that found the bytes `found` and gives the bytes `given`, or that found the end of the file
 pub record EndsFound (found given : List ℕ) (regs : Regs) (opened : OpenFile) (m : Inner) (p : ℕ) (io : Io)
     (end : CallEnd) (processes : ProcState) (new : Io) : Type 0 where
   pub none : length found ≡ 0 → IsRefused E_EOF m p io end processes new
@@ -48,8 +50,8 @@ pub record EndsFound (found given : List ℕ) (regs : Regs) (opened : OpenFile) 
 
 -- ---- writes
 
--- a write of so many bytes that was answered so: where it is done its process has these registers, and the position is
--- behind the bytes
+-- a write of `count` bytes with this result: if it is done, its process has these registers, and the position is after
+-- the bytes
 abbrev pub EndsWrite : Result (Unit {0}) FileFault → ℕ → Regs → OpenFile → Inner → ℕ → Io → CallEnd → ProcState → Io
     → Type 0
 EndsWrite (Ok done) count regs opened m p io end processes new =

@@ -21,18 +21,19 @@ use Rattle.file_state.specs.declared.state.OpenFile.{OpenFile}
 abbrev pub IsPathOf : Io → OpenFile → Type 0
 IsPathOf io opened = desc_of io.paths opened.path.0 ≡ Some opened.desc
 
--- and its file is there
+-- and its file exists
 pub record IsOnFile (opened : OpenFile) (before : Standing) : Type 0 where
   pub path : IsPathOf before.files.io opened
   pub file : HasFileAt before.files.disks before.views opened.place
 
--- a number of a process names the path, which is on the file at its place, whichever files the kernel's stand for
+-- a number of a process names the path, which is on the file at its place, for all files that the kernel's state stands
+-- for
 pub record IsOpened (state : FileState) (p n : ℕ) (opened : OpenFile) : Type 0 where
   pub path : IsPathOf state.io opened
   pub file : (views : List DriveView) (files : rules.Files) → StandsFor state views files → AreKinds files
       → IsFileOf state views files p n opened
 
--- the file, of a volume, as the rules of the calls have it
+-- the file, on a volume, in the terms of the rules of the calls
 abbrev pub found_on : OpenFile → DiskVolume → DiskFile → rules.OpenFile
 found_on opened v file =
     record { opened = path_of opened; place = opened.place; volume = v; file = file }
@@ -42,6 +43,6 @@ abbrev pub moved_to : Io → OpenFile → ℕ → Io
 moved_to io opened at =
     with_paths io (with_desc io.paths opened.path.0 (Some (record opened.desc { at = at })))
 
--- where its mode may be written it is on a file that is no directory
+-- if its mode allows writing, the path is on a file that is not a directory
 abbrev pub MayBeWritten : OpenFile → List (Option Volume) → List DriveView → Type 0
 MayBeWritten opened disks views = can_write opened.desc.mode ≡ true → HasDataFileAt disks views opened.place

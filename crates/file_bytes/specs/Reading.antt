@@ -1,4 +1,4 @@
--- Reads of a file, by what they take of the bytes that they may have.
+-- Reads of a file, by the part that they take of the bytes that are there.
 use Rattle.std.specs.Prelude.{◌≡◌, ◌≢◌, ℕ, is_none, List, length, take, Result, Ok, Err}
 use Rattle.os9_base.specs.Cells.{Cells, FitsIn}
 use Rattle.os9_base.specs.declared.call.CallEnd.{CallEnd}
@@ -24,17 +24,17 @@ use Rattle.file_rules.specs.Step.{FileStep, refuses}
 use Rattle.file_state.specs.declared.state.OpenFile.{OpenFile}
 use Rattle.file_bytes.specs.Ending.{EndsFound, IsRefused}
 
--- what a read takes of these bytes: all, or the first line
+-- the part of these bytes that a read takes: all, or the first line
 abbrev pub part_of : ReadKind → List ℕ → List ℕ
 part_of Bytes bytes = bytes
 part_of WholeLine bytes = first_line bytes
 
--- the bytes of a file from a place on, at most so many, stand at the front of a buffer, and this is their count
+-- the bytes of a file from a place on, at most `most`, are at the front of a buffer, and this is their count
 pub record IsLoaded (file : DiskFile) (at most : ℕ) (buffer : List ℕ) (count : ℕ) : Type 0 where
   pub count_is : count ≡ length (bytes_from file.contents at most)
   pub bytes_are : take count buffer ≡ bytes_from file.contents at most
 
--- a buffer for some bytes, at X and of Y bytes, is there
+-- a nonempty buffer of Y bytes at X is in named slots
 pub record IsBuffer (cells : Cells) (regs : Regs) : Type 0 where
   pub named : FitsIn cells regs.x regs.y
   pub some : regs.y ≢ 0
@@ -43,7 +43,7 @@ pub record IsBuffer (cells : Cells) (regs : Regs) : Type 0 where
 unfoldable pub read_file : ReadKind → Asker → Files → rules.OpenFile → FileStep
 read_file kind asker files opened = reads_file asker files (part_of kind) opened
 
--- an attempt whose buffer is there
+-- an attempt whose buffer is in named slots
 unfoldable pub read_named : ReadKind → Asker → Files → rules.OpenFile → FileStep
 read_named kind asker files opened = moves_bytes asker files opened can_read (read_file kind asker files opened)
 
@@ -53,7 +53,7 @@ read_opened kind asker files opened =
     refuses (is_none (user_bytes asker.caller.cells asker.caller.regs.x asker.caller.regs.y)) E_BPADDR
     (read_named kind asker files opened)
 
--- a read that was answered so, with the buffer as it is then
+-- a read with this result, and with this buffer after it
 abbrev pub EndsRead : Result ℕ FileFault → ReadKind → List ℕ → Regs → OpenFile → Inner → ℕ → Io → CallEnd → ProcState
     → Io → Type 0
 EndsRead (Ok count) kind buffer regs opened m p io end processes new =

@@ -1,4 +1,4 @@
--- What an attempt on the file of a path comes to.
+-- What an attempt on the file of a path does.
 use Rattle.std.specs.Prelude.{◌≡◌, ℕ, Some, List}
 use Rattle.os9_base.specs.declared.call.CallEnd.{CallEnd}
 use Rattle.os9_base.specs.declared.registers.TimePacket.{TimePacket}
@@ -17,7 +17,7 @@ use Rattle.file_state.specs.Tie.{StandsFor}
 use Rattle.file_state.specs.declared.state.OpenFile.{OpenFile}
 use Rattle.file_bytes.specs.Opened.{found_on}
 
--- an attempt on the file of a path does this, whatever state the kernel's stands for
+-- an attempt on the file of a path does this, for every state that the kernel's state stands for
 abbrev pub Tries : (Asker → Files → rules.OpenFile → FileStep) → (Asker → rules.OpenFile → ℕ) → OpenFile → TimePacket
     → ℕ → CallEnd → Standing → Standing → Type 0
 Tries step most opened now p end before after =

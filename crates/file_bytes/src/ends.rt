@@ -1,4 +1,4 @@
-//! How calls end.
+//! The ends of calls.
 
 ghost use Rattle.std.specs.Prelude.{◌≡◌, ◌<◌, None, Some};
 ghost use Rattle.call_rules.specs.Inner.{Inner, with_regs_of};
@@ -13,7 +13,7 @@ use os9_base::call::CallEnd;
 use os9_base::registers::{Pid, Regs};
 use proc_state::state::ProcState;
 
-/// The call is refused with this number. Nothing is kept of it.
+/// Refuses the call with this number. Nothing is kept of the call.
 pub(crate) fn refuse(io: &mut IoState, p: Pid, number: u8) -> CallEnd
     requires process { p.0 < 33 }
     requires no_read { ReadsNoTerminal io.old p.0 }
@@ -24,7 +24,7 @@ pub(crate) fn refuse(io: &mut IoState, p: Pid, number: u8) -> CallEnd
     CallEnd::Error(number)
 }
 
-/// The call is done, and its process has these registers. Nothing is kept of it.
+/// Ends the call as done, with these registers of its process. Nothing is kept of the call.
 pub(crate) fn answer(s: &mut ProcState, io: &mut IoState, p: Pid, regs: Regs) -> CallEnd
     requires lives { IsLiving s.old.table p.0 }
     requires no_read { ReadsNoTerminal io.old p.0 }
@@ -38,8 +38,8 @@ pub(crate) fn answer(s: &mut ProcState, io: &mut IoState, p: Pid, regs: Regs) ->
     CallEnd::Done
 }
 
-/// The call is done, its process has these registers, and its path this position. Nothing is kept
-/// of it.
+/// Ends the call as done, with these registers of its process and this position of its path.
+/// Nothing is kept of the call.
 pub(crate) fn answer_at(
     s: &mut ProcState,
     io: &mut IoState,

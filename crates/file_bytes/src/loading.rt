@@ -23,8 +23,8 @@ use os9_outer::drive::BlockDriver;
 use proc_state::state::ProcState;
 use rbf_access::FileFault;
 
-/// Reads bytes of a file, from `at` on and at most so many, into the front of the buffer, and
-/// answers how many they are: 0 at or past the end of the file.
+/// Reads at most `most` bytes of a file, from `at` on, into the front of the buffer, and returns
+/// their number: 0 at or past the end of the file.
 ///
 /// # Errors
 ///
@@ -52,7 +52,7 @@ pub(crate) fn load(
     load_front(disks, devices, place, at, most, &mut s.buffer)
 }
 
-/// The same into the front of a buffer.
+/// The same into the front of the given buffer.
 fn load_front(
     disks: &mut Disks,
     devices: &mut Devices,
@@ -80,7 +80,7 @@ fn load_front(
     }
 }
 
-/// How many of these bytes a read takes: all, or the first line with its carriage return.
+/// The number of these bytes that a read takes: all, or the first line with its carriage return.
 pub(crate) fn part_length(kind: ReadKind, bytes: &[u8]) -> usize
     ensures part { take result bytes.now ≡ part_of kind bytes.now }
     ensures within { result ≤ length bytes.now }
@@ -91,7 +91,7 @@ pub(crate) fn part_length(kind: ReadKind, bytes: &[u8]) -> usize
     }
 }
 
-/// How many bytes the first line has, its carriage return among them; all where there is none.
+/// The number of bytes in the first line with its carriage return; all if there is none.
 fn line_length(bytes: &[u8]) -> usize
     ensures length { result ≡ line_length_lem bytes.now }
     ensures within { result ≤ length bytes.now }
@@ -102,7 +102,7 @@ fn line_length(bytes: &[u8]) -> usize
     }
 }
 
-/// Where the first carriage return stands.
+/// The place of the first carriage return.
 fn place_of_return(bytes: &[u8]) -> Option<usize>
     ensures place { result ≡ return_place bytes.now }
     ensures within { IfSome result (λ place. place < length bytes.now) }
@@ -110,8 +110,8 @@ fn place_of_return(bytes: &[u8]) -> Option<usize>
     bytes.iter().position(|byte| *byte == RETURN)
 }
 
-/// Stores so many bytes from the front of the buffer in the memory of a process, from an address
-/// on, where they fit.
+/// Stores `count` bytes from the front of the buffer in the memory of a process, from an address
+/// on, if they fit there.
 pub(crate) fn store_front(s: &mut ProcState, p: Pid, at: u16, count: u16)
     requires process { p.0 < 33 }
     requires fits { FitsIn (cells_of s.old.memory p.0) at count }

@@ -33,14 +33,14 @@ use os9_outer::drive::BlockDriver;
 use proc_state::state::ProcState;
 use rbf_access::FileFault;
 
-/// I$Read of a file or a directory on a path that the number in A names (System Programmer's
-/// Manual, I$Read). Takes the address of the buffer in X and its most bytes in Y; answers the count
-/// in Y. The position moves past what was read.
+/// I$Read of a file or a directory on the path that the number in A names (System Programmer's
+/// Manual, I$Read). Takes the address of the buffer in X and its size in bytes in Y; returns the
+/// count in Y. The position moves past the bytes read.
 ///
 /// # Errors
 ///
 /// E$BPAddr exactly if a byte of the buffer is in no named slot or past `FFFF`, else E$BMode
-/// exactly if the path may not be read. A read of no byte is done then. Else the number of the
+/// exactly if the path may not be read. If Y is 0, the read is done then. Else the number of the
 /// fault, if the drive fails, or E$EOF exactly if the position is at or past the end. Nothing is
 /// stored then.
 pub fn read(
@@ -66,8 +66,8 @@ pub fn read(
     read_opened(s, files, devices, p, regs, opened, ReadKind::Bytes)
 }
 
-/// I$ReadLn of a file or a directory on a path that the number in A names (System Programmer's
-/// Manual, I$ReadLn): as [`read`], up to and with the first carriage return.
+/// I$ReadLn of a file or a directory on the path that the number in A names (System Programmer's
+/// Manual, I$ReadLn): as [`read`], but only up to and including the first carriage return.
 ///
 /// # Errors
 ///
@@ -123,7 +123,7 @@ fn read_opened(
     read_named(s, files, devices, p, regs, opened, kind)
 }
 
-/// An attempt of a read whose buffer is there.
+/// An attempt of a read whose buffer is in named slots.
 fn read_named(
     s: &mut ProcState,
     files: &mut FileState,
@@ -189,7 +189,7 @@ fn read_file(
     end_read(s, &mut files.io, p, regs, opened, kind, loaded)
 }
 
-/// A read ends by what was answered to it, with the bytes at the front of the buffer.
+/// Ends a read by its result, with the bytes at the front of the buffer.
 fn end_read(
     s: &mut ProcState,
     io: &mut IoState,
@@ -215,11 +215,11 @@ fn end_read(
     }
 }
 
-/// Gives a process what a read takes of so many bytes at the front of the buffer.
+/// Gives a process the part that a read takes of `count` bytes at the front of the buffer.
 ///
 /// # Errors
 ///
-/// E$EOF exactly if they are none.
+/// E$EOF exactly if `count` is 0.
 fn give(
     s: &mut ProcState,
     io: &mut IoState,

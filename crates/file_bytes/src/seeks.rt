@@ -23,7 +23,7 @@ use os9_base::errors::E_BPNUM;
 use os9_base::registers::{Pid, Regs};
 use proc_state::state::ProcState;
 
-/// I$Seek on a file or a directory, on a path that the number in A names (System Programmer's
+/// I$Seek on a file or a directory, on the path that the number in A names (System Programmer's
 /// Manual, I$Seek): sets the position of the path, which may be past the end. Takes the position in
 /// X, its high half, and U. It reaches no drive and is never refused.
 pub fn seek(s: &mut ProcState, files: &mut FileState, p: Pid, opened: &OpenFile) -> CallEnd
@@ -40,7 +40,7 @@ pub fn seek(s: &mut ProcState, files: &mut FileState, p: Pid, opened: &OpenFile)
     answer_at(s, &mut files.io, p, regs, opened, long_of(regs))
 }
 
-/// The number that X, the high half, and U are.
+/// The number in X, its high half, and U.
 fn long_of(regs: Regs) -> u32
     ensures { result ≡ long_of_lem regs }
 {

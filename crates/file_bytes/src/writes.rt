@@ -32,20 +32,20 @@ use os9_outer::drive::BlockDriver;
 use proc_state::state::ProcState;
 use rbf_access::FileFault;
 
-/// How many bytes the line of an error has.
+/// The number of bytes in the line of an error.
 const ERROR_LINE_BYTES: u16 = 11;
 
-/// I$Write to a file on a path that the number in A names, at this time (System Programmer's
-/// Manual, I$Write). Takes the address of the bytes in X and their count in Y; answers the count in
-/// Y. The position moves past what was written; between the old end and a write behind it are
-/// zeros.
+/// I$Write to a file on the path that the number in A names, at this time (System Programmer's
+/// Manual, I$Write). Takes the address of the bytes in X and their count in Y; returns the count in
+/// Y. The position moves past the bytes written. If the write begins past the old end, zeros fill
+/// the gap.
 ///
 /// # Errors
 ///
 /// E$BPAddr exactly if one of the bytes is in no named slot or past `FFFF`, else E$BMode exactly if
-/// the path may not be written. A write of no byte is done then. Else the number of the fault, if
-/// the drive fails; E$Full exactly if fewer clusters are free than the write needs; E$SLF if one
-/// that was chosen finds no place in the list of segments.
+/// the path may not be written. If Y is 0, the write is done then. Else the number of the fault, if
+/// the drive fails; E$Full exactly if fewer clusters are free than the write needs; E$SLF if the
+/// list of segments has no place for a chosen cluster.
 pub fn write(
     s: &mut ProcState,
     files: &mut FileState,
@@ -73,12 +73,13 @@ pub fn write(
     send(s, files, devices, p, regs, opened, regs.y, now)
 }
 
-/// I$WritLn to a file on a path that the number in A names, at this time (System Programmer's
-/// Manual, I$WritLn): as [`write`], up to and with the first carriage return, but at most Y bytes.
+/// I$WritLn to a file on the path that the number in A names, at this time (System Programmer's
+/// Manual, I$WritLn): as [`write`], but only up to and including the first carriage return, and at
+/// most Y bytes.
 ///
 /// # Errors
 ///
-/// As [`write`]; only the bytes of the line have to be there.
+/// As [`write`]; only the bytes of the line have to be in named slots.
 pub fn write_line(
     s: &mut ProcState,
     files: &mut FileState,
@@ -107,13 +108,13 @@ pub fn write_line(
 }
 
 /// F$PErr to a file on the path of standard error, at this time: writes the number in B as a line
-/// (System Programmer's Manual, F$PErr). The registers stay.
+/// (System Programmer's Manual, F$PErr). The registers are unchanged.
 ///
 /// # Errors
 ///
 /// E$BMode exactly if the path may not be written. Else the number of the fault, if the drive
-/// fails; E$Full exactly if fewer clusters are free than the write needs; E$SLF if one that was
-/// chosen finds no place in the list of segments.
+/// fails; E$Full exactly if fewer clusters are free than the write needs; E$SLF if the list of
+/// segments has no place for a chosen cluster.
 pub fn write_error(
     s: &mut ProcState,
     files: &mut FileState,
@@ -142,7 +143,7 @@ pub fn write_error(
     write_file(s, files, devices, p, regs, opened, ERROR_LINE_BYTES, now)
 }
 
-/// An attempt to write so many bytes, which stand at the front of the buffer. It answers the count.
+/// An attempt to write the first `count` bytes of the buffer. It returns the count in Y.
 fn send(
     s: &mut ProcState,
     files: &mut FileState,
@@ -176,8 +177,8 @@ fn send(
     write_file(s, files, devices, p, done, opened, count, now)
 }
 
-/// An attempt to write so many bytes, which stand at the front of the buffer, on a path that may be
-/// written. It answers these registers.
+/// An attempt to write the first `count` bytes of the buffer on a path that may be written. It
+/// returns these registers.
 fn write_file(
     s: &mut ProcState,
     files: &mut FileState,
@@ -208,7 +209,7 @@ fn write_file(
     end_write(s, &mut files.io, p, regs, opened, count, written)
 }
 
-/// A write of so many bytes ends by what was answered to it.
+/// Ends a write of `count` bytes by its result.
 fn end_write(
     s: &mut ProcState,
     io: &mut IoState,
@@ -240,7 +241,7 @@ fn put_error_line(s: &mut ProcState, number: u8)
     put_line(&mut s.buffer, number);
 }
 
-/// The same at the front of a buffer.
+/// The same at the front of the given buffer.
 fn put_line(into: &mut [u8], number: u8)
     requires room { ERROR_LINE_BYTES ≤ length into.old }
     ensures line { take ERROR_LINE_BYTES into.new ≡ error_line_lem number }

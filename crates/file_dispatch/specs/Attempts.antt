@@ -1,5 +1,5 @@
--- What attempts of the calls on paths, files and directories ask for, and what comes of them (System Programmer's
--- Manual, "I/O service requests"; Level Two manual, "I/O system").
+-- What attempts of the calls on paths, files and directories require, and what they do (System Programmer's Manual,
+-- "I/O service requests"; Level Two manual, "I/O system").
 use Rattle.std.specs.Prelude.{◌≡◌, ◌≢◌, ℕ, Option, Some, None, List, length}
 use Rattle.os9_base.specs.declared.call.CallEnd.{CallEnd}
 use Rattle.os9_base.specs.declared.call.CallEnd.TheVariants.{NoMemory}
@@ -26,7 +26,7 @@ use Rattle.file_dispatch.specs.Bounds.{attempt_calls}
 
 -- ---- terminals and pipes
 
--- what a call of a process does is what this one does on a machine with so many drives, with these terminals
+-- the call of a process does what this device call does, on a machine with this number of drives and these terminals
 abbrev pub IsOnDevice : PathCall → IoCall → Inner → Files → TimePacket → ℕ → ℕ → List TerminalState → Type 0
 IsOnDevice call device m files now p drives terms =
     deed_of (file_step call (asker_of m p now) files (length terms)) files
@@ -34,7 +34,7 @@ IsOnDevice call device m files now p drives terms =
 
 -- ---- attempts
 
--- a process may attempt the call, on a machine with so many terminals: a call of it that waits is this one
+-- a process may attempt the call, on a machine with this number of terminals: its pending call, if any, is this one
 abbrev pub MayAttemptAs : Option IoCall → ProcState → Io → ℕ → ℕ → Type 0
 MayAttemptAs None processes io p terms = kept_at io p ≡ None
 MayAttemptAs (Some device) processes io p terms = MayAttemptOnDevice device processes io p terms
@@ -42,8 +42,8 @@ MayAttemptAs (Some device) processes io p terms = MayAttemptOnDevice device proc
 abbrev pub MayAttempt : PathCall → ProcState → FileState → ℕ → ℕ → Type 0
 MayAttempt call processes state p terms = MayAttemptAs (device_call call) processes state.io p terms
 
--- a process tries a call, at a time: the attempt of it ends so, and these are the terminals and the kernel's state
--- then, or memory was wanting
+-- a process tries a call, at a time: its attempt ends with this end, and leaves these terminals and this state of the
+-- kernel; or memory is lacking
 pub record Tries (call : PathCall) (m : Inner) (files : Files) (now : TimePacket) (p : ℕ) (end : CallEnd)
     (terms terms_after : List TerminalState) (before after : Standing) : Type 0 where
   pub attempted : end ≢ NoMemory
@@ -51,15 +51,15 @@ pub record Tries (call : PathCall) (m : Inner) (files : Files) (now : TimePacket
       before after
   pub memory : end ≡ NoMemory → LacksMemory call m files now p terms terms_after
 
--- ---- from any state that the kernel's stands for
+-- ---- from any state that the kernel's state stands for
 
--- a process tries a call, at a time, with paths and directories on what is there
+-- a process tries a call, at a time, in each such state in which the targets of paths and directories exist
 abbrev pub TriesFrom : PathCall → TimePacket → ℕ → CallEnd → List TerminalState → List TerminalState → Standing
     → Standing → Type 0
 TriesFrom call now p end terms terms_after before after =
     OnEach before (λ m was. Tries call m was now p end terms terms_after before after)
 
--- a process tries each call that is this one on terminals and pipes, at any time, on a machine with so many drives
+-- a process tries each call that is this device call, at any time, on a machine with this number of drives
 abbrev pub TriesOnDevice : IoCall → ℕ → ℕ → CallEnd → List TerminalState → List TerminalState → Standing → Standing
     → Type 0
 TriesOnDevice device p drives end terms terms_after before after =

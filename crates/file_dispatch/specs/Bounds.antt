@@ -1,5 +1,4 @@
--- How often a drive is called at most in an attempt of each of the calls on paths, files and directories (this
--- project's own).
+-- The greatest number of drive calls in an attempt of each call on paths, files and directories (this project's own).
 use Rattle.std.specs.Prelude.{ℕ}
 use Rattle.file_rules.specs.Files.{Asker, Files}
 use Rattle.file_rules.specs.declared.path_call.PathCall.{PathCall}
@@ -13,7 +12,7 @@ use Rattle.file_tree.specs.Calls.{i_chgdir_calls, i_delete_calls, i_deletx_calls
 abbrev pub no_calls : Asker → Files → ℕ → ℕ
 no_calls asker files terms = 0
 
--- by the process that calls, the files, and how many terminals there are
+-- by the calling process, the files and the number of terminals
 abbrev pub attempt_calls : PathCall → Asker → Files → ℕ → ℕ
 attempt_calls Call.Dup = no_calls
 attempt_calls Call.Create = i_create_calls

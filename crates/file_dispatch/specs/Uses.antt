@@ -16,7 +16,7 @@ call_of Use.GetStt = Call.GetStt
 call_of Use.SetStt = Call.SetStt
 call_of Use.PErr = Call.PErr
 
--- as it is on a terminal or a pipe
+-- the call on a terminal or a pipe
 abbrev pub device_of : PathUse → IoCall
 device_of Use.Read = Device.Read
 device_of Use.ReadLn = Device.ReadLn

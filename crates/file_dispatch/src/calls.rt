@@ -56,7 +56,7 @@ fn kind_of(call: PathCall) -> CallKind
     }
 }
 
-/// May the call set the date of a file?
+/// Whether the call may set the date of a file.
 pub fn sets_date(call: PathCall) -> bool
     ensures { result ≡ sets_date_lem call }
 {
@@ -80,11 +80,11 @@ pub fn sets_date(call: PathCall) -> bool
     }
 }
 
-/// An attempt, at a time, of a call on paths, files and directories by a process that lives (System
+/// An attempt, at a time, of a call on paths, files and directories by a living process (System
 /// Programmer's Manual, "I/O service requests"). A call that sets no date is the same at any time.
-/// Its process is not told yet what it comes to. Where a call of the process waits, this is a
-/// further attempt of it, with the registers that it was made with. `NoMemory` comes only where a byte was to be put on a terminal; no drive was
-/// called then.
+/// The result is not yet given to the process. If a call of the process is pending, this is a
+/// further attempt of it, with the registers that it was made with. `NoMemory` is returned only if
+/// a byte was to be put on a terminal; then no drive was called.
 ///
 /// # Errors
 ///
@@ -113,7 +113,7 @@ pub fn attempt(
     match kind_of(call) {
         CallKind::Number(number) => attempt_on_number(s, files, p, number, now, devices),
         CallKind::List(list) => {
-            // A call that takes a path list is at its first attempt.
+            // A call that takes a path list is never pending.
             prove!(files.io.kept(p).is_none());
             attempt_on_list(s, files, p, list, now, devices)
         }

@@ -17,10 +17,10 @@ use os9_outer::drive::BlockDriver;
 use os9_outer::terminal::CharDriver;
 use proc_state::state::ProcState;
 
-/// An attempt of a call on terminals and pipes, in the state of files: it is that of each call on
-/// paths, files and directories that comes to this one (System Programmer's Manual, "I/O service
-/// requests"). No drive is called, and volumes and directories stay. `NoMemory` comes only where a
-/// byte was to be put on a terminal.
+/// An attempt of a call on terminals and pipes, in the state of files: it is the attempt of each
+/// call on paths, files and directories that is this device call (System Programmer's Manual, "I/O
+/// service requests"). It calls no drive, and leaves volumes and directories unchanged. `NoMemory`
+/// is returned only if a byte was to be put on a terminal.
 ///
 /// # Errors
 ///

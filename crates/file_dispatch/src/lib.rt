@@ -1,4 +1,4 @@
-//! Attempts of the calls on paths, files and directories: each call has its function, by what its
+//! Attempts of the calls on paths, files and directories: the function of each call, by what its
 //! path is on.
 #![tactic(auto)]
 

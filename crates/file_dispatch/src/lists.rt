@@ -42,9 +42,9 @@ pub enum ListCall {
     DeletX,
 }
 
-/// An attempt, at a time, of a call that takes a path list by a process that lives (System
-/// Programmer's Manual, "I/O service requests"). Its process is not told yet what it comes to. It
-/// never waits, and no byte is put on a terminal.
+/// An attempt, at a time, of a call that takes a path list, by a living process (System
+/// Programmer's Manual, "I/O service requests"). The result is not yet given to the process. The
+/// call never waits, and puts no byte on a terminal.
 ///
 /// # Errors
 ///

@@ -23,7 +23,7 @@ use os9_outer::drive::BlockDriver;
 use os9_outer::terminal::CharDriver;
 use proc_state::state::ProcState;
 
-/// A call on the number of a path: one that takes no path list (System Programmer's Manual, "I/O
+/// A call on the number of a path, which takes no path list (System Programmer's Manual, "I/O
 /// service requests").
 #[derive(Clone, Copy, Debug, PartialEq, Eq)]
 pub enum NumberCall {
@@ -37,10 +37,10 @@ pub enum NumberCall {
     Use(PathUse),
 }
 
-/// An attempt, at a time, of a call on the number of a path by a process that lives (System
-/// Programmer's Manual, "I/O service requests"). Its process is not told yet what it comes to.
-/// Where a call of the process waits, this is a further attempt of it. `NoMemory` comes only where
-/// a byte was to be put on a terminal; no drive was called then.
+/// An attempt, at a time, of a call on the number of a path, by a living process (System
+/// Programmer's Manual, "I/O service requests"). The result is not yet given to the process. If a
+/// call of the process is pending, this is a further attempt of it. `NoMemory` is returned only if
+/// a byte was to be put on a terminal; then no drive was called.
 ///
 /// # Errors
 ///

@@ -33,10 +33,11 @@ use os9_outer::drive::BlockDriver;
 use os9_outer::terminal::CharDriver;
 use proc_state::state::ProcState;
 
-/// An attempt, at a time, of a call that uses an open path, by a process that lives (System
-/// Programmer's Manual, "I/O service requests"): on a file or a directory it is that of files, and
-/// else that of terminals and pipes. Where a call of the process waits, this is a further attempt
-/// of it. `NoMemory` comes only where a byte was to be put on a terminal; no drive was called then.
+/// An attempt, at a time, of a call that uses an open path, by a living process (System
+/// Programmer's Manual, "I/O service requests"). A path on a file or a directory uses the call of
+/// files, any other the call of terminals and pipes. If a call of the process is pending, this is a
+/// further attempt of it. `NoMemory` is returned only if a byte was to be put on a terminal; then
+/// no drive was called.
 ///
 /// # Errors
 ///
@@ -70,7 +71,7 @@ pub fn use_path(
     }
 }
 
-/// On the file or directory that the number of its path names.
+/// The call on the file or directory that the number of its path names.
 fn use_file(
     s: &mut ProcState,
     files: &mut FileState,
@@ -94,7 +95,7 @@ fn use_file(
     ensures lives { IsLiving s.new.table p.0 }
     ensures terms_kept { devices.new.terms ≡ devices.old.terms }
 {
-    // A call that moves no byte is at its first attempt.
+    // A call that moves no byte is never pending.
     prove!(files.io.kept(p).is_none() || call.on_device().direction().is_some());
     match call {
         PathUse::Read => read(s, files, devices, p, opened),
@@ -107,9 +108,9 @@ fn use_file(
     }
 }
 
-/// An attempt of I$Seek by a process that lives (System Programmer's Manual, I$Seek): on a file or
-/// a directory it sets the position of the path in A, and else it does nothing. It reaches no
-/// drive.
+/// An attempt of I$Seek by a living process (System Programmer's Manual, I$Seek). It sets the
+/// position of the path in A if the path is on a file or a directory, and does nothing otherwise.
+/// It reaches no drive.
 ///
 /// # Errors
 ///

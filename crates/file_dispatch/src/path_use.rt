@@ -8,7 +8,7 @@ use io_rules::io_call::IoCall;
 use io_rules::modes::STANDARD_ERROR;
 use os9_base::registers::Regs;
 
-/// A call that uses an open path, and does one thing on a file or a directory and another one on a
+/// A call that uses an open path, and does one thing on a file or a directory and another on a
 /// terminal or a pipe (System Programmer's Manual, "I/O service requests").
 #[derive(Clone, Copy, Debug, PartialEq, Eq)]
 pub enum PathUse {
@@ -20,7 +20,7 @@ pub enum PathUse {
     Write,
     /// I$WritLn: writes a line.
     WritLn,
-    /// I$GetStt: asks for the status of a path.
+    /// I$GetStt: gets the status of a path.
     GetStt,
     /// I$SetStt: sets the status of a path.
     SetStt,
@@ -29,7 +29,7 @@ pub enum PathUse {
 }
 
 impl PathUse {
-    /// The call that it is on a terminal or a pipe.
+    /// The same call on a terminal or a pipe.
     pub fn on_device(self) -> IoCall
         ensures { result ≡ device_of self }
     {
@@ -44,8 +44,8 @@ impl PathUse {
         }
     }
 
-    /// The number of the path that it uses, by the registers of its process: that of standard
-    /// error, or the one in A.
+    /// The number of the path that it uses, by the registers of its process: that of standard error
+    /// for F$PErr, else the one in A.
     pub fn path_number(self, regs: Regs) -> u8
         ensures { result ≡ path_number_lem (device_of self) regs }
     {

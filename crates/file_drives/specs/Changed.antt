@@ -1,5 +1,5 @@
--- A change of a mounted volume: what a call that makes it answers, why, and what is mounted then (OS-9 Technical
--- Reference, Random Block File Manager; the choice between the errors is this project's own).
+-- A change of a mounted volume: the result of a call that makes it, the reason, and the volume mounted then (OS-9
+-- Technical Reference, Random Block File Manager; the choice between the errors is this project's own).
 use Rattle.std.specs.Prelude.{◌≡◌, ◌⊎◌, ℕ, ◌+◌, nat_lt, ◌==◌, ◌&&◌, ◌||◌, not, Bool, true, false, Option, Some, List, length, slice_set, Result, Ok, Err, OnOk, OnErr}
 use Rattle.os9_base.specs.declared.registers.TimePacket.{TimePacket}
 use Rattle.rbf_model.specs.File.{DiskFile}
@@ -48,11 +48,11 @@ is_allowed (creates d name attributes) user dir = true
 is_allowed (makes_directory d name attributes) user dir = true
 is_allowed (deletes d n name) user dir = true
 
--- how many clusters a new file of a size and its entry in a directory need
+-- the number of clusters that a new file of a size and its entry in a directory need
 abbrev pub new_file_needs : DiskVolume → DiskFile → ℕ → ℕ
 new_file_needs v dir size = file_clusters (cluster_size v) size + entry_clusters (cluster_size v) dir
 
--- how many clusters a change needs
+-- the number of clusters that a change needs
 abbrev pub change_needs : Change → DiskVolume → DiskFile → ℕ
 change_needs (writes n at bytes) v file =
     clusters_needed (cluster_size v) file.segments (length (written file.contents at bytes))
@@ -62,11 +62,11 @@ change_needs (creates d name attributes) v dir = new_file_needs v dir 0
 change_needs (makes_directory d name attributes) v dir = new_file_needs v dir new_directory_size
 change_needs (deletes d n name) v dir = 0
 
--- fewer are free
+-- fewer clusters are free than the change needs
 abbrev pub is_full_for : Change → DiskVolume → DiskFile → Bool
 is_full_for change v file = nat_lt (free_total v) (change_needs change v file)
 
--- a new entry needs a cluster, and its directory has all its segments already
+-- a new entry needs a cluster, and its directory already has all its segments
 abbrev pub has_no_segment : DiskVolume → DiskFile → Bool
 has_no_segment v dir = nat_lt 0 (entry_clusters (cluster_size v) dir) && (length dir.segments == 48)
 
@@ -78,22 +78,22 @@ has_full_list (creates d name attributes) v dir = has_no_segment v dir
 has_full_list (makes_directory d name attributes) v dir = has_no_segment v dir
 has_full_list (deletes d n name) v dir = false
 
--- it is to be refused
+-- the change has to be refused
 abbrev pub is_refused : Asked → DiskVolume → DiskFile → Bool
 is_refused asked v file =
     not (is_allowed asked.change asked.user file)
     || (is_full_for asked.change v file || has_full_list asked.change v file)
 
--- ---- what is answered, and the volume that is left then
+-- ---- the result, and the volume that is left then
 
--- the change was not to be refused, and has been made; n is the number of the file that it makes, if it makes one
+-- the change did not have to be refused, and has been made; n is the number of the new file, if the change makes one
 pub record ChangeIsMade (asked : Asked) (v : DiskVolume) (file : DiskFile) (left : DiskVolume) (n : ℕ) : Type 0 where
   pub allowed : is_allowed asked.change asked.user file ≡ true
   pub enough : is_full_for asked.change v file ≡ false
   pub list : has_full_list asked.change v file ≡ false
   pub makes : Makes asked.change asked.user asked.now v left n
 
--- the drive failed. Where the change was to be refused, nothing has changed
+-- the drive failed. If the change had to be refused, nothing has changed
 pub record ChangeIsBroken (asked : Asked) (v : DiskVolume) (file : DiskFile) (left : DiskVolume) : Type 0 where
   pub may_be : MayLeave asked.change asked.user asked.now v left
   pub refused : is_refused asked v file ≡ true → left ≡ v
@@ -109,7 +109,7 @@ pub record ChangeIsFull (asked : Asked) (v : DiskVolume) (file : DiskFile) (left
   pub few : is_full_for asked.change v file ≡ true
   pub same : left ≡ v
 
--- E$SLF: a list of segments is full already, or a cluster that was chosen finds no place in it
+-- E$SLF: a list of segments is already full, or has no place for a chosen cluster
 pub record ChangeIsTooLong (asked : Asked) (v : DiskVolume) (file : DiskFile) (left : DiskVolume) : Type 0 where
   pub allowed : is_allowed asked.change asked.user file ≡ true
   pub enough : is_full_for asked.change v file ≡ false
@@ -126,7 +126,7 @@ AnswersChange asked v file left (Err (File (Device number))) = ChangeIsBroken as
 AnswersChange asked v file left (Err (File NoCluster)) = ChangeIsFull asked v file left
 AnswersChange asked v file left (Err (File TooManyRuns)) = ChangeIsTooLong asked v file left
 
--- it is refused, and no fault of the drive ended it
+-- it is refused, and no drive fault ended it
 abbrev pub IsRefused : Result ℕ DirError → Type 0
 IsRefused (Ok n) = ⊥
 IsRefused (Err NotAllowed) = Unit {0}
@@ -137,24 +137,24 @@ IsRefused (Err (File (Device number))) = ⊥
 IsRefused (Err (File NoCluster)) = Unit {0}
 IsRefused (Err (File TooManyRuns)) = Unit {0}
 
--- an answer without a number; no file has the number 0
+-- a result without a number; no file has the number 0
 abbrev pub numbered : Result (Unit {0}) DirError → Result ℕ DirError
 numbered (Ok done) = Ok 0
 numbered (Err error) = Err error
 
--- an answer of a call on a file
+-- the result of a call on a file
 abbrev pub file_answer : Result (Unit {0}) FileFault → Result ℕ DirError
 file_answer (Ok done) = Ok 0
 file_answer (Err fault) = Err (File fault)
 
--- ---- the media, with what no volume shows of it
+-- ---- the media, including what no volume shows of it
 
--- that holds of the answer of a call on a file, which is this
+-- a fact of the result of a call on a file, which is this one
 abbrev pub OfFile : Result ℕ DirError → (Result (Unit {0}) FileFault → Type 0) → Type 0
 OfFile answer fact = (result : Result (Unit {0}) FileFault) × (answer ≡ file_answer result) × fact result
 
--- what the disk's own call answers that makes a change for a user, at a time, and what it leaves of the media. Whether
--- the place of a new file was looked for to execute a file is told by no change
+-- the result of the disk's own call that makes a change for a user, at a time, and what it leaves of the media. A
+-- change does not say whether the place of a new file was searched in order to execute a file
 abbrev pub AnswersOnDisk : Change → ℕ → TimePacket → DiskVolume → DiskFile → Result ℕ DirError → Option (List ℕ)
     → Option (List ℕ) → Type 0
 AnswersOnDisk (writes n at bytes) user now v file answer before after =
@@ -172,8 +172,8 @@ AnswersOnDisk (deletes d n name) user now v dir answer before after =
 
 -- ---- the drives
 
--- a volume on a drive has been changed, or not, as the answer says: it is mounted there then, and the others are as
--- they were. `most` is how many calls of the drive there may be
+-- a volume on a drive has been changed or not, by the result: it is mounted there then, and the others are unchanged.
+-- `most` is the greatest number of calls of the drive
 pub record LeavesVolume (asked : Asked) (answer : Result ℕ DirError) (most : DiskVolume → ℕ) (v : DiskVolume)
     (file : DiskFile) (drive : ℕ) (volumes : List (Option DiskVolume)) (before : List DriveView)
     (new : List (Option Volume)) (after : List DriveView) : Type 0 where
@@ -181,7 +181,7 @@ pub record LeavesVolume (asked : Asked) (answer : Result ℕ DirError) (most : D
   pub answers : AnswersChange asked v file left answer
   pub mounted : AreMounted new after (slice_set volumes drive (Some left))
   pub moves : OneDriveMoves (directory_fault answer) (most left) drive before after
-  -- a call that is refused, or that was to be when the drive failed, writes nothing
+  -- a call that is refused, or had to be when the drive failed, writes nothing
   pub refused : IsRefused answer ⊎ (is_refused asked v file ≡ true) → media_of after ≡ media_of before
   -- the media of the drive
   pub disk : AnswersOnDisk asked.change asked.user asked.now v file answer (media_at before drive)

@@ -1,5 +1,5 @@
--- What can be observed of the drives of a machine, as lists that do not depend on how their drivers are made, and how
--- they change in a call that reaches one of them (this project's own).
+-- What can be observed of the drives of a machine, as lists that do not depend on the construction of their drivers,
+-- and how they change in a call that reaches one of them (this project's own).
 use Rattle.std.specs.Prelude.{◌≡◌, ℕ, Option, Some, None, List, length, map, option_map, slice_get, slice_index_or, slice_set}
 use Rattle.std.specs.declared.alloc.Global.{Global}
 use Rattle.std.specs.declared.dyn_box.DynBox.{DynBox}
@@ -11,14 +11,14 @@ use Rattle.file_rules.specs.Files.{DriveState}
 
 -- a drive, as far as it can be observed
 pub record DriveView : Type 0 where
-  pub media : Option (List ℕ)  -- the bytes of the image that is in, if one is
-  pub counts : DriveCounts  -- how often it failed and was called, and its last fault
+  pub media : Option (List ℕ)  -- the bytes of the image in the drive, if there is one
+  pub counts : DriveCounts  -- the number of its faults and of its calls, and its last fault
 
--- as its driver shows it, whose ghost members are these
+-- the drive as shown by its driver, which has these ghost members
 abbrev pub drive_view : {Driver : Type 0} → Ghosts Driver → Driver → DriveView
 drive_view members driver = record { media = members.media driver; counts = drive_counts members driver }
 
--- the drive that is lent: the table of its methods gives the driver's ghost members
+-- the lent drive: the table of its methods gives the driver's ghost members
 abbrev pub lent_drive_view : {Table : Type 0} {Driver : Table → Type 0} → ((table : Table) → Ghosts (Driver table))
     → (table : Table) × Driver table → DriveView
 lent_drive_view members drive = drive_view (members drive.0) drive.1
@@ -33,7 +33,7 @@ abbrev pub drive_views : {Table : Type 0} {Driver : Table → Type 0} → ((tabl
     → List (DynBox Table Global Driver) → List DriveView
 drive_views members drives = map (boxed_drive_view members) drives
 
--- the drive that is lent, as `lent_seen BlockDriver-dyn d.now`
+-- the lent drive, as `lent_seen BlockDriver-dyn d.now`
 abbrev pub lent_seen : {Table : Type 0} {Driver : Table → Type 0}
     → ((drive : (table : Table) × Driver table) → Ghosts (Driver drive.0)) → (table : Table) × Driver table → DriveView
 lent_seen members drive = drive_view (members drive) drive.1
@@ -49,7 +49,7 @@ abbrev pub drives_seen : {Table : Type 0} {Driver : Table → Type 0} {Terminals
     → DeviceTable (DynBox Table Global Driver) Terminals → List DriveView
 drives_seen members devices = map (λ drive. drive_view (members drive) drive.value) devices.drives.items
 
--- the bytes of the image that is in each drive
+-- the bytes of the image in each drive
 abbrev pub media_of : List DriveView → List (Option (List ℕ))
 media_of views = map (λ view. view.media) views
 
@@ -57,16 +57,16 @@ media_of views = map (λ view. view.media) views
 abbrev pub unused_drive : DriveView
 unused_drive = record { media = None; counts = record { faults = 0; last = None; calls = 0 } }
 
--- the bytes of the image that is in the drive of this number; none also where there is no such drive
+-- the bytes of the image in the drive of this number; none also if there is no such drive
 abbrev pub media_at : List DriveView → ℕ → Option (List ℕ)
 media_at views n = (slice_index_or views n unused_drive).media
 
--- the media is as long as it was, and its first sector, which identifies the volume, is as it was
+-- the media keeps its length and its first sector, which identifies the volume
 pub record KeepsIdent (before after : Option (List ℕ)) : Type 0 where
   pub as_long : option_map length after ≡ option_map length before
   pub first : sector_at after 0 ≡ sector_at before 0
 
--- what the calls on files tell of a drive
+-- what the calls on files show of a drive
 abbrev pub drive_state : DriveView → DriveState
 drive_state view = record { faults = view.counts.faults; last = view.counts.last }
 
@@ -79,12 +79,12 @@ ChangesOneDrive change n before after =
     (old : DriveView) × (new : DriveView) × (slice_get before n ≡ Some old) × (after ≡ slice_set before n new)
     × change old new
 
--- at most so many calls of it were made, and the fault of this number ended them, if there was one
+-- at most `most` calls of it were made, and the fault of this number ended them, if there was one
 abbrev pub OneDriveMoves : Option ℕ → ℕ → ℕ → List DriveView → List DriveView → Type 0
 OneDriveMoves fault most n before after =
     ChangesOneDrive (λ old new. MovesCounts fault most old.counts new.counts) n before after
 
--- such calls of a drive that only read it
+-- such calls that only read the drive
 pub record Reads (fault : Option ℕ) (most : ℕ) (old new : DriveView) : Type 0 where
   pub media_kept : new.media ≡ old.media
   pub counts : MovesCounts fault most old.counts new.counts

@@ -1,4 +1,4 @@
--- What is found in a directory of a mounted volume before an entry of it changes.
+-- What is found in a directory of a mounted volume before one of its entries changes.
 use Rattle.std.specs.Prelude.{◌≡◌, ℕ, Bool, Some, List, slice_get}
 use Rattle.rbf_make.specs.Places.{IsPlaceFor}
 use Rattle.rbf_make.specs.declared.place.NewPlace.{NewPlace}
@@ -16,25 +16,25 @@ pub record IsPlaceAt (views : List DriveView) (dir : FilePlace) (name : List ℕ
   pub place : IsPlaceFor view.media name found
   pub directory_is : found.dir.number ≡ dir.number
 
--- it was found for this user
+-- the same place, found for this user
 pub record IsPlaceOn (views : List DriveView) (dir : FilePlace) (name : List ℕ) (user : ℕ) (execute : Bool)
     (found : NewPlace) : Type 0 where
   pub at : IsPlaceAt views dir name found
   pub user_is : found.user ≡ user
   pub execute_is : found.execute ≡ execute
 
--- the entry of a directory that has a name, and that may be made free
+-- the entry of a directory with a name, if it may be made free
 pub record IsDeletableOn (views : List DriveView) (dir : FilePlace) (name : List ℕ) (found : Deletable) : Type 0 where
   pub view : DriveView
   pub is : slice_get views dir.drive ≡ Some view
   pub entry : IsDeletable view.media dir.number name found
 
--- some name has it
+-- the same for some name
 pub record MayBeDeletedOn (views : List DriveView) (dir : FilePlace) (found : Deletable) : Type 0 where
   pub name : List ℕ
   pub is : IsDeletableOn views dir name found
 
--- a deletion of the file that it names is asked for
+-- a deletion of the file that the found entry names is asked for
 pub record IsDeletionOn (dir : FilePlace) (found : Deletable) (asked : Asked) (views : List DriveView) : Type 0 where
   pub name : List ℕ
   pub is : IsDeletableOn views dir name found

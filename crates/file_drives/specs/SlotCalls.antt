@@ -1,4 +1,4 @@
--- What each call makes of one drive and of what is kept for it, as the contracts of `Disks` have it of the drives of a
+-- The effect of each call on one drive and on the state kept for it, as in the contracts of `Disks` for the drives of a
 -- machine.
 use Rattle.std.specs.Prelude.{◌≡◌, ℕ, Bool, Option, Some, IfOk, List, length, Result}
 use Rattle.os9_base.specs.declared.registers.TimePacket.{TimePacket}

@@ -1,4 +1,4 @@
--- One drive and what is kept for it: the same as of the drives of a machine.
+-- One drive and the state kept for it: the definitions of `Mounted` and `Changed` for a single drive.
 use Rattle.std.specs.Prelude.{◌≡◌, ◌⊎◌, ℕ, true, false, Option, Some, Result}
 use Rattle.os9_base.specs.declared.registers.TimePacket.{TimePacket}
 use Rattle.rbf_model.specs.File.{DiskFile, is_directory}
@@ -19,7 +19,7 @@ pub record HasFileOn (kept : Option Volume) (view : DriveView) (n : ℕ) : Type 
   pub file : DiskFile
   pub is : volume.files n ≡ Some file
 
--- and it is no directory
+-- and it is not a directory
 pub record HasDataFileOn (kept : Option Volume) (view : DriveView) (n : ℕ) : Type 0 where
   pub volume : DiskVolume
   pub on : AgreesOnDrive kept view (Some volume)
@@ -27,7 +27,7 @@ pub record HasDataFileOn (kept : Option Volume) (view : DriveView) (n : ℕ) : T
   pub is : volume.files n ≡ Some file
   pub not_directory : is_directory file ≡ false
 
--- what holds of the volume that is mounted and of its file of this number
+-- a fact of the mounted volume and of its file of this number
 pub record OnMountedFile (kept : Option Volume) (view : DriveView) (n : ℕ) (fact : DiskVolume → DiskFile → Type 0)
     : Type 0 where
   pub holds : (v : DiskVolume) (file : DiskFile) → AgreesOnDrive kept view (Some v) → v.files n ≡ Some file
@@ -38,13 +38,13 @@ pub record AsksFor (change : Change) (now : TimePacket) (asked : Asked) : Type 0
   pub change_is : asked.change ≡ change
   pub now_is : asked.now ≡ now
 
--- the drive is only read, and what was mounted is mounted still
+-- the drive is only read, and the mounted volume is still mounted
 pub record ReadsMounted (fault : Option ℕ) (most : ℕ) (kept : Option Volume) (before : DriveView) (new : Option Volume)
     (after : DriveView) : Type 0 where
   pub reads : Reads fault most before after
   pub stays : (v : DiskVolume) → AgreesOnDrive kept before (Some v) → AgreesOnDrive new after (Some v)
 
--- the volume has been changed, or not, as the answer says
+-- the volume has been changed or not, by the result
 pub record LeavesMounted (asked : Asked) (answer : Result ℕ DirError) (most : DiskVolume → ℕ) (v : DiskVolume)
     (file : DiskFile) (before : DriveView) (new : Option Volume) (after : DriveView) : Type 0 where
   pub left : DiskVolume

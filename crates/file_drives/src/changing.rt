@@ -1,4 +1,4 @@
-// The calls that change a file, over one drive in its box and what is kept for it.
+// The calls that change a file, on one drive in its box and the state kept for it.
 
 ghost use Rattle.file_drives.specs.Drives.{boxed_seen, lent_seen};
 ghost use Rattle.file_drives.specs.SlotCalls.{SetsAttributesOn, SizesOn, WritesOn};
@@ -12,7 +12,7 @@ use rbf_update::set_attr;
 use rbf_walk::DirError;
 use rbf_write::write_at;
 
-// Writes bytes to a file that is no directory.
+// Writes bytes to a file that is not a directory.
 fn write_on(
     kept: &mut Option<Volume>,
     d: &mut dyn BlockDriver,
@@ -33,7 +33,7 @@ fn write_on(
     }
 }
 
-// `write_on` of the drive in a box.
+// `write_on` for the drive in a box.
 pub fn write_in_box(
     kept: &mut Option<Volume>,
     driver: &mut Box<dyn BlockDriver>,
@@ -51,7 +51,7 @@ pub fn write_in_box(
     write_on(kept, &mut **driver, number, at, from, now)
 }
 
-// Gives a file that is no directory a size.
+// Gives a file that is not a directory a size.
 fn set_size_on(
     kept: &mut Option<Volume>,
     d: &mut dyn BlockDriver,
@@ -71,7 +71,7 @@ fn set_size_on(
     }
 }
 
-// `set_size_on` of the drive in a box.
+// `set_size_on` for the drive in a box.
 pub fn set_size_in_box(
     kept: &mut Option<Volume>,
     driver: &mut Box<dyn BlockDriver>,
@@ -109,7 +109,7 @@ fn set_attr_on(
     }
 }
 
-// `set_attr_on` of the drive in a box.
+// `set_attr_on` for the drive in a box.
 pub fn set_attr_in_box(
     kept: &mut Option<Volume>,
     driver: &mut Box<dyn BlockDriver>,

@@ -38,11 +38,11 @@ use rbf_walk::DirError;
 use std::alloc::Global;
 use std::marker::Model;
 
-/// How many drives a machine has at most: D0 to D3.
+/// The most drives of a machine: D0 to D3.
 const DRIVES: usize = 4;
 
-/// What is kept of the volumes that are mounted on the drives of a machine. A contract sees the
-/// list of what is kept for each of D0 to D3, and says by `AreMounted` which volumes these are.
+/// The state kept for the volumes that are mounted on the drives of a machine. A contract sees the
+/// list of the states kept for D0 to D3; `AreMounted` says which volumes these are.
 #[derive(Drop)]
 pub struct Disks {
     volumes: Vec<Option<Volume>>,
@@ -73,13 +73,13 @@ impl Disks {
         })
     }
 
-    /// Mounts the volume that the media of a drive holds, in place of the one that was mounted
-    /// there. What is kept for the other drives stays.
+    /// Mounts the volume on the media of drive `n`, in place of the one that was mounted there. The
+    /// state kept for the other drives is unchanged.
     ///
     /// # Errors
     ///
     /// `NotRbf` if the drive has no media or the media holds no RBF volume, `Device` if a read of
-    /// the drive fails, or out of memory. What was mounted is mounted still then.
+    /// the drive fails, or out of memory. Each mounted volume is still mounted then.
     pub fn mount(&mut self, alloc: Global, n: u8, devices: &mut Devices) -> Result<(), VolFault>
         requires drive { n < vec_len devices.old.drives }
         requires few { n < 4 }
@@ -99,7 +99,7 @@ impl Disks {
         )
     }
 
-    /// The root directory of the volume that is mounted on a drive; None if none is.
+    /// The root directory of the volume that is mounted on drive `n`; None if none is mounted.
     pub fn root(&self, n: u8) -> Option<FilePlace>
         requires { n < 4 }
         ensures root { (views : List DriveView) (volumes : List (Option DiskVolume))
@@ -115,7 +115,7 @@ impl Disks {
     ///
     /// # Errors
     ///
-    /// `Device` if the drive's read fails.
+    /// `Device` if the read of the drive fails.
     pub fn fd(&mut self, devices: &mut Devices, place: FilePlace) -> Result<Fd, FileFault>
         requires file { HasFileAt self.old (drives_seen BlockDriver-box devices.old) place }
         ensures ok { OnDisks self.old (drives_seen BlockDriver-box devices.old) place
@@ -133,8 +133,8 @@ impl Disks {
         )
     }
 
-    /// Reads bytes of a file from `at` on, as many as `into` has room for and the file has there,
-    /// and answers how many; 0 at or past its end. The rest of `into` stays.
+    /// Reads bytes of a file from `at` on into `into`, until `into` is full or the file ends, and
+    /// returns their number; 0 at or past the end of the file. The rest of `into` is unchanged.
     ///
     /// # Errors
     ///
@@ -165,13 +165,12 @@ impl Disks {
         )
     }
 
-    /// Goes from a directory to the file that it has by a name, for a user. The directory must let
-    /// the user read it, or execute it in search of a file to execute (OS-9 Technical Reference,
-    /// I$Open).
+    /// Goes from a directory to its file with a name, for a user. The directory must let the user
+    /// read it, or execute it in search of a file to execute (OS-9 Technical Reference, I$Open).
     ///
     /// # Errors
     ///
-    /// `NotAllowed` if `place` is no directory or may not be searched, `NotFound` if the name is
+    /// `NotAllowed` if `place` is not a directory or may not be searched, `NotFound` if the name is
     /// not there, `Device` if a read of the drive fails.
     pub fn walk_to(
         &mut self,
@@ -204,16 +203,17 @@ impl Disks {
         placed(place.drive, arrived)
     }
 
-    /// Writes bytes to a file that is no directory, from `at` on. Between its end and that place it
-    /// has zeros then. A write that changes its size sets its date. To write no bytes changes
-    /// nothing and makes no call of the drive (OS-9 System Programmer's Manual, I$Write).
+    /// Writes bytes to a file that is not a directory, from `at` on. If `at` is past the end, zeros
+    /// fill the file between its end and `at`. A write that changes the size sets the date. A write
+    /// of no bytes changes nothing and does not call the drive (OS-9 System Programmer's Manual,
+    /// I$Write).
     ///
     /// # Errors
     ///
-    /// If no fault comes, `NoCluster` exactly if fewer clusters are free than the write needs, and
-    /// `TooManyRuns` if one that was chosen finds no place in the list of segments: then nothing
-    /// has changed. `Device` if a call of the drive fails: then the file may have a first part of
-    /// the bytes, and clusters may be lost; in a call that was to be refused nothing has changed.
+    /// Without a drive fault: `NoCluster` exactly if fewer clusters are free than the write needs,
+    /// and `TooManyRuns` if the list of segments has no place for a chosen cluster; nothing has
+    /// changed then. `Device` if a call of the drive fails: then the file may have a first part of
+    /// the bytes, and clusters may be lost; a call that had to be refused has changed nothing.
     pub fn write_at(
         &mut self,
         devices: &mut Devices,
@@ -240,17 +240,17 @@ impl Disks {
         )
     }
 
-    /// Gives a file that is no directory a size, in bytes. A longer one gains the clusters that it
-    /// needs, and what is added is zeros; a shorter one gives back the clusters that it needs no
-    /// more. Either sets its date. To give it the size that it has changes nothing (OS-9 System
+    /// Gives a file that is not a directory a size, in bytes. A longer file gains the clusters that
+    /// it needs, and the added bytes are zeros; a shorter one gives back the clusters that it no
+    /// longer needs. Either sets its date. Setting the current size changes nothing (OS-9 System
     /// Programmer's Manual, I$SetStt, SS.Size).
     ///
     /// # Errors
     ///
-    /// If no fault comes, `NoCluster` exactly if fewer clusters are free than the size needs, and
-    /// `TooManyRuns` if one that was chosen finds no place in the list of segments: then nothing
-    /// has changed. `Device` if a call of the drive fails: then the file is as it was, or it has
-    /// been cut, and clusters may be lost; in a call that was to be refused nothing has changed.
+    /// Without a drive fault: `NoCluster` exactly if fewer clusters are free than the size needs,
+    /// and `TooManyRuns` if the list of segments has no place for a chosen cluster; nothing has
+    /// changed then. `Device` if a call of the drive fails: then the file is unchanged or has been
+    /// cut, and clusters may be lost; a call that had to be refused has changed nothing.
     pub fn set_size(
         &mut self,
         devices: &mut Devices,
@@ -277,7 +277,8 @@ impl Disks {
     }
 
     /// Gives a file or directory other attributes, for a user (SS.Attr, this project's own
-    /// argument): bit 7, which says what it is, stays, and the date of its last change is `now`.
+    /// argument). Bit 7, which says whether it is a directory, is unchanged, and the date of its
+    /// last change is `now`.
     ///
     /// # Errors
     ///
@@ -309,8 +310,8 @@ impl Disks {
         )
     }
 
-    /// The place in a directory that a new entry with a name goes to, for a user: the first free
-    /// one, or the one behind the last (OS-9 Technical Reference, I$Create and I$MakDir).
+    /// The place in a directory for a new entry with a name, for a user: the first free one, or the
+    /// one after the last (OS-9 Technical Reference, I$Create and I$MakDir).
     ///
     /// # Errors
     ///
@@ -346,8 +347,8 @@ impl Disks {
         )
     }
 
-    /// The entry of a directory that has a name, if a user may delete it: an entry of a file, and
-    /// not of a directory (OS-9 Technical Reference, I$Delete).
+    /// The entry of a directory with a name, if a user may delete it: an entry of a file, not of a
+    /// directory (OS-9 Technical Reference, I$Delete).
     ///
     /// # Errors
     ///
@@ -384,16 +385,16 @@ impl Disks {
         )
     }
 
-    /// Creates a file without contents by a name that a directory has not, at the place that
-    /// [`Disks::find_place`] has answered, for the user for whom it was found, and answers the
+    /// Creates a file without contents, with a name that is not yet in the directory, at the place
+    /// that [`Disks::find_place`] has returned, for the user for whom it was found. Returns the
     /// number of its descriptor (OS-9 Technical Reference, I$Create).
     ///
     /// # Errors
     ///
     /// In this order: `NoCluster` if fewer clusters are free than the file and its entry need,
-    /// `TooManyRuns` if the directory needs a cluster and has all its segments already: then
-    /// nothing has changed, and no call of the drive was made. `Device` if an access of the drive
-    /// fails: then the tree is as it was, and clusters may be lost.
+    /// `TooManyRuns` if the directory needs a cluster and already has all its segments; then
+    /// nothing has changed, and the drive was not called. `Device` if an access of the drive fails:
+    /// then the tree is unchanged, and clusters may be lost.
     pub fn create_at(
         &mut self,
         devices: &mut Devices,
@@ -424,9 +425,9 @@ impl Disks {
         )
     }
 
-    /// Makes a directory by a name that its parent has not, at the place that [`Disks::find_place`]
-    /// has answered to a user who searched to read, and answers the number of its descriptor (OS-9
-    /// Technical Reference, I$MakDir).
+    /// Makes a directory with a name that is not yet in its parent, at the place that
+    /// [`Disks::find_place`] has returned to a user who searched to read. Returns the number of its
+    /// descriptor (OS-9 Technical Reference, I$MakDir).
     ///
     /// # Errors
     ///
@@ -462,12 +463,12 @@ impl Disks {
     }
 
     /// Deletes the file whose entry [`Disks::find_deletable`] has found (OS-9 Technical Reference,
-    /// I$Delete): its entry is made free, and then its clusters are. Whether a user may delete it
-    /// was tested there, and is not tested here.
+    /// I$Delete): it makes the entry free, and then the clusters. `find_deletable` has tested
+    /// whether the user may delete the file; that is not tested here.
     ///
     /// # Errors
     ///
-    /// `Device` if an access of the drive fails: then nothing has changed, or the file has gone,
+    /// `Device` if an access of the drive fails: then nothing has changed, or the file is deleted
     /// and some of its clusters may be lost.
     pub fn delete_at(
         &mut self,
@@ -492,7 +493,7 @@ impl Disks {
     }
 }
 
-/// The root directory of the volume that is mounted on a drive, by what is kept for it.
+/// The root directory of the volume that is mounted on a drive, by the state kept for the drive.
 fn root_of_kept(kept: &Option<Volume>, n: u8) -> Option<FilePlace>
     ensures { (view : DriveView) (volume : Option DiskVolume)
         → AgreesOnDrive kept.now view volume → result ≡ option_map (root_of n) volume }
@@ -506,7 +507,7 @@ fn root_of_kept(kept: &Option<Volume>, n: u8) -> Option<FilePlace>
     }
 }
 
-/// The place on a drive of the file at which a walk arrived.
+/// The place on a drive of the file at the end of a walk.
 fn placed(drive: u8, arrived: Result<u32, DirError>) -> Result<FilePlace, DirError>
     ensures number { number_arrived result ≡ arrived }
     ensures drive { IfOk result (λ place. place.drive ≡ drive) }
@@ -517,7 +518,7 @@ fn placed(drive: u8, arrived: Result<u32, DirError>) -> Result<FilePlace, DirErr
     }
 }
 
-/// No volume for each of the drives.
+/// No volume for any of the drives.
 fn no_volumes(alloc: Global) -> Result<Vec<Option<Volume>>, OutOfMemory>
     ensures { IfOk result (λ volumes. volumes.items ≡ replicate 4 None) }
 {

@@ -1,4 +1,4 @@
-// The calls on the entries of a directory, over one drive in its box and what is kept for it.
+// The calls on the entries of a directory, on one drive in its box and the state kept for it.
 
 ghost use Rattle.std.specs.Prelude.{◌≡◌, ℕ, ◌<◌, false};
 ghost use Rattle.rbf_make.specs.Places.{IsPlaceFor};
@@ -18,7 +18,7 @@ use rbf_make::{NewPlace, find_place};
 use rbf_update::{Deletable, find_deletable};
 use rbf_walk::DirError;
 
-// The place in a directory that a new entry with a name goes to, for a user.
+// The place in a directory for a new entry with a name, for a user.
 fn find_place_on(
     kept: &mut Option<Volume>,
     d: &mut dyn BlockDriver,
@@ -39,7 +39,7 @@ fn find_place_on(
     }
 }
 
-// `find_place_on` of the drive in a box.
+// `find_place_on` for the drive in a box.
 pub fn find_place_in_box(
     kept: &mut Option<Volume>,
     driver: &mut Box<dyn BlockDriver>,
@@ -57,7 +57,7 @@ pub fn find_place_in_box(
     find_place_on(kept, &mut **driver, dir, name, user, execute)
 }
 
-// The entry of a directory that has a name, if a user may delete it.
+// The entry of a directory with a name, if a user may delete it.
 fn find_deletable_on(
     kept: &mut Option<Volume>,
     d: &mut dyn BlockDriver,
@@ -78,7 +78,7 @@ fn find_deletable_on(
     }
 }
 
-// `find_deletable_on` of the drive in a box.
+// `find_deletable_on` for the drive in a box.
 pub fn find_deletable_in_box(
     kept: &mut Option<Volume>,
     driver: &mut Box<dyn BlockDriver>,
@@ -119,7 +119,7 @@ fn create_on(
     }
 }
 
-// `create_on` of the drive in a box.
+// `create_on` for the drive in a box.
 pub fn create_in_box(
     kept: &mut Option<Volume>,
     driver: &mut Box<dyn BlockDriver>,
@@ -162,7 +162,7 @@ fn make_dir_on(
     }
 }
 
-// `make_dir_on` of the drive in a box.
+// `make_dir_on` for the drive in a box.
 pub fn make_dir_in_box(
     kept: &mut Option<Volume>,
     driver: &mut Box<dyn BlockDriver>,
@@ -201,7 +201,7 @@ fn delete_on(
     }
 }
 
-// `delete_on` of the drive in a box.
+// `delete_on` for the drive in a box.
 pub fn delete_in_box(
     kept: &mut Option<Volume>,
     driver: &mut Box<dyn BlockDriver>,

@@ -1,5 +1,5 @@
 //! The volumes that are mounted on the drives of a machine, and the calls that read and change
-//! their files, each over the one drive that it reaches.
+//! their files, each on the one drive that it reaches.
 #![tactic(auto)]
 
 mod changing;

@@ -1,4 +1,4 @@
-// The calls that read, over one drive in its box and what is kept for it.
+// The calls that read, on one drive in its box and the state kept for it.
 
 ghost use Rattle.std.specs.Prelude.{◌≡◌, IfOk, IsSome, OnOk, OnErr, length};
 ghost use Rattle.rbf_model.specs.Volume.{DiskVolume};
@@ -17,7 +17,7 @@ use rbf_sector::Fd;
 use rbf_walk::{DirError, walk};
 use std::alloc::Global;
 
-// Mounts the volume that the media of the drive holds.
+// Mounts the volume on the media of the drive.
 fn mount_on(
     alloc: Global,
     kept: &mut Option<Volume>,
@@ -40,7 +40,7 @@ fn mount_on(
     }
 }
 
-// `mount_on` of the drive in a box.
+// `mount_on` for the drive in a box.
 pub fn mount_in_box(
     alloc: Global,
     kept: &mut Option<Volume>,
@@ -75,7 +75,7 @@ fn fd_on(kept: &mut Option<Volume>, d: &mut dyn BlockDriver, number: u32) -> Res
     }
 }
 
-// `fd_on` of the drive in a box.
+// `fd_on` for the drive in a box.
 pub fn fd_in_box(
     kept: &mut Option<Volume>,
     driver: &mut Box<dyn BlockDriver>,
@@ -120,7 +120,7 @@ fn read_on(
     }
 }
 
-// `read_on` of the drive in a box.
+// `read_on` for the drive in a box.
 pub fn read_in_box(
     kept: &mut Option<Volume>,
     driver: &mut Box<dyn BlockDriver>,
@@ -143,7 +143,7 @@ pub fn read_in_box(
     read_on(kept, &mut **driver, number, at, into)
 }
 
-// Goes from a directory to the file that it has by a name.
+// Goes from a directory to its file with a name.
 fn walk_on(
     kept: &mut Option<Volume>,
     d: &mut dyn BlockDriver,
@@ -164,7 +164,7 @@ fn walk_on(
     }
 }
 
-// `walk_on` of the drive in a box.
+// `walk_on` for the drive in a box.
 pub fn walk_in_box(
     kept: &mut Option<Volume>,
     driver: &mut Box<dyn BlockDriver>,

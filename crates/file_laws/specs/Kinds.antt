@@ -1,6 +1,6 @@
 -- What paths and directories of processes are on (Level Two manual, "Path descriptors"; System Programmer's Manual,
--- I$Open and I$ChgDir): a path that was opened on a file is on one that is there and is no directory, a path that was
--- opened on a directory is on one and may not be written, and each directory of a process is one.
+-- I$Open and I$ChgDir). A path opened on a file is on an existing file that is not a directory. A path opened on a
+-- directory is on a directory, and may not be written. Each directory of a process is a directory.
 use Rattle.std.specs.Prelude.{◌≡◌, ℕ, ◌<◌, Bool, true, false, Some}
 use Rattle.io_model.specs.Path.{desc_of}
 use Rattle.io_model.specs.declared.path.Desc.{Desc}
@@ -13,14 +13,14 @@ use Rattle.io_rules.specs.Modes.{can_write}
 use Rattle.file_rules.specs.Files.{Files, directory_of, file_in, volume_at}
 use Rattle.file_rules.specs.declared.places.FilePlace.{FilePlace}
 
--- there is a file at the place, and it is a directory or is none
+-- there is a file at the place, and it is a directory or not, as this flag says
 pub record IsOfKind (files : Files) (place : FilePlace) (directory : Bool) : Type 0 where
   pub file : DiskFile
   pub there : file_in files place ≡ Some file
   pub kind : is_directory file ≡ directory
 
--- what a path with this mode was opened on is there, and is a directory or none as the path has it. A path on a
--- directory may not be written; terminals and pipes are no files
+-- the target of a path with this mode exists, and is a directory or not, as the target says. A path on a directory may
+-- not be written; terminals and pipes are not files
 abbrev pub IsOnTarget : Files → ℕ → Target → Type 0
 IsOnTarget files mode (File drive number) = IsOfKind files (record { drive = drive; number = number }) false
 IsOnTarget files mode (Folder drive number) =
@@ -28,7 +28,7 @@ IsOnTarget files mode (Folder drive number) =
 IsOnTarget files mode (Term terminal) = Unit {0}
 IsOnTarget files mode (Pipe pipe) = Unit {0}
 
--- the same of a path by its descriptor
+-- the same for a path by its descriptor
 abbrev pub IsOnItsKind : Files → Desc → Type 0
 IsOnItsKind files desc = IsOnTarget files desc.mode desc.target
 

@@ -1,8 +1,8 @@
--- What no call changes of drives: which of them have a volume, and how many there are.
+-- What no call changes of drives: which of them have a volume, and their number.
 use Rattle.std.specs.Prelude.{◌≡◌, ℕ, is_some, length}
 use Rattle.file_rules.specs.Files.{Files, volume_at}
 
--- the same drives have a volume, and there are as many drives and as many places for directories of processes
+-- the same drives have a volume, and the numbers of drives and of places for directories of processes are the same
 pub record AreAsMany (old new : Files) : Type 0 where
   pub drives : length new.drives ≡ length old.drives
   pub directories : length new.directories ≡ length old.directories

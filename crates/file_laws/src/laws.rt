@@ -1,5 +1,5 @@
-//! What holds at the start and is kept by every attempt: paths and directories of processes are on
-//! what is there, and no volume is lost.
+//! What holds at the start and after every attempt: the targets of paths and the directories of
+//! processes exist, and no volume is lost.
 
 ghost use Rattle.std.specs.Prelude.{◌≡◌, ℕ, Some, None, true, false, List};
 ghost use Rattle.os9_base.specs.Cells.{Cells};
@@ -30,8 +30,8 @@ pub fn directories_are_there_at_the_start()
         → StartsOn images drives files → AreKinds files }
 {}
 
-/// Paths and directories of processes stay on what is there where a process begins and where one
-/// ends, and the same drives have volumes (System Programmer's Manual, F$Fork and F$Exit).
+/// If a process begins or ends, the targets of paths and the directories of processes still exist,
+/// and the same drives have volumes (System Programmer's Manual, F$Fork and F$Exit).
 pub fn processes_begin_and_end_on_what_is_there()
     ensures begins { (files : Files) (parent child : ℕ) → AreKinds files
         → AreKinds (files_started files parent child) }
@@ -41,8 +41,8 @@ pub fn processes_begin_and_end_on_what_is_there()
     ensures ends_mounted { (files : Files) (p : ℕ) → AreAsMany files (files_ended files p) }
 {}
 
-/// Paths and directories stay on what is there where no path changes, as where a key arrives or a
-/// call that waits is broken off, and where a volume is mounted in a drive that has none.
+/// The targets of paths and the directories still exist if no path changes, as when a key arrives
+/// or a pending call is broken off, and if a volume is mounted in a drive that has none.
 pub fn mounts_and_interruptions_keep_what_is_there()
     ensures same { (files : Files) (io : Io) → io.paths ≡ files.io.paths → AreKinds files
         → AreKinds (with_io files io) }
@@ -53,18 +53,19 @@ pub fn mounts_and_interruptions_keep_what_is_there()
         → AreKinds (with_volume files drive v) }
 {}
 
-/// A path that may be written is on a file, and on no directory: so I$Write, I$WritLn, F$PErr and
-/// SS.Size change no directory (System Programmer's Manual, I$Open and I$Write).
+/// A path that may be written is on a file, and not on a directory: so I$Write, I$WritLn, F$PErr
+/// and SS.Size change no directory (System Programmer's Manual, I$Open and I$Write).
 pub fn paths_that_may_be_written_are_on_no_directory()
     ensures { (files : Files) (p n : ℕ) (opened : OpenFile) → AreKinds files
         → open_file files p n ≡ Some opened → can_write opened.opened.desc.mode ≡ true
         → is_directory opened.file ≡ false }
 {}
 
-/// Every attempt of a call on paths, files and directories leaves them on what is there, whether a
-/// drive fails in it or not: a file that goes has no path on it and is no directory, a new file
-/// takes the number of none, and what is changed keeps its kind (System Programmer's Manual, "I/O
-/// service requests"). By the state of the processes, and by the caller's registers and bytes.
+/// After every attempt of a call on paths, files and directories, the targets of paths and the
+/// directories of processes exist, whether a drive fails or not. A deleted file has no path on it
+/// and is not a directory, a new file takes a number that no file has, and a changed file keeps its
+/// kind (System Programmer's Manual, "I/O service requests"). By the state of the processes, and by
+/// the caller's registers and bytes.
 pub fn attempts_stay_on_what_is_there()
     ensures attempt { (call : PathCall) (m : Inner) (files : Files) (now : TimePacket) (p : ℕ)
         (result : CallResult) (new : Files) (before after : List TerminalState)
@@ -76,8 +77,8 @@ pub fn attempts_stay_on_what_is_there()
         → AreKinds new }
 {}
 
-/// F$Load, and F$Fork and F$Chain of a program in a file, leave paths and directories on what is
-/// there (System Programmer's Manual, F$Load, F$Fork and F$Chain).
+/// After F$Load, and F$Fork and F$Chain of a program in a file, the targets of paths and the
+/// directories still exist (System Programmer's Manual, F$Load, F$Fork and F$Chain).
 pub fn loads_stay_on_what_is_there()
     ensures load { (m : Inner) (asker : Asker) (old : Files) (terms p : ℕ) (result : CallResult)
         (new : Files) → LoadAttempts m asker old terms p result new → AreKinds old
@@ -90,8 +91,8 @@ pub fn loads_stay_on_what_is_there()
         → AreKinds new }
 {}
 
-/// No attempt loses a volume or mounts one, and none changes how many drives there are, or how many
-/// processes have a place for their directories.
+/// No attempt loses or mounts a volume, or changes the number of drives or the number of processes
+/// that have a place for their directories.
 pub fn attempts_lose_no_volume()
     ensures attempt { (call : PathCall) (m : Inner) (files : Files) (now : TimePacket) (p : ℕ)
         (result : CallResult) (new : Files) (before after : List TerminalState)
@@ -103,7 +104,7 @@ pub fn attempts_lose_no_volume()
         → AreAsMany files new }
 {}
 
-/// The same of F$Load, and of F$Fork and F$Chain of a program in a file.
+/// The same for F$Load, and for F$Fork and F$Chain of a program in a file.
 pub fn loads_lose_no_volume()
     ensures load { (m : Inner) (asker : Asker) (old : Files) (terms p : ℕ) (result : CallResult)
         (new : Files) → LoadAttempts m asker old terms p result new → AreAsMany old new }

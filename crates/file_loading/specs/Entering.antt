@@ -21,7 +21,7 @@ pub record IsOfGroup (group : List ℕ) (number : ℕ) (m : MemoryState) : Type 
 abbrev pub with_modules : MemoryState → List (Option ModuleEntry) → MemoryState
 with_modules m entries = record m { modules = entries }
 
--- the modules of a file from a place on can be entered beside that of this number, whose group has room for the file
+-- the modules of a file from a place on can be entered in the group of this module, which has room for the file
 pub record CanEnter (file : List ℕ) (number from : ℕ) (memory : Memory) : Type 0 where
   pub m : MemoryState
   pub represents : Represents memory m
@@ -33,8 +33,8 @@ pub record CanEnter (file : List ℕ) (number from : ℕ) (memory : Memory) : Ty
 
 -- ---- before it is entered
 
--- how a trial answers what becomes of a file: by the header of its first module, or by the number with which it is
--- refused
+-- the result of a trial, by the outcome of loading the file: the header of its first module, or the number with which
+-- it is refused
 abbrev pub AnswersTrial : MemoryState → List ℕ → Result Loaded ℕ → Result ModuleInfo ℕ → Type 0
 AnswersTrial m file (Ok loaded) (Ok info) =
     loaded.first.entry ≡ new_entry info (new_numbers m (file_blocks file)) false
@@ -48,9 +48,10 @@ pub record TriesFile (file : List ℕ) (m : MemoryState) (result : Result Module
   pub loads : Loads m file outcome
   pub answers : AnswersTrial m file outcome result
 
--- ---- what comes of it
+-- ---- the outcome
 
--- memory has the file, and the answer is the number of its first module; or it is as it was, and the answer the refusal
+-- memory has the file, and the result is the number of its first module; or memory is unchanged, and the result is the
+-- refusal
 abbrev pub ComesLoaded : MemoryState → Result Loaded ℕ → Result ModId ℕ → Memory → Type 0
 ComesLoaded m (Err number) result new = (result ≡ Err number) × Represents new m
 ComesLoaded m (Ok loaded) result new =

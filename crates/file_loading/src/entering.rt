@@ -16,7 +16,7 @@ use module_format::next_module;
 use proc_model::module::{ModId, ModuleInfo, ModuleStep};
 
 /// Loads a file of modules into new blocks and enters its modules, in order, as one group (System
-/// Programmer's Manual, F$Load). Answers the number of the first.
+/// Programmer's Manual, F$Load). Returns the number of the first.
 ///
 /// # Errors
 ///
@@ -32,8 +32,8 @@ pub fn enter_file(memory: &mut Memory, file: &[u8]) -> Result<ModId, u8>
     }
 }
 
-/// Loads a file that was tried, and whose first module this is, into new blocks, and enters its
-/// modules, in order, as one group. Answers the number of the first.
+/// Loads a tried file with this first module into new blocks, and enters its modules, in order, as
+/// one group. Returns the number of the first.
 pub fn enter_tried(memory: &mut Memory, file: &[u8], first: ModuleInfo) -> ModId
     requires short { length file.now ≤ MOST_GROUP_BYTES }
     requires tried { (m : MemoryState) → Represents memory.old m → TriesFile file.now m (Ok first) }
@@ -54,7 +54,7 @@ pub fn enter_tried(memory: &mut Memory, file: &[u8], first: ModuleInfo) -> ModId
     }
 }
 
-/// Enters the modules of a file that stand from a place on, which were tried, beside that of this
+/// Enters the tried modules of a file from place `start` on, in the group of the module of this
 /// number.
 fn enter_others(memory: &mut Memory, file: &[u8], id: ModId, start: u32)
     requires short { length file.now ≤ MOST_GROUP_BYTES }

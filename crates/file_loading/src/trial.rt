@@ -1,4 +1,4 @@
-//! A file of modules that is tried before it is entered.
+//! The trial of a file of modules before it is entered.
 
 ghost use Rattle.std.specs.Prelude.{◌≡◌, ℕ, ◌≤◌, false, IfOk, Ok, Option, List, length};
 ghost use Rattle.file_loading.specs.Entering.{TriesFile};
@@ -17,13 +17,13 @@ use os9_base::errors::{E_BMID, E_NORAM};
 use os9_base::limits::BLOCK_BYTES;
 use proc_model::module::{ModuleInfo, ModuleStep};
 
-/// What the header of the first module of a file says, if the file can be loaded and its modules
-/// entered (System Programmer's Manual, F$Load). Nothing is entered.
+/// The header of the first module of a file, if the file can be loaded and its modules entered
+/// (System Programmer's Manual, F$Load). Nothing is entered.
 ///
 /// # Errors
 ///
-/// That of the first module that is refused, as `try_modules` has it; else E$BMID exactly if the
-/// file has no module, else E$NoRAM exactly if fewer blocks are free than it needs.
+/// That of the first refused module, as for `try_modules`; else E$BMID exactly if the file has no
+/// module, else E$NoRAM exactly if fewer blocks are free than it needs.
 pub fn try_file(memory: &Memory, file: &[u8]) -> Result<ModuleInfo, u8>
     requires short { length file.now ≤ MOST_GROUP_BYTES }
     ensures tries { (m : MemoryState) → Represents memory.now m → TriesFile file.now m result }
@@ -35,7 +35,7 @@ pub fn try_file(memory: &Memory, file: &[u8]) -> Result<ModuleInfo, u8>
     }
 }
 
-/// The same of a file whose modules were tried.
+/// The same for a file whose modules were tried.
 ///
 /// # Errors
 ///
@@ -62,7 +62,7 @@ fn try_room(memory: &Memory, file: &[u8]) -> Result<ModuleInfo, u8>
     }
 }
 
-/// How many blocks a file of modules of so many bytes needs.
+/// The number of blocks that a file of modules of `bytes` bytes needs.
 pub fn blocks_of(bytes: usize) -> u8
     requires short { bytes ≤ MOST_GROUP_BYTES }
     ensures blocks { result ≡ block_count bytes }

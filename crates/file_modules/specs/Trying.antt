@@ -1,4 +1,4 @@
--- What comes of the modules of a file, where they are tried and not entered (Level Two manual, F$Load).
+-- The outcome of the modules of a file that are tried and not entered (Level Two manual, F$Load).
 use Rattle.std.specs.Prelude.{◌≡◌, ℕ, ◌&&◌, ◌||◌, nat_le, false, Bool, Option, Some, None, Result, Ok, Err, List, if◌then◌else◌}
 use Rattle.std.specs.List.{list_any}
 use Rattle.os9_base.specs.declared.errors.TheConstants.{E_DIRFUL, E_KWNMOD}
@@ -6,25 +6,25 @@ use Rattle.proc_model.specs.Loading.{EntersModules}
 use Rattle.proc_model.specs.ModuleList.{ModuleEntry, are_namesakes, is_known, module_room, revision_of}
 use Rattle.proc_model.specs.declared.module.ModuleInfo.{ModuleInfo}
 
--- two directories know the same modules, and have as much room
+-- two directories know the same modules, and have the same number of places left
 pub record AreAlike (entries others : List (Option ModuleEntry)) : Type 0 where
   pub known : (info : ModuleInfo) → is_known others info ≡ is_known entries info
   pub room : module_room others ≡ module_room entries
 
--- the modules are entered as a group, or the first that is refused is refused with this number
+-- the modules are entered as a group, or the first refused module is refused with this number
 abbrev pub TriesModules : List ℕ → List ℕ → List (Option ModuleEntry) → Result (Unit {0}) ℕ → Type 0
 TriesModules file group entries (Ok done) =
     (after : List (Option ModuleEntry)) × EntersModules file group false 0 entries (Ok after)
 TriesModules file group entries (Err number) = (at : ℕ) × EntersModules file group false 0 entries (Err (at, number))
 
--- ---- beside modules that were tried
+-- ---- together with tried modules
 
--- a module that was tried makes another one known: it has its name and type, and its revision or a greater one
+-- a tried module makes another known: it has the same name and type, and the same revision or a greater one
 abbrev pub makes_known : ModuleInfo → Option ModuleInfo → Bool
 makes_known info None = false
 makes_known info (Some other) = are_namesakes info other && nat_le (revision_of info) (revision_of other)
 
--- the error of a module that a directory does not take where these are entered beside, as many as this
+-- the error of a module that a directory refuses after it has taken these tried modules, `count` in number
 abbrev pub entry_refusal_beside : List (Option ModuleEntry) → List (Option ModuleInfo) → ℕ → ModuleInfo → Option ℕ
 entry_refusal_beside entries tried count info =
     if is_known entries info || list_any (makes_known info) tried then Some E_KWNMOD

@@ -8,15 +8,15 @@ ghost use Rattle.file_modules.specs.Trying.{makes_known as makes_known_lem};
 use os9_base::name::same_name;
 use proc_model::module::ModuleInfo;
 
-/// Is one of these modules of the same name and type, with the module's revision or a greater one
-/// (Level Two manual, "Module directory")?
+/// Does one of these modules have the module's name and type, and the module's revision or a
+/// greater one (Level Two manual, "Module directory")?
 pub(crate) fn is_among(tried: &[Option<ModuleInfo>], info: &ModuleInfo) -> bool
     ensures { result ≡ list_any (makes_known_lem info.now) tried.now }
 {
     tried.iter().any(|place| makes_known(place, info))
 }
 
-/// Is this a module of the same name and type, with the module's revision or a greater one?
+/// Does this module have the same name and type, and the module's revision or a greater one?
 fn makes_known(place: &Option<ModuleInfo>, info: &ModuleInfo) -> bool
     ensures { result ≡ makes_known_lem info.now place.now }
 {
@@ -26,7 +26,7 @@ fn makes_known(place: &Option<ModuleInfo>, info: &ModuleInfo) -> bool
     }
 }
 
-/// Have these two modules the same name, case ignored, and the same type, the language left aside?
+/// Do these two modules have the same name, case ignored, and the same type, whatever the language?
 fn are_namesakes(a: &ModuleInfo, b: &ModuleInfo) -> bool
     ensures { result ≡ are_namesakes_lem a.now b.now }
 {

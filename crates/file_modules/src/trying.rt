@@ -1,4 +1,4 @@
-//! Modules of a file that are tried, one after another.
+//! Modules of a file, tried one after another.
 
 ghost use Rattle.std.specs.Prelude.{◌≡◌, ℕ, ◌≤◌, List, Option, length};
 ghost use Rattle.proc_model.specs.Loading.{module_error as module_error_lem};
@@ -14,13 +14,13 @@ use proc_model::module::{ModuleFault, ModuleInfo, ModuleStep};
 /// The most modules that are tried: no more can be entered.
 const MOST_TRIED: usize = 64;
 
-/// Tries the modules of a file, each by all rules before the next, as if those before it were
+/// Tries the modules of a file, each by all rules before the next, as if the earlier ones were
 /// entered in the directory as one group (System Programmer's Manual, F$Load).
 ///
 /// # Errors
 ///
-/// That of the first module that is refused: E$BMID, E$BMHP or E$BMCRC if it breaks a rule of its
-/// own; else E$KwnMod if it is known, else E$DirFul if no place is left.
+/// That of the first refused module: E$BMID, E$BMHP or E$BMCRC if it breaks a rule of its own; else
+/// E$KwnMod if it is known, else E$DirFul if no place is left.
 pub fn try_modules(dir: &Dir, file: &[u8]) -> Result<(), u8>
     requires short { length file.now ≤ 65536 }
     ensures tried { (entries : List (Option ModuleEntry)) (group : List ℕ)
@@ -45,8 +45,8 @@ pub fn try_modules(dir: &Dir, file: &[u8]) -> Result<(), u8>
     }
 }
 
-/// The number with which the directory refuses a module, beside so many that were tried; None if it
-/// takes it.
+/// The number with which the directory refuses a module after `count` tried modules; None if it
+/// takes the module.
 fn refusal(dir: &Dir, tried: &[Option<ModuleInfo>], count: usize, info: &ModuleInfo) -> Option<u8>
     ensures refusal { result ≡ entry_refusal_beside dir.now tried.now count info.now }
     ensures places { length dir.now ≡ 64 }

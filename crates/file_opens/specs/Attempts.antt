@@ -1,4 +1,4 @@
--- What attempts of I$Open and I$Create come to, from each state that the kernel's stands for, once the path list was
+-- What attempts of I$Open and I$Create do, from each state that the kernel's state stands for, after the path list is
 -- read: along its names, and then at the file or the directory that the walk has reached.
 use Rattle.std.specs.Prelude.{◌≡◌, ℕ, ◌+◌, false, Option, None, List}
 use Rattle.os9_base.specs.declared.call.CallEnd.{CallEnd}
@@ -27,8 +27,8 @@ use Rattle.file_opens.specs.Calls.{calls_at_place, creating_calls, new_file_call
 use Rattle.file_opens.specs.Ends.{HasReadIn}
 use Rattle.file_opens.specs.Steps.{IsFoundAt, creates_along, creates_there, makes_there, opens_along, opens_there}
 
--- an attempt of a process, at a time, comes to what the step has, whichever terminals there are: so it ends, and leaves
--- this; since the drives were those the step called them at most so often
+-- an attempt of a process, at a time, does what the step says, for any terminals: it ends so, and leaves this state;
+-- since the drives were `drives`, it called them at most `most` times
 abbrev pub EndsIn : FileStep → ℕ → Inner → Files → TimePacket → ℕ → CallEnd → List DriveView → Standing → Type 0
 EndsIn step most m was now p end drives after =
     (terms : List TerminalState)
@@ -36,8 +36,8 @@ EndsIn step most m was now p end drives after =
 
 -- ---- from a directory along names
 
--- what holds of each path list of a process, in each such state: the first of its names stands at this address, or it
--- has none, and it ends before `next`
+-- a fact of each path list of a process, in each such state: the first of its names is at this address, or it has no
+-- names, and it ends before `next`
 abbrev pub OnEachList : Standing → ℕ → Option ℕ → ℕ → (Inner → Files → PathList → Type 0) → Type 0
 OnEachList before p first next fact =
     (m : Inner) (was : Files) (list : PathList) → Represents before.processes m
@@ -52,7 +52,7 @@ OpensAlong from first next now p end before after =
     EndsIn (opens_along (asker_of m p now) was list from)
     (opening_calls (asker_of m p now) was (along from list.names)) m was now p end before.views after)
 
--- I$Create, by the last of the names, which is not dots
+-- I$Create, with the last of the names, which is not dots
 abbrev pub CreatesAlong : FilePlace → Option ℕ → ℕ → TimePacket → ℕ → CallEnd → Standing → Standing → Type 0
 CreatesAlong from first next now p end before after =
     OnEachList before p first next
@@ -63,8 +63,8 @@ CreatesAlong from first next now p end before after =
 
 -- ---- at the file or the directory that a walk has reached
 
--- what holds of each path list that ends before `next`, and of the file that was found at a place, in each such state
--- as it was before the walk read the drive: the drives were these then, and it was called at most so often since
+-- a fact of each path list that ends before `next`, and of the file found at a place, in each such state before the
+-- walk read the drive: the drives were these then, and the walk has called its drive at most `most` times
 abbrev pub OnEachFound : Standing → FilePlace → ℕ
     → (Inner → Files → PathList → Found → ℕ → List DriveView → Type 0) → Type 0
 OnEachFound before place next fact =
@@ -72,14 +72,14 @@ OnEachFound before place next fact =
     → Represents before.processes m → HasReadIn most None place.drive was before.files drives before.views
     → IsFoundAt was place found → list.next ≡ next → fact m was list found most drives
 
--- I$Open of the file at a place: its descriptor is still to be read
+-- I$Open of the file at a place: its descriptor has still to be read
 abbrev pub OpensThere : FilePlace → ℕ → TimePacket → ℕ → CallEnd → Standing → Standing → Type 0
 OpensThere place next now p end before after =
     OnEachFound before place next
     (λ m was list found most drives.
     EndsIn (opens_there (asker_of m p now) was list found) (most + 1) m was now p end drives after)
 
--- I$Create by a last name, which is not dots, in its directory
+-- I$Create with a last name, which is not dots, in its directory
 abbrev pub CreatesThere : LastName → ℕ → TimePacket → ℕ → CallEnd → Standing → Standing → Type 0
 CreatesThere last next now p end before after =
     OnEachFound before last.directory next
@@ -88,7 +88,7 @@ CreatesThere last next now p end before after =
     → EndsIn (creates_there (asker_of m p now) was list last.name dir)
     (most + new_file_calls (asker_of m p now) last.name dir.volume dir.file) m was now p end drives after)
 
--- I$Create by a last name, when the place of its entry in the directory was found
+-- I$Create with a last name, after the place of its entry in the directory was found
 abbrev pub MakesThere : LastName → ℕ → TimePacket → ℕ → CallEnd → Standing → Standing → Type 0
 MakesThere last next now p end before after =
     OnEachFound before last.directory next
@@ -96,7 +96,7 @@ MakesThere last next now p end before after =
     EndsIn (makes_there (asker_of m p now) was list last.name dir) (most + calls_at_place dir.volume dir.file)
     m was now p end drives after)
 
--- the place of its entry was found, for the user of a process
+-- the place of the entry was found, for the user of a process
 pub record IsPlaceForLast (last : LastName) (found : NewPlace) (p : ℕ) (here : Standing) : Type 0 where
   pub directory : HasFileAt here.files.disks here.views last.directory
   pub place : IsPlaceAt here.views last.directory last.name found

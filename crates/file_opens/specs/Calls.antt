@@ -1,5 +1,5 @@
--- How often a drive is called at most in I$Open and I$Create (this project's own): for each directory of the walk, and
--- for the file or the directory at which it ends.
+-- The greatest number of drive calls in I$Open and I$Create (this project's own): for each directory of the walk, and
+-- for the file or the directory at its end.
 use Rattle.std.specs.Prelude.{ℕ, ◌+◌, List}
 use Rattle.std.specs.Option.{option_map_or}
 use Rattle.rbf_model.specs.File.{DiskFile}
@@ -28,16 +28,16 @@ i_open_calls asker files terms =
 
 -- ---- I$Create
 
--- when the place of its entry has been found: a sector of the map, the descriptor of the new file, and the entry
+-- after the place of its entry has been found: a sector of the map, the descriptor of the new file, and the entry
 abbrev pub calls_at_place : DiskVolume → DiskFile → ℕ
 calls_at_place v dir = 2 + entry_calls v dir
 
--- a file by this name in a directory
+-- a file with this name in a directory
 abbrev pub new_file_calls : Asker → List ℕ → DiskVolume → DiskFile → ℕ
 new_file_calls asker name v dir =
     place_calls dir name asker.user (is_for_execution asker.caller.regs.a) + calls_at_place v dir
 
--- by the last of the names
+-- with the last of the names
 abbrev pub creating_calls : Asker → Files → Way → ℕ
 creating_calls asker files (along from names) =
     option_map_or (λ name. walk_and asker.user (is_for_execution asker.caller.regs.a) from.number (before_last names)

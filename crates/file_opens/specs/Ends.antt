@@ -1,4 +1,4 @@
--- How attempts go on behind reads of a drive, and how those end that change no volume.
+-- How attempts go on after reads of a drive, and how attempts that change no volume end.
 use Rattle.std.specs.Prelude.{◌≡◌, ℕ, Option, List}
 use Rattle.os9_base.specs.declared.call.CallEnd.{CallEnd}
 use Rattle.call_rules.specs.Inner.{Inner}
@@ -14,15 +14,15 @@ use Rattle.file_state.specs.Reached.{HasRead}
 use Rattle.file_state.specs.Tie.{StandsFor}
 use Rattle.file_state.specs.declared.state.FileState.{FileState}
 
--- since these files the drive was read, at most so often
+-- since these files the drive was read, at most `most` times
 pub record HasReadIn (most : ℕ) (fault : Option ℕ) (drive : ℕ) (files : Files) (new : FileState)
     (before now : List DriveView) : Type 0 where
   pub first : files.drives ≡ drive_states before
   pub read : HasRead fault drive files new before now
   pub calls : CalledAtMost most before now
 
--- the attempt of a process that is this step from here on has ended so, and leaves the processes and the files so; it
--- changes no volume, and no drive was called from here on
+-- the attempt of a process that is this step from here on has this end, and leaves these processes and files; it
+-- changes no volume, and calls no drive from here on
 pub record EndsQuietly (step : FileStep) (m : Inner) (files : Files) (p : ℕ) (end : CallEnd) (processes : ProcState)
     (new : FileState) (views : List DriveView) : Type 0 where
   pub effect : FileEffect

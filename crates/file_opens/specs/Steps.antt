@@ -1,4 +1,4 @@
--- The steps of I$Open and I$Create, one after another, as the code has them.
+-- The steps of I$Open and I$Create, one after another, in the order of the code.
 use Rattle.std.specs.Prelude.{◌≡◌, ℕ, List, Some}
 use Rattle.os9_base.specs.declared.errors.TheConstants.{E_BPNAM, E_PTHFUL}
 use Rattle.os9_base.specs.declared.registers.Pid.{Pid}
@@ -31,7 +31,7 @@ pub record IsFoundAt (files : Files) (place : FilePlace) (found : Found) : Type 
   pub volume_is : volume_at files place.drive ≡ Some found.volume
   pub file_is : found.volume.files place.number ≡ Some found.file
 
--- a path begins on a file or a directory, if the process has a number for it
+-- opens a path on a file or a directory, if the process has a number for it
 abbrev pub begins : Asker → Files → PathList → Target → FileStep
 begins asker files list target =
     needs (new_number files.io.paths asker.caller.process.0) E_PTHFUL
@@ -63,6 +63,6 @@ creates_along asker files list from =
 abbrev pub creates_there : Asker → Files → PathList → List ℕ → Found → FileStep
 creates_there asker files list name dir = reaches dir.place.drive (creates_in asker files list name dir)
 
--- where the name may be entered
+-- in the directory in which the name may be entered
 abbrev pub makes_there : Asker → Files → PathList → List ℕ → Found → FileStep
 makes_there asker files list name dir = reaches dir.place.drive (creates_with_path asker files list name dir)

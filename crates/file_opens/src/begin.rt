@@ -1,4 +1,4 @@
-//! Paths that begin on files.
+//! New paths on files.
 
 ghost use Rattle.std.specs.Prelude.{◌≡◌, List, None};
 ghost use Rattle.call_rules.specs.Inner.{Inner};
@@ -23,8 +23,8 @@ use os9_base::registers::{Pid, Regs};
 use path_calls::ends::{answer, refuse};
 use proc_state::state::ProcState;
 
-/// A call ends with a path that begins on a file or a directory, with the mode in A: its number is
-/// in A then, and X is past the path list, which ends before `next`. It is refused with E$PthFul
+/// Ends a call with a new path on a file or a directory, with the mode in A. Its number is in A
+/// then, and X is past the path list, which ends before `next`. The call is refused with E$PthFul
 /// exactly if the process's sixteen numbers or the 64 system paths are in use.
 pub(crate) fn begin_on(
     s: &mut ProcState,

@@ -33,10 +33,10 @@ use path_calls::ends::refuse;
 use proc_state::state::ProcState;
 use rbf_make::NewPlace;
 
-/// I$Create: makes a file and opens a path on it (System Programmer's Manual, I$Create); a terminal
-/// or a pipe it opens. Takes the mode in A, the attributes in B and the address of the path list in
-/// X; answers the number of the new path, the least free one, in A, and X past the list. The file
-/// is empty, and the user of the process owns it; it is made at the time `now`.
+/// I$Create: makes a file and opens a path on it, or opens a terminal or a pipe (System
+/// Programmer's Manual, I$Create). Takes the mode in A, the attributes in B and the address of the
+/// path list in X; returns the number of the new path, the least free one, in A, and X past the
+/// list. The file is empty, and the user of the process owns it; it is made at the time `now`.
 ///
 /// # Errors
 ///
@@ -44,13 +44,13 @@ use rbf_make::NewPlace;
 /// `FFFF`; else E$BMode exactly if the mode lacks write; else those of the list, E$BPNam, E$MNF and
 /// E$PNNF, and on a drive those of the walk, E$FNA and E$PNNF; then E$FNA exactly if the directory
 /// may not be changed so or B says a directory, E$CEF exactly if the name is there, E$PthFul
-/// exactly if no number or no path is free, or for a pipe no pipe, E$Full and E$SLF exactly if the
-/// file and its entry find no room. The number of the fault, if the drive fails: then the tree is
-/// as it was. Else nothing has changed.
+/// exactly if no number or no path is free, or for a pipe no pipe, E$Full and E$SLF exactly if
+/// there is no room for the file and its entry. The number of the fault, if the drive fails: then
+/// the tree is unchanged. Else nothing has changed.
 ///
-/// The drive is called for the directories of the walk, the place of the entry and the file that
-/// is made, at most as often as `i_create_calls` has it. The other drives are not called, and a
-/// call that is refused leaves all media as they were.
+/// The drive is called for the directories of the walk, the place of the entry and the new file, at
+/// most `i_create_calls` times. The other drives are not called, and a refused call leaves all
+/// media unchanged.
 pub fn i_create(
     s: &mut ProcState,
     files: &mut FileState,
@@ -81,8 +81,8 @@ pub fn i_create(
     }
 }
 
-/// Creates a file by the last of the names of a path list that ends before `next`, along the others
-/// from a directory.
+/// Creates a file with the last of the names of a path list that ends before `next`, along the
+/// others from a directory.
 fn create_along(
     s: &mut ProcState,
     files: &mut FileState,
@@ -110,7 +110,7 @@ fn create_along(
     }
 }
 
-/// Creates a file by the last of the names of a path list, of which the first stands at an address.
+/// Creates a file with the last name of a path list; `first` is the address of the first name.
 fn create_from(
     s: &mut ProcState,
     files: &mut FileState,
@@ -139,7 +139,7 @@ fn create_from(
     }
 }
 
-/// Creates a file in a directory, by the last name of a path list.
+/// Creates a file in a directory, with the last name of a path list.
 fn create_in(
     s: &mut ProcState,
     files: &mut FileState,
@@ -174,7 +174,7 @@ fn create_in(
     }
 }
 
-/// Creates a file at the place of a directory that was found for its name.
+/// Creates a file at the place found for its name in a directory.
 fn create_at(
     s: &mut ProcState,
     files: &mut FileState,

@@ -1,4 +1,4 @@
-//! Where the path lists of calls lead.
+//! The routes of calls' path lists.
 
 ghost use Rattle.std.specs.Prelude.{◌≡◌, ◌<◌, ℕ, List, vec_len};
 ghost use Rattle.call_rules.specs.Inner.{Inner, cells_at};
@@ -42,12 +42,12 @@ pub(crate) fn walker_of(s: &ProcState, p: Pid) -> Walker
     }
 }
 
-/// The way along which the path list at X of a process leads: from the execution directory of the
-/// process or from its data directory, if the list names no device.
+/// The way of the path list at X of a process: from the execution directory of the process or from
+/// its data directory, if the list names no device.
 ///
 /// # Errors
 ///
-/// The number of the refusal: as `find_route` of the ways.
+/// The number of the refusal, as for `find_route` of the ways.
 pub(crate) fn find_way(
     s: &mut ProcState,
     files: &FileState,
@@ -80,8 +80,8 @@ pub(crate) fn find_way(
     call_route(s, &files.disks, devices, query)
 }
 
-/// Goes from a directory along the names of a path list of a process, of which the first stands at
-/// an address.
+/// Goes from a directory along the names of a path list of a process; `first` is the address of the
+/// first name.
 ///
 /// # Errors
 ///
@@ -108,8 +108,8 @@ pub(crate) fn walk_from(
     walk(&mut s.memory, disks, devices, walker, from, first)
 }
 
-/// Goes from a directory along the names of a path list of a process but the last, which it answers
-/// with the directory that is reached.
+/// Goes from a directory along all names of a path list of a process but the last. Returns the last
+/// name and the directory that is reached.
 ///
 /// # Errors
 ///

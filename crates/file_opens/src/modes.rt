@@ -18,14 +18,14 @@ pub(crate) fn is_for_execution(mode: u8) -> bool
     mode & MODE_EXECUTE != 0
 }
 
-/// Has the mode one of the bits for reading, writing and execution?
+/// Does the mode have one of the bits for reading, writing and execution?
 pub(crate) fn is_mode(mode: u8) -> bool
     ensures { result ≡ is_mode_lem mode }
 {
     mode & (MODE_READ + MODE_WRITE + MODE_EXECUTE) != 0
 }
 
-/// May what is opened with this mode be written?
+/// May a file that is opened with this mode be written?
 pub(crate) fn can_write(mode: u8) -> bool
     ensures { result ≡ can_write_lem mode }
 {
@@ -58,7 +58,7 @@ fn opens_kind(fd: &Fd, mode: u8) -> bool
     }
 }
 
-/// Do a mode or attributes say a directory? If they do not they are below 80 hexadecimal.
+/// Does a mode or an attribute byte say a directory? If not, it is below 80 hexadecimal.
 pub(crate) fn says_directory(bits: u8) -> bool
     ensures says { result ≡ says_directory_lem bits }
     ensures low { result ≡ false → bits < 128 }

@@ -42,7 +42,7 @@ use proc_state::state::ProcState;
 use rbf_sector::Fd;
 
 /// I$Open: opens a path on a file, a directory, a terminal or a pipe (System Programmer's Manual,
-/// I$Open). Takes the mode in A and the address of the path list in X; answers the number of the
+/// I$Open). Takes the mode in A and the address of the path list in X; returns the number of the
 /// new path, the least free one, in A, and X past the list. A directory is opened with bit 7 in the
 /// mode and without writing, a file without bit 7. Each opening of `/PIPE` makes a new pipe.
 ///
@@ -55,8 +55,8 @@ use rbf_sector::Fd;
 /// it may not be shared, and E$PthFul exactly if no number or no path is free, or for a pipe no
 /// pipe. The number of the fault, if the drive fails. Nothing has changed then.
 ///
-/// The drive is called for the directories of the walk and for the file's descriptor, at most as
-/// often as `i_open_calls` has it. It is only read, and the other drives are not called.
+/// The drive is called for the directories of the walk and for the file's descriptor, at most
+/// `i_open_calls` times. It is only read, and the other drives are not called.
 pub fn i_open(s: &mut ProcState, files: &mut FileState, devices: &mut Devices, p: Pid) -> CallEnd
     requires lives { IsLiving s.old.table p.0 }
     requires first { kept_at files.old.io p.0 ≡ None }
@@ -82,8 +82,8 @@ pub fn i_open(s: &mut ProcState, files: &mut FileState, devices: &mut Devices, p
     }
 }
 
-/// Opens a path on the file that is reached from a directory along the names of a path list that
-/// ends before `next`.
+/// Opens a path on the file reached from a directory along the names of a path list that ends
+/// before `next`.
 fn open_along(
     s: &mut ProcState,
     files: &mut FileState,
@@ -111,7 +111,7 @@ fn open_along(
     }
 }
 
-/// Opens a path on the file at a place, whose descriptor it reads.
+/// Opens a path on the file at a place, after reading its descriptor.
 fn open_place(
     s: &mut ProcState,
     files: &mut FileState,

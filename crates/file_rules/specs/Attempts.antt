@@ -1,4 +1,4 @@
--- Attempts of the calls on paths, files and directories: each call by its code, and what an attempt leaves (System
+-- Attempts of the calls on paths, files and directories: each call by its code, and the effect of an attempt (System
 -- Programmer's Manual, "I/O service requests").
 use Rattle.std.specs.Prelude.{◌≡◌, ℕ, List, length}
 use Rattle.os9_base.specs.Cells.{Cells, store_cells}
@@ -27,7 +27,7 @@ use Rattle.file_rules.specs.Write.{i_write, i_writln, f_perr}
 use Rattle.file_rules.specs.declared.path_call.PathCall.{PathCall}
 use Rattle.file_rules.specs.declared.path_call.PathCall.TheVariants as Call
 
--- what an attempt of a call does, on a machine with so many terminals
+-- an attempt of a call, on a machine with `terms` terminals
 abbrev pub file_step : PathCall → Asker → Files → ℕ → FileStep
 file_step Call.Dup asker files terms = comes (as_io (i_dup asker.caller files.io))
 file_step Call.Create asker files terms = i_create asker files terms
@@ -46,14 +46,14 @@ file_step Call.SetStt asker files terms = i_setstt asker files
 file_step Call.Close asker files terms = comes (as_io (i_close asker.caller files.io))
 file_step Call.PErr asker files terms = f_perr asker files
 
--- the state after an attempt of a process, with what is kept of its call
+-- the state after an attempt of a process, with the state kept of its call
 abbrev pub files_after : ℕ → FileEffect → Files
 files_after p effect = with_io effect.files (with_call effect.files.io p (kept_in effect.end))
 
 -- ---- by the caller's registers and the bytes that it sees
 
--- an attempt of a call: how it ends, and the caller's registers, the bytes that it sees, the state and the terminals
--- then
+-- an attempt of a call: its end, and after it the caller's registers, the bytes that it sees, the state and the
+-- terminals
 pub record AskerAttempts (call : PathCall) (asker : Asker) (files : Files) (end : CallEnd) (regs : Regs) (cells : Cells)
     (new : Files) (before after : List TerminalState) : Type 0 where
   pub effect : FileEffect
@@ -65,15 +65,15 @@ pub record AskerAttempts (call : PathCall) (asker : Asker) (files : Files) (end 
 
 -- ---- by the state of the processes
 
--- the process that calls, at a time
+-- the calling process, at a time
 abbrev pub asker_of : Inner → ℕ → TimePacket → Asker
 asker_of inner p now = record { caller = caller_of inner p; user = user_at inner p; now = now }
 
--- what is left of the paths, terminals and pipes
+-- the effect on the paths, terminals and pipes
 abbrev pub io_effect : FileEffect → IoEffect
 io_effect effect = record { end = effect.end; at = effect.at; bytes = effect.bytes; io = effect.files.io }
 
--- an attempt of a call by a process, at a time: what it comes to, and the state and the terminals then
+-- an attempt of a call by a process, at a time: its result, and the state and the terminals after it
 pub record FileAttempts (call : PathCall) (inner : Inner) (files : Files) (now : TimePacket) (p : ℕ)
     (result : CallResult) (new : Files) (before after : List TerminalState) : Type 0 where
   pub effect : FileEffect

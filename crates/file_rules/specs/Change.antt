@@ -1,5 +1,5 @@
--- The changes of a volume that calls are made of: what each makes of it, when it finds no place for what it gains, and
--- what a fault of the drive may leave of it (OS-9 Technical Reference, Random Block File Manager).
+-- The changes of a volume that calls make: the effect of each, when a list of segments has no place for what it gains,
+-- and what a fault of the drive may leave (OS-9 Technical Reference, Random Block File Manager).
 use Rattle.std.specs.Prelude.{◌≡◌, ℕ, List, length, Some}
 use Rattle.os9_base.specs.declared.registers.TimePacket.{TimePacket}
 use Rattle.rbf_model.specs.File.{DiskFile}
@@ -17,14 +17,14 @@ pub data Change : Type 0 where
   sizes : ℕ → ℕ → Change
   -- the attributes of file n are set
   sets_attributes : ℕ → ℕ → Change
-  -- a file is made in directory d, by a name and with attributes
+  -- a file is made in directory d, with a name and attributes
   creates : ℕ → List ℕ → ℕ → Change
-  -- and a directory
+  -- a directory is made in directory d, with a name and attributes
   makes_directory : ℕ → List ℕ → ℕ → Change
-  -- file n is deleted from directory d, where it has a name
+  -- file n is deleted from directory d, in which it has a name
   deletes : ℕ → ℕ → List ℕ → Change
 
--- what the change makes of a volume, for a user and at a time; `new` is the number of the file that it makes, if it
+-- the effect of the change on a volume, for a user and at a time; `new` is the number of the new file, if the change
 -- makes one
 abbrev pub Makes : Change → ℕ → TimePacket → DiskVolume → DiskVolume → ℕ → Type 0
 Makes (writes n at bytes) user now v w new = Writes v w n at bytes now
@@ -34,14 +34,14 @@ Makes (creates d name attributes) user now v w new = Creates v w d new name attr
 Makes (makes_directory d name attributes) user now v w new = MakesDirectory v w d new name attributes user now
 Makes (deletes d n name) user now v w new = Deletes v w d n name
 
--- a cluster that file n may gain for a size finds no place in its list of segments
+-- the list of segments of file n has no place for a cluster that the file may gain for a size
 pub record FindsNoPlace (v : DiskVolume) (n : ℕ) (size : DiskFile → ℕ) : Type 0 where
   pub file : DiskFile
   pub is : v.files n ≡ Some file
   pub gained : List ℕ
   pub full : IsOneTooMany (cluster_size v) (is_free_in v) file.segments (size file) gained
 
--- the change may end with E$SLF: it depends on the clusters that are chosen
+-- the change may end with E$SLF, which depends on the chosen clusters
 abbrev pub MayBeTooLong : Change → DiskVolume → Type 0
 MayBeTooLong (writes n at bytes) v = FindsNoPlace v n (λ file. length (written file.contents at bytes))
 MayBeTooLong (sizes n size) v = FindsNoPlace v n (λ file. size)
@@ -50,7 +50,7 @@ MayBeTooLong (creates d name attributes) v = ⊥
 MayBeTooLong (makes_directory d name attributes) v = ⊥
 MayBeTooLong (deletes d n name) v = ⊥
 
--- a volume that is left, as some image has it
+-- a fact of some image of the volume that is left
 abbrev pub OnImage : DiskVolume → (List ℕ → Type 0) → Type 0
 OnImage left fact = (image : List ℕ) × Vol image left × fact image
 

@@ -1,8 +1,8 @@
 -- I$ChgDir: changes a directory of the process (System Programmer's Manual, I$ChgDir).
--- Takes the mode in A and the path list at X; answers X past the list. It is the execution directory that changes where
--- the mode is for execution, else the data directory. The bits for reading, writing and execution are tested on the
--- directory that is found, and nothing else of the mode.
--- Errors: E$BPAddr, E$BMode, E$BPNam, E$MNF, E$FNA, E$PNNF, E$FNA (of what is found).
+-- Takes the mode in A and the path list at X; returns X past the list. It changes the execution directory if the mode
+-- is for execution, else the data directory. Only the bits of the mode for reading, writing and execution are tested on
+-- the directory that is found.
+-- Errors: E$BPAddr, E$BMode, E$BPNam, E$MNF, E$FNA, E$PNNF, E$FNA (of the file that is found).
 use Rattle.std.specs.Prelude.{ℕ, ◌&&◌, not, Bool}
 use Rattle.os9_base.specs.declared.errors.TheConstants.{E_FNA}
 use Rattle.rbf_model.specs.File.{DiskFile, is_directory}
@@ -15,7 +15,7 @@ use Rattle.file_rules.specs.Open.{is_for_execution, tests_mode}
 use Rattle.file_rules.specs.Step.{FileStep, refused, refuses, done}
 use Rattle.file_rules.specs.Way.{Way, along, to_device, nowhere, Found, way_of, reads_list, list_of, walks}
 
--- a user may make a file a directory of a process of his
+-- a user may make a file a directory of one of the user's processes
 abbrev pub may_go_to : DiskFile → ℕ → ℕ → Bool
 may_go_to file user mode = is_directory file && file_permits file user mode
 

@@ -1,5 +1,5 @@
 -- I$Create (System Programmer's Manual, I$Create).
--- Takes the mode in A, the attributes in B and the path list at X; answers the number of the path in A, and X past the
+-- Takes the mode in A, the attributes in B and the path list at X; returns the number of the path in A, and X past the
 -- list. The file is empty, and the caller's user owns it. Neither it nor its mode is tested against the attributes. A
 -- terminal or a pipe is opened.
 -- Errors: E$BPAddr, E$BMode, E$BPNam, E$MNF, E$FNA, E$PNNF, E$FNA (of the directory, and of bit 7 in B), E$CEF,
@@ -23,25 +23,25 @@ use Rattle.file_rules.specs.Open.{is_for_execution, says_directory, tests_mode}
 use Rattle.file_rules.specs.Step.{FileEffect, FileStep, refused, comes, as_io, changes, needs, refuses, leaves}
 use Rattle.file_rules.specs.Way.{Way, along, to_device, nowhere, Found, way_to_new, reads_list, list_of, walks, last_of, before_last}
 
--- how many clusters a new file of a size and its entry in a directory need
+-- the number of clusters that a new file of a size and its entry in a directory need
 abbrev pub clusters_for : Found → ℕ → ℕ
 clusters_for dir size = file_clusters (cluster_size dir.volume) size + entry_clusters (cluster_size dir.volume) dir.file
 
--- what is left besides a new file of this number: a path on it
+-- the effect in addition to a new file of this number: a path on it
 abbrev pub opens_new : Asker → Files → PathList → ℕ → ℕ → ℕ → FileEffect
 opens_new asker files list drive number n =
     leaves (answers (opened_regs asker.caller.regs list number))
     (with_path_table files (paths_after_begin files.io.paths asker.caller.process.0
     (new_desc (File drive n) asker.caller.regs.a)))
 
--- a new file of a size and its entry in a directory have room on the volume; else it is refused
+-- the volume has room for a new file of a size and its entry in a directory; else the call is refused
 abbrev pub has_room_for : Found → ℕ → FileStep → FileStep
 has_room_for dir size next =
     refuses (nat_lt (free_total dir.volume) (clusters_for dir size)) E_FULL
     (refuses (nat_lt 0 (entry_clusters (cluster_size dir.volume) dir.file) && (length dir.file.segments == 48)) E_SLF
     next)
 
--- the file is made in the directory that was found, and a path on it
+-- the file is made in the found directory, with a path on it
 abbrev pub creates_with_path : Asker → Files → PathList → List ℕ → Found → FileStep
 creates_with_path asker files list name dir =
     needs (new_number files.io.paths asker.caller.process.0) E_PTHFUL

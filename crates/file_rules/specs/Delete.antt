@@ -1,6 +1,6 @@
 -- I$Delete and I$DeletX: delete a file (System Programmer's Manual, I$Delete and I$DeletX).
--- Take the path list at X; answer X past the list. I$DeletX takes a mode in A besides, which chooses the directory at
--- which the list starts and how directories are searched, and is not tested on the file.
+-- Take the path list at X; return X past the list. I$DeletX also takes a mode in A, which chooses the directory at
+-- which the list starts and the way in which directories are searched. The mode is not tested on the file.
 -- Errors: E$BPAddr, E$BMode (of I$DeletX), E$BPNam, E$MNF, E$FNA, E$PNNF, E$FNA (a directory, a terminal, a pipe, or a
 -- file that the user may not write), E$Share (a path is on the file).
 use Rattle.std.specs.Prelude.{ℕ, not, Bool, false, Option, Some, None, List}
@@ -18,7 +18,7 @@ use Rattle.file_rules.specs.Sharing.{is_open}
 use Rattle.file_rules.specs.Step.{FileStep, refused, comes, changes, needs, refuses, leaves}
 use Rattle.file_rules.specs.Way.{Way, along, to_device, nowhere, Found, way_of, reads_list, list_of, walks, last_of, before_last}
 
--- the file of this number, which has a name in the directory that was found, is deleted
+-- the file of this number, which has a name in the found directory, is deleted
 abbrev pub deletes_file : Asker → Files → PathList → List ℕ → Found → ℕ → FileStep
 deletes_file asker files list name dir n =
     refuses (not (may_delete (dir.volume.files n) asker.user)) E_FNA
@@ -34,7 +34,7 @@ deletes_in asker files execute list name dir =
     refuses (not (may_change dir.file asker.user execute)) E_FNA
     (needs (look_up dir.file.contents name) E_PNNF (deletes_file asker files list name dir))
 
--- by the last name of a list; without one it is the root of a drive, which is a directory
+-- by the last name of a list; a list without names is the root of a drive, which is a directory
 abbrev pub deletes_named : Asker → Files → Bool → PathList → Way → Option (List ℕ) → FileStep
 deletes_named asker files execute list (along from names) None =
     walks asker files execute from names (λ root. refused E_FNA)

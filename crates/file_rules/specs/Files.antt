@@ -1,5 +1,5 @@
 -- The state that the calls on files read and change (Level Two manual, "I/O system"; OS-9 Technical Reference, Random
--- Block File Manager): that of paths, terminals and pipes, the directories of each process, and the drives.
+-- Block File Manager): the state of paths, terminals and pipes, the directories of each process, and the drives.
 use Rattle.std.specs.Prelude.{◌≡◌, ◌≢◌, ℕ, ◌≤◌, Bool, Option, Some, None, option_map, option_and_then, List, length, slice_index_or, slice_set, if◌then◌else◌}
 use Rattle.os9_base.specs.Count.{Rose}
 use Rattle.os9_base.specs.declared.registers.TimePacket.{TimePacket}
@@ -15,7 +15,7 @@ use Rattle.io_rules.specs.Step.{Caller}
 use Rattle.file_rules.specs.declared.places.Directories.{Directories}
 use Rattle.file_rules.specs.declared.places.FilePlace.{FilePlace}
 
--- a drive: how often it failed, and its last fault
+-- a drive: its number of faults, and its last fault
 pub record DriveState : Type 0 where
   pub faults : ℕ
   pub last : Option DriveFault
@@ -23,10 +23,10 @@ pub record DriveState : Type 0 where
 pub record Files : Type 0 where
   pub io : Io
   pub directories : List Directories  -- by process, from 0 to 32
-  pub volumes : List (Option DiskVolume)  -- of D0, D1, D2, D3: the volume that is mounted there
+  pub volumes : List (Option DiskVolume)  -- of D0, D1, D2, D3: the mounted volume
   pub drives : List DriveState  -- D0, D1, D2, D3
 
--- the process that calls, its user, and the time
+-- the calling process, its user, and the time
 pub record Asker : Type 0 where
   pub caller : Caller
   pub user : ℕ
@@ -40,7 +40,7 @@ no_directories = record { data_directory = None; execution_directory = None }
 abbrev pub directories_at : Files → ℕ → Directories
 directories_at files p = slice_index_or files.directories p no_directories
 
--- the directory of a process at which a path list starts that is for execution, or is not
+-- the directory of a process at which its path lists start, for execution or not
 abbrev pub directory_of : Files → ℕ → Bool → Option FilePlace
 directory_of files p execute =
     if execute then (directories_at files p).execution_directory else (directories_at files p).data_directory
@@ -63,18 +63,18 @@ files_on files drive n = option_and_then (λ v. v.files n) (volume_at files driv
 abbrev pub file_in : Files → FilePlace → Option DiskFile
 file_in files place = files_on files place.drive place.number
 
--- what a path is opened on where this file is
+-- the target of a path on this file at this place
 abbrev pub target_on : DiskFile → FilePlace → Target
 target_on file place = if is_directory file then Folder place.drive place.number else File place.drive place.number
 
--- where the file is that a path was opened on, if it is a file's or a directory's
+-- the place of the file that a target names, if the target is a file or a directory
 abbrev pub place_of_target : Target → Option FilePlace
 place_of_target (File drive number) = Some (record { drive = drive; number = number })
 place_of_target (Folder drive number) = Some (record { drive = drive; number = number })
 place_of_target (Term terminal) = None
 place_of_target (Pipe pipe) = None
 
--- a path on a file or a directory: the path, where the file is, its volume and the file
+-- a path on a file or a directory: the path, the place of the file, its volume and the file
 pub record OpenFile : Type 0 where
   pub opened : OpenPath
   pub place : FilePlace
@@ -87,13 +87,13 @@ open_file_at files opened place =
     option_and_then (λ v. option_map (λ file. record { opened = opened; place = place; volume = v; file = file })
     (v.files place.number)) (volume_at files place.drive)
 
--- the file or directory that a number of a process names, if it names one
+-- the file or directory that a number of a process names, if any
 abbrev pub open_file : Files → ℕ → ℕ → Option OpenFile
 open_file files p n =
     option_and_then (λ opened. option_and_then (open_file_at files opened) (place_of_target opened.desc.target))
     (open_path files.io p n)
 
--- ---- the state with something else in it
+-- ---- the state with one part replaced
 
 abbrev pub with_io : Files → Io → Files
 with_io files io = record files { io = io }
@@ -117,7 +117,7 @@ with_volume files drive volume = record files { volumes = slice_set files.volume
 abbrev pub with_drives : Files → List DriveState → Files
 with_drives files drives = record files { drives = drives }
 
--- ---- how often drives failed
+-- ---- the number of faults of the drives
 
 abbrev pub new_drive : DriveState
 new_drive = record { faults = 0; last = None }
@@ -125,11 +125,11 @@ new_drive = record { faults = 0; last = None }
 abbrev pub drive_at : List DriveState → ℕ → DriveState
 drive_at drives n = slice_index_or drives n new_drive
 
--- no drive failed: each count stands as it stood, and so does each last fault
+-- no drive failed: each count and each last fault is unchanged
 abbrev pub NoneFailed : List DriveState → List DriveState → Type 0
 NoneFailed before now = now ≡ before
 
--- a drive failed, and no other one: its count rose, and the error of its last fault is this number
+-- only this drive failed: its count rose, and the error of its last fault is this number
 pub record OneFailed (drive number : ℕ) (before now : List DriveState) : Type 0 where
   pub rose : Rose (drive_at before drive).faults (drive_at now drive).faults
   pub never_falls : (drive_at before drive).faults ≤ (drive_at now drive).faults

@@ -1,4 +1,4 @@
--- Files of modules that are loaded, worked through by hand: two revisions of the module `S` that processes 2 and 3 have
+-- Loads of files of modules, worked through by hand: two revisions of the module `S` that processes 2 and 3 have
 -- linked.
 use Rattle.std.specs.Prelude.{ℕ, false, Option, List, [], ◌∷◌}
 use Rattle.proc_model.specs.Loading.{with_module}
@@ -14,7 +14,7 @@ use Rattle.call_rules.specs.Rows.{after_call, both_linked}
 use Rattle.call_rules.specs.declared.proc_call.ProcCall.TheVariants as Call
 use Rattle.file_rules.specs.Load.{Loaded, with_file_entered, links_first}
 
--- a module of data with the name `S`, of revision 1 and of revision 2
+-- a data module with the name `S`, of revision 1 and of revision 2
 abbrev pub first_revision : List ℕ
 first_revision =
     0x87 ∷ 0xCD ∷ 0x00 ∷ 0x0D ∷ 0x00 ∷ 0x09 ∷ 0x40 ∷ 0x81 ∷ 0x70 ∷ 0xD3 ∷ 0xBA ∷ 0xB4 ∷ 0xA3 ∷ []
@@ -23,7 +23,7 @@ abbrev pub second_revision : List ℕ
 second_revision =
     0x87 ∷ 0xCD ∷ 0x00 ∷ 0x0D ∷ 0x00 ∷ 0x09 ∷ 0x40 ∷ 0x82 ∷ 0x73 ∷ 0xD3 ∷ 0x7C ∷ 0x72 ∷ 0xA3 ∷ []
 
--- the memory where both have linked S of revision 1, and the entries that it has with the file of revision 2
+-- the memory in which both have linked S of revision 1, and its entries with the file of revision 2
 abbrev pub linked_memory : MemoryState
 linked_memory = both_linked.memory
 
@@ -53,7 +53,8 @@ loaded_by_two =
     after_attempt both_linked 2
     (links_first both_linked 2 (record { bytes = second_revision; next = 5 }) newer_loaded)
 
--- the state where process 3 has linked what is found by the name then, and where process 2 has given its link up
+-- that state after process 3 has linked the module found by the name, and that state after process 2 has given up its
+-- link
 abbrev pub found_by_three : Inner
 found_by_three = after_call Call.Link 3 (with_first_regs loaded_by_two)
   where

@@ -1,6 +1,6 @@
 -- I$MakDir (System Programmer's Manual, I$MakDir).
--- Takes the attributes in B and the path list at X; answers X past the list. The directory has bit 7 in its attributes
--- whatever B has, and two entries: the one above it, and itself. The caller's user owns it.
+-- Takes the attributes in B and the path list at X; returns X past the list. The directory has bit 7 in its attributes
+-- whatever B is, and two entries: the one above it, and itself. The caller's user owns it.
 -- Errors: E$BPAddr, E$BPNam, E$MNF, E$FNA, E$PNNF, E$CEF, E$Full, E$SLF.
 use Rattle.std.specs.Prelude.{ℕ, ◌%◌, not, false, is_some, List}
 use Rattle.os9_base.specs.declared.errors.TheConstants.{E_BPNAM, E_FNA, E_CEF}
@@ -15,11 +15,11 @@ use Rattle.file_rules.specs.Files.{Files, Asker}
 use Rattle.file_rules.specs.Step.{FileStep, refused, comes, changes, needs, refuses, leaves}
 use Rattle.file_rules.specs.Way.{Way, along, to_device, nowhere, Found, way_to_new, reads_list, list_of, walks, last_of, before_last}
 
--- the registers after a call that answers no more than where its list ends; behind FFFF X is 0
+-- the registers after a call that returns only the address past its list; if that is past FFFF, X is 0
 abbrev pub past_list : Regs → PathList → Regs
 past_list regs list = record regs { x = list.next % 65536 }
 
--- how many bytes a new directory has: its two entries
+-- the number of bytes of a new directory: its two entries
 abbrev pub new_directory_size : ℕ
 new_directory_size = 64
 

@@ -11,7 +11,7 @@ use Rattle.file_rules.specs.Files.{Files}
 use Rattle.file_rules.specs.Step.{as_io, deed_of}
 use Rattle.file_rules.specs.declared.path_call.PathCall.{PathCall}
 
--- an attempt is on a terminal, and memory was wanting for a byte that was to be put there
+-- an attempt is on a terminal, and memory was lacking for a byte that was to be put there
 pub record LacksMemory (call : PathCall) (m : Inner) (files : Files) (now : TimePacket) (p : ℕ)
     (before after : List TerminalState) : Type 0 where
   pub step : IoStep

@@ -1,5 +1,5 @@
--- Calls on a number of a path: on a file or a directory they are those of files, on anything else, and where the number
--- names nothing, those of terminals and pipes.
+-- Calls on a number of a path: on a file or a directory they are those of files. On anything else, or if the number
+-- names nothing, they are those of terminals and pipes.
 use Rattle.std.specs.Prelude.{ℕ, ◌==◌, not, Bool, Option, Some, None, if◌then◌else◌}
 use Rattle.os9_base.specs.declared.errors.TheConstants.{E_BMODE}
 use Rattle.io_rules.specs.Step.{IoStep}
@@ -15,7 +15,7 @@ abbrev pub on_file : Asker → Files → ℕ → IoStep → (OpenFile → FileSt
 on_file asker files number otherwise next =
     by_kind (open_file files asker.caller.process.0 number) otherwise next
 
--- the mode of the path allows the call, or it is refused; without a byte to move it is done at once
+-- the call is refused if the mode of the path does not allow it; without a byte to move it is done at once
 abbrev pub moves_bytes : Asker → Files → OpenFile → (ℕ → Bool) → FileStep → FileStep
 moves_bytes asker files opened is_allowed next =
     refuses (not (is_allowed opened.opened.desc.mode)) E_BMODE

@@ -1,7 +1,7 @@
 -- I$Open of a file or a directory (System Programmer's Manual, I$Open).
--- Takes the mode in A and the path list at X; answers the number of the path in A, and X past the list. A directory is
--- opened with bit 7 in the mode and without writing, a file without bit 7. A terminal or a pipe is opened as ever.
--- Errors: E$BPAddr, E$BMode, E$BPNam, E$MNF, E$FNA, E$PNNF, E$FNA (of what is found), E$Share, E$PthFul.
+-- Takes the mode in A and the path list at X; returns the number of the path in A, and X past the list. A directory is
+-- opened with bit 7 in the mode and without writing, a file without bit 7. A terminal or a pipe is opened as always.
+-- Errors: E$BPAddr, E$BMode, E$BPNam, E$MNF, E$FNA, E$PNNF, E$FNA (of the file that is found), E$Share, E$PthFul.
 use Rattle.std.specs.Prelude.{ℕ, ◌&&◌, not, Bool, length, if◌then◌else◌}
 use Rattle.os9_base.specs.declared.errors.TheConstants.{E_BMODE, E_FNA, E_SHARE, E_PTHFUL}
 use Rattle.io_model.specs.Path.{new_number, paths_after_begin}
@@ -35,7 +35,7 @@ opens_kind file mode =
 abbrev pub may_open : DiskFile → ℕ → ℕ → Bool
 may_open file user mode = file_permits file user mode && opens_kind file mode
 
--- the process begins a path on a file, if it has a number for it
+-- opens a path on a file, if the process has a number for it
 abbrev pub begins_on : Asker → Files → PathList → Found → FileStep
 begins_on asker files list found =
     needs (new_number files.io.paths asker.caller.process.0) E_PTHFUL
@@ -43,7 +43,7 @@ begins_on asker files list found =
     (with_path_table files (paths_after_begin files.io.paths asker.caller.process.0
     (new_desc (target_on found.file found.place) asker.caller.regs.a))))
 
--- a file that was found is opened
+-- a found file is opened
 abbrev pub opens_found : Asker → Files → PathList → Found → FileStep
 opens_found asker files list found =
     refuses (not (may_open found.file asker.user asker.caller.regs.a)) E_FNA
@@ -59,7 +59,7 @@ opens_on_way asker files terms list (along from names) =
 opens_on_way asker files terms list to_device = opens_device asker files terms
 opens_on_way asker files terms list (nowhere number) = refused number
 
--- the call's mode has none of the bits for reading, writing and execution
+-- the call is refused with E$BMode if its mode is not allowed
 abbrev pub tests_mode : {E : Type 0} → Bool → Step E → Step E
 tests_mode is_allowed step = refuses (not is_allowed) E_BMODE step
 

@@ -1,5 +1,5 @@
--- Processes that begin and end, as files take part in it (System Programmer's Manual, F$Fork and F$Exit), and the first
--- one (Level Two manual, "Booting"; its directories are this project's own).
+-- The beginnings and ends of processes, for files (System Programmer's Manual, F$Fork and F$Exit), and the first
+-- process (Level Two manual, "Booting"; its directories are this project's own).
 use Rattle.std.specs.Prelude.{◌≡◌, ℕ, ◌-◌, Option, Some, None, option_and_then, List, ◌++◌, codes, length, map, replicate, slice_get, slice_set, if◌then◌else◌}
 use Rattle.std.specs.List.{AllZip}
 use Rattle.std.specs.Option.{option_map_or}
@@ -15,12 +15,12 @@ use Rattle.file_rules.specs.declared.places.FilePlace.{FilePlace}
 
 -- ---- beginnings and ends
 
--- a child is given its parent's directories, and images of its standard paths
+-- a child gets its parent's directories, and images of its standard paths
 abbrev pub files_started : Files → ℕ → ℕ → Files
 files_started files parent child =
     with_directories_of (with_io files (io_started files.io parent child)) child (directories_at files parent)
 
--- the state after the end of a process: it has no directory any more, and no path
+-- the state after the end of a process, which has no directory and no path any more
 abbrev pub files_ended : Files → ℕ → Files
 files_ended files p = with_directories_of (with_io files (io_ended files.io p)) p no_directories
 
@@ -33,7 +33,7 @@ directory_in_root v root name =
     if is_directory file then Some (record { drive = root.drive; number = n }) else None) (v.files n))
     (option_and_then (λ file. look_up file.contents name) (v.files root.number))
 
--- the directories of the first process on the volume of D0: its root, and for execution CMDS in it, if that is there
+-- the directories of the first process on the volume of D0: its root, and for execution CMDS in it, if it exists
 abbrev pub directories_on : DiskVolume → Directories
 directories_on v = record {
   data_directory = Some (root_of 0 v);
@@ -41,11 +41,11 @@ directories_on v = record {
       option_map_or (λ place. Some place) (directory_in_root v (root_of 0 v) (codes "CMDS")) (Some (root_of 0 v));
 }
 
--- and without such a volume none
+-- none without such a volume
 abbrev pub first_directories : Option DiskVolume → Directories
 first_directories v = option_map_or directories_on v no_directories
 
--- the state at the start, with the first process, which is process 2: these volumes are mounted in the first drives
+-- the state at the start, with the first process, process 2: these volumes are mounted in the first drives
 abbrev pub first_files : List DiskVolume → List DriveState → Files
 first_files volumes drives = record {
   io = first_io;

@@ -1,9 +1,9 @@
--- F$Fork and F$Chain of a program that is loaded (System Programmer's Manual, F$Fork and F$Chain). Where the bytes at X
--- are one name, and a module of that name is entered that has the type and language in A, they start that module. Else
--- X is a path list, and its file is loaded as F$Load does; the program is the file's first module, whose one link is
--- the process's. Where the call is refused then, nothing of the file is in memory.
--- Errors, in this order: E$BPAddr; E$NEMod (of A); those of the file and of F$Load but for its slots; E$NEMod (of the
--- module); then those of starting it: E$PrcFul (of F$Fork), E$MemFul, E$NoRAM.
+-- F$Fork and F$Chain of a program that they load (System Programmer's Manual, F$Fork and F$Chain). If the bytes at X
+-- are one name, and a module with that name and the type and language in A is entered, they start that module. Else X
+-- is a path list, and its file is loaded as F$Load does. The program is the file's first module, whose one link is the
+-- process's. If the call is refused then, nothing of the file is in memory.
+-- Errors, in this order: E$BPAddr; E$NEMod (of A); those of the file and of F$Load except for its slots; E$NEMod (of
+-- the module); then those of the start: E$PrcFul (of F$Fork), E$MemFul, E$NoRAM.
 use Rattle.std.specs.Prelude.{◌≡◌, ℕ, ◌-◌, ◌==◌, nat_lt, not, is_none, Option, unwrap_or, option_and_then, Result, List, [], MatchOption}
 use Rattle.os9_base.specs.declared.errors.TheConstants.{E_BPADDR, E_NEMOD, E_MEMFUL, E_PRCFUL}
 use Rattle.proc_model.specs.MemoryChanges.{started}
@@ -22,23 +22,23 @@ use Rattle.file_rules.specs.Step.{Step, refuses as step_refuses}
 
 -- ---- which program
 
--- the entered module that the registers of a process name, if they name one
+-- the entered module that the registers of a process name, if any
 abbrev pub named_program : Inner → ℕ → Option Entered
 named_program s p =
     option_and_then (λ name. found_entry s.memory.modules name (regs_at s p).a)
     (module_name (name_at_x s p))
 
--- the parameters of a program that a process starts, if they are all there
+-- the parameters of a program that a process starts, if all their bytes are in named slots
 abbrev pub parameters_of : Inner → ℕ → Option (List ℕ)
 parameters_of s p = user_bytes (cells_at s p) (regs_at s p).u (regs_at s p).y
 
--- what the calls test of their registers when a path list was read: the parameters, and A
+-- the tests of the calls on their registers after a path list was read: the parameters, and A
 abbrev pub tests_program : Inner → ℕ → Step ProgramFile → Step ProgramFile
 tests_program s p step =
     step_refuses (is_none (parameters_of s p)) E_BPADDR
     (step_refuses (not (asks_for_program (regs_at s p).a)) E_NEMOD step)
 
--- the program of a file that is in memory, with the parameters of the process that starts it
+-- the program of a file in memory, with the parameters of the process that starts it
 abbrev pub loaded_program : Inner → ℕ → ProgramFile → Entered → Program
 loaded_program s p file first = record {
   entered = first;
@@ -47,7 +47,7 @@ loaded_program s p file first = record {
   count = file.next - (regs_at s p).x;
 }
 
--- ---- how it starts
+-- ---- its start
 
 -- a child of a process starts the program
 abbrev pub forks : Inner → ℕ → Program → CallResult
@@ -81,7 +81,7 @@ pub record StartsFile (start : Inner → ℕ → Program → CallResult) (s : In
   pub reads : ReadsProgram (program_file asker old terms (tests_program s p)) reading old new
   pub comes : GoesOnLoaded s reading (starts_first start s p) result
 
--- an attempt of F$Fork; the directories and paths of the child are given to it beside
+-- an attempt of F$Fork; the directories and paths of the child are given to it separately
 abbrev pub ForkAttempts : Inner → Asker → Files → ℕ → ℕ → CallResult → Files → Type 0
 ForkAttempts s asker old terms p result new =
     MatchOption (named_program s p) (StartsFile forks s asker old terms p result new)

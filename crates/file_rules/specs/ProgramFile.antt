@@ -1,7 +1,7 @@
 -- The file of modules that F$Load, F$Fork and F$Chain read (System Programmer's Manual, F$Load). Its path list starts
--- at the execution directory. It is tested as I$Open with the mode for execution tests it, and no path is begun.
--- Errors: E$BPAddr, then those of the call before it has a name, E$BPNam, E$MNF, E$FNA, E$PNNF, E$FNA (of what is
--- found), E$Share, E$MemFul (more bytes than a group has).
+-- at the execution directory. It is tested as I$Open tests it with the execution mode, but no path is opened.
+-- Errors: E$BPAddr, then those of the call before it has a name, E$BPNam, E$MNF, E$FNA, E$PNNF, E$FNA (of the file that
+-- is found), E$Share, E$MemFul (more bytes than a group has).
 use Rattle.std.specs.Prelude.{◌≡◌, ◌⊎◌, ℕ, nat_lt, not, true, Some, Result, Ok, Err, List, length}
 use Rattle.os9_base.specs.declared.errors.TheConstants.{E_FNA, E_SHARE, E_MEMFUL}
 use Rattle.os9_base.specs.declared.limits.TheConstants.{MOST_GROUP_BYTES}
@@ -13,7 +13,7 @@ use Rattle.file_rules.specs.Sharing.{is_not_shared}
 use Rattle.file_rules.specs.Step.{Step, refused, comes, reaches, drive_of, refuses}
 use Rattle.file_rules.specs.Way.{Way, along, to_device, nowhere, Found, way_of, reads_list, list_of, walks}
 
--- the bytes of a file of modules, and the address behind its path list
+-- the bytes of a file of modules, and the address after its path list
 pub record ProgramFile : Type 0 where
   pub bytes : List ℕ
   pub next : ℕ
@@ -30,19 +30,19 @@ program_on_way asker files list (along from names) = walks asker files true from
 program_on_way asker files list to_device = refused E_FNA
 program_on_way asker files list (nowhere number) = refused number
 
--- the file that the path list at X leads to; `test` is what the call tests when the list was read
+-- the file that the path list at X names; `test` is the test of the call after the list was read
 abbrev pub program_file : Asker → Files → ℕ → (Step ProgramFile → Step ProgramFile) → Step ProgramFile
 program_file asker files terms test =
     reads_list (list_of asker) test
     (λ list. program_on_way asker files list (way_of asker files terms true list))
 
--- what a reading comes to where no drive fails
+-- the result of a reading if no drive fails
 abbrev pub reading_of : Step ProgramFile → Result ProgramFile ℕ
 reading_of (refused number) = Err number
 reading_of (comes file) = Ok file
 reading_of (reaches drive step) = reading_of step
 
--- the drive that it reached has failed
+-- the drive that the reading reached has failed
 pub record ReadingIsBroken (step : Step ProgramFile) (reading : Result ProgramFile ℕ) (before after : List DriveState)
     : Type 0 where
   pub drive : ℕ
@@ -51,8 +51,8 @@ pub record ReadingIsBroken (step : Step ProgramFile) (reading : Result ProgramFi
   pub failed : OneFailed drive number before after
   pub is : reading ≡ Err number
 
--- a reading comes to this: the file, or the number with which it is refused; of the state only what the drives counted
--- has changed
+-- a reading has this result: the file, or the number with which it is refused; only the counts of the drives have
+-- changed in the state
 pub record ReadsProgram (step : Step ProgramFile) (reading : Result ProgramFile ℕ) (old new : Files) : Type 0 where
   pub drives : List DriveState
   pub outcome : ((reading ≡ reading_of step) × NoneFailed old.drives drives)

@@ -1,6 +1,6 @@
 -- I$Read and I$ReadLn of a file or a directory (System Programmer's Manual, I$Read and I$ReadLn).
--- Take the path in A, the address of the buffer in X and its most bytes in Y; answer the count in Y. The position moves
--- past what was read. A line ends with its carriage return.
+-- Take the path in A, the address of the buffer in X and its size in bytes in Y; return the count in Y. The position
+-- moves past the bytes read. A line ends with its carriage return.
 -- Errors: E$BPAddr, E$BPNum, E$BMode, E$EOF.
 use Rattle.std.specs.Prelude.{ℕ, ◌+◌, is_none, nat_le, List, length}
 use Rattle.os9_base.specs.declared.errors.TheConstants.{E_BPADDR, E_EOF}
@@ -15,17 +15,17 @@ use Rattle.file_rules.specs.Files.{Files, Asker, OpenFile, with_position}
 use Rattle.file_rules.specs.OnFile.{on_file, moves_bytes}
 use Rattle.file_rules.specs.Step.{FileEffect, FileStep, comes, reaches, leaves_so, refuses, stores}
 
--- the bytes from the position of a path on, at most as many as are asked for
+-- the bytes from the position of a path on, at most the number asked for
 abbrev pub bytes_here : Asker → OpenFile → List ℕ
 bytes_here asker opened = bytes_from opened.file.contents opened.opened.desc.at asker.caller.regs.y
 
--- these bytes are answered, and the position is behind them
+-- these bytes are returned, and the position is after them
 abbrev pub answers_bytes : Asker → Files → OpenFile → List ℕ → FileEffect
 answers_bytes asker files opened bytes =
     stores asker.caller.regs.x bytes (count_regs asker.caller (length bytes))
     (with_position files opened.opened (opened.opened.desc.at + length bytes))
 
--- what is read of the file: `part` is what the call takes of the bytes that it may have
+-- a read of the file: `part` is the part that the call takes of the bytes that are there
 abbrev pub reads_file : Asker → Files → (List ℕ → List ℕ) → OpenFile → FileStep
 reads_file asker files part opened =
     reaches opened.place.drive

@@ -1,4 +1,4 @@
--- Calls on small volumes that are worked through by hand.
+-- Calls on small volumes, worked through by hand.
 use Rattle.std.specs.Prelude.{ℕ, ◌-◌, ◌/◌, ◌%◌, ◌==◌, nat_lt, false, Option, Some, None, List, [], ◌∷◌, ◌++◌, codes, replicate, if◌then◌else◌}
 use Rattle.os9_base.specs.declared.registers.Regs.{Regs}
 use Rattle.os9_base.specs.declared.registers.TimePacket.{TimePacket}
@@ -24,7 +24,7 @@ use Rattle.file_rules.specs.declared.places.FilePlace.{FilePlace}
 
 -- ---- the volume E: sixteen sectors, one a cluster; the map in sector 1, the root in 2, its entries in 3
 
--- the identification sector of a volume of so many sectors, so many a cluster, with two bytes of map and root 2
+-- the identification sector of a volume of `total` sectors, `k` a cluster, with two bytes of map and root 2
 abbrev pub ident_of : ℕ → ℕ → List ℕ
 ident_of total k = 0 ∷ 0 ∷ total ∷ 0 ∷ 0 ∷ 2 ∷ 0 ∷ k ∷ 0 ∷ 0 ∷ 2 ∷ replicate (256 - 11) 0
 
@@ -47,7 +47,7 @@ file_with attributes segments contents = record {
   contents = contents;
 }
 
--- the root in sector 2 with these entries behind its first two
+-- the root in sector 2 with these entries after its first two
 abbrev pub root_with : List ℕ → DiskFile
 root_with entries = file_with 0xBF ((3, 1) ∷ []) (new_listing 2 2 ++ entries)
 
@@ -63,7 +63,7 @@ volume_with root other = record {
 abbrev pub volume_e : DiskVolume
 volume_e = volume_with (root_with []) None
 
--- the same where every cluster is marked: those that are in nothing are lost
+-- the same with every cluster marked: those in nothing are lost
 abbrev pub volume_full : DiskVolume
 volume_full = record volume_e { lost = λ c. nat_lt 3 c }
 
@@ -102,7 +102,7 @@ asking regs bytes = asking_as 0 regs bytes
 abbrev pub step_on : PathCall → Regs → List ℕ → Files → FileStep
 step_on call regs bytes files = file_step call (asking regs bytes) files 4
 
--- what it leaves where no drive fails and no volume is changed
+-- its effect if no drive fails and no volume is changed
 abbrev pub effect_by : Deed → Files → FileEffect
 effect_by (leaves_so it) files = it
 effect_by (as_io step) files = refuses_so 0 files
@@ -111,14 +111,14 @@ effect_by (changes it) files = refuses_so 0 files
 abbrev pub effect_on : PathCall → Regs → List ℕ → Files → FileEffect
 effect_on call regs bytes files = effect_by (deed_of (step_on call regs bytes files) files) files
 
--- how it ends, and the state then
+-- its end, and the state after it
 abbrev pub end_on : PathCall → Regs → List ℕ → Files → IoEnd
 end_on call regs bytes files = (effect_on call regs bytes files).end
 
 abbrev pub files_on : PathCall → Regs → List ℕ → Files → Files
 files_on call regs bytes files = files_after 2 (effect_on call regs bytes files)
 
--- a change that it makes; attempts that make none have this one
+-- the change that it makes; attempts that make none have this one
 abbrev pub change_by : Deed → Change
 change_by (leaves_so it) = sets_attributes 0 0
 change_by (as_io step) = sets_attributes 0 0
@@ -131,31 +131,31 @@ change_on call regs bytes files = change_by (deed_of (step_on call regs bytes fi
 abbrev pub with_a : ℕ → Regs
 with_a a = record zero_regs { a = a }
 
--- of a call that opens a path list in a mode
+-- the end of a call that opens a path list in a mode
 abbrev pub opening_ends : ℕ → List ℕ → Files → IoEnd
 opening_ends mode list files = end_on Call.Open (with_a mode) list files
 
--- the state where process 2 has opened the file A as its path 3
+-- the state after process 2 has opened the file A as its path 3
 abbrev pub opened_a : ℕ → ℕ → Files
 opened_a attributes mode = files_on Call.Open (with_a mode) (codes "A ") (on (volume_a attributes))
 
--- the registers of a call on path 3 that moves at most so many bytes at address 0
+-- the registers of a call on path 3 that moves at most `count` bytes at address 0
 abbrev pub moving : ℕ → Regs
 moving count = record zero_regs { a = 3; y = count }
 
--- so many bytes
+-- `count` bytes
 abbrev pub blanks : ℕ → List ℕ
 blanks count = replicate count 32
 
--- the state where it has opened the root as its path 3
+-- the state after it has opened the root as its path 3
 abbrev pub opened_root : Files
 opened_root = files_on Call.Open (with_a 0x81) (codes "/D0 ") (on volume_e)
 
--- the state where its path 3 is at a position
+-- the state after a seek of path 3 to a position
 abbrev pub seeking : ℕ → Files → Files
 seeking at files = files_on Call.Seek (record zero_regs { a = 3; x = at / 65536; u = at % 65536 }) [] files
 
--- the state where it has read six bytes
+-- the state after it has read six bytes
 abbrev pub read_behind : Files
 read_behind = files_on Call.Read (moving 6) (blanks 6) (opened_a 3 1)
 
@@ -167,12 +167,12 @@ bytes_on call regs bytes files = (effect_on call regs bytes files).bytes
 abbrev pub with_code : ℕ → Regs
 with_code code = record zero_regs { a = 3; b = code }
 
--- how an attempt on path 3 by a user ends
+-- the end of an attempt on path 3 by a user
 abbrev pub on_path : ℕ → PathCall → Regs → Files → IoEnd
 on_path user call regs files =
     (effect_by (deed_of (file_step call (asking_as user regs []) files 4) files) files).end
 
--- the state where standard error is the path of number 3
+-- the state in which standard error is the path of number 3
 abbrev pub as_error : Files → Files
 as_error files = with_io files (with_paths files.io (with_slot files.io.paths 2 2 (slot_of files.io.paths 2 3)))
 
@@ -180,21 +180,21 @@ as_error files = with_io files (with_paths files.io (with_slot files.io.paths 2 
 abbrev pub place_of : ℕ → FilePlace
 place_of n = record { drive = 0; number = n }
 
--- the state at the start where nothing is mounted
+-- the state at the start with nothing mounted
 abbrev pub no_volume : Files
 no_volume = first_files [] four_drives
 
--- the volume E where one cluster is free
+-- the volume E with one free cluster
 abbrev pub volume_of_one : DiskVolume
 volume_of_one = record volume_e { lost = λ c. nat_lt 4 c }
 
--- the state where all sixteen numbers of process 2 are in use
+-- the state in which all sixteen numbers of process 2 are in use
 abbrev pub all_paths_used : Files
 all_paths_used = with_io (on (volume_a 3)) (opened_times 13 2 (codes "/T1 ") first_io)
 
 -- ---- a drive that fails
 
--- a call of process 2: who makes it, and what it does
+-- a call of process 2: its asker, and its step
 pub record Calling : Type 0 where
   pub asker : Asker
   pub step : FileStep
@@ -206,13 +206,13 @@ creating_new = asking (with_a 3) (codes "New ")
 abbrev pub creation : Calling
 creation = record { asker = creating_new; step = file_step Call.Create creating_new (on volume_e) 4 }
 
--- the drives where D0 has failed once, with a write
+-- the drives after D0 has failed once, with a write
 abbrev pub d0_failed : List DriveState
 d0_failed = record { faults = 1; last = Some WriteFault } ∷ replicate 3 new_drive
 
--- ---- a file that is created
+-- ---- a new file
 
--- what it is then, in sector 4, and the root with its entry
+-- the file after its creation, in sector 4, and the root with its entry
 abbrev pub file_new : DiskFile
 file_new = record {
   attributes = 0;
@@ -227,7 +227,7 @@ file_new = record {
 abbrev pub root_new : DiskFile
 root_new = record (root_with (new_entry (codes "New") 4)) { modified = minute_of noon }
 
--- the volume E with it, and what the call leaves
+-- the volume E with it, and the effect of the call
 abbrev pub volume_new : DiskVolume
 volume_new = replaced (replaced volume_e 2 (Some root_new)) 4 (Some file_new)
 

@@ -1,6 +1,6 @@
 -- I$Seek: sets the position of a path (System Programmer's Manual, I$Seek).
--- Takes the path in A and the position in X, the high half, and U. A terminal or a pipe has none, and the call does
--- nothing.
+-- Takes the path in A and the position in X, the high half, and U. A terminal or a pipe has no position, and the call
+-- does nothing.
 -- Errors: E$BPNum.
 use Rattle.std.specs.Prelude.{ℕ, ◌+◌, ◌*◌}
 use Rattle.os9_base.specs.declared.errors.TheConstants.{E_BPNUM}
@@ -11,7 +11,7 @@ use Rattle.file_rules.specs.Files.{Files, Asker, with_position}
 use Rattle.file_rules.specs.OnFile.{on_file}
 use Rattle.file_rules.specs.Step.{FileStep, done}
 
--- the number that X, the high half, and U are
+-- the number in X, the high half, and U
 abbrev pub long_of : Regs → ℕ
 long_of regs = 65536 * regs.x + regs.u
 

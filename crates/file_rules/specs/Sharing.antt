@@ -1,5 +1,5 @@
 -- Whether a file may be shared (System Programmer's Manual, I$Open; OS-9 Technical Reference, FD.ATT, single user). The
--- paths of every process count; a directory of a process is no path.
+-- paths of every process count; a directory of a process is not a path.
 use Rattle.std.specs.Prelude.{ℕ, ◌==◌, ◌&&◌, ◌||◌, Bool, true, false, Option, Some, None}
 use Rattle.std.specs.List.{list_any}
 use Rattle.std.specs.Option.{option_map_or}
@@ -27,7 +27,7 @@ some_path_on files place test = list_any (is_path_on place test) files.io.paths.
 abbrev pub is_open : Files → FilePlace → Bool
 is_open files place = some_path_on files place (λ desc. true)
 
--- a mode or attributes say a single user
+-- a mode or an attribute byte says a single user
 abbrev pub is_single : ℕ → Bool
 is_single bits = has_bit_of SINGLE_USER bits
 

@@ -1,9 +1,9 @@
 -- I$GetStt and I$SetStt of a file or a directory (System Programmer's Manual, I$GetStt and I$SetStt).
--- Take the path in A and the code in B. SS.Opt stores 32 bytes at X; SS.Ready answers B 0; SS.Size and SS.Pos answer a
--- number in X, its high half, and U; SS.EOF answers B 0; SS.FD stores the first bytes of the descriptor at X, as many
--- as Y asks for and at most 16. To set, SS.Size takes the size in X and U, and SS.Attr the attributes in X.
--- Errors: E$BPNum, E$UnkSvc, E$BPAddr, E$EOF (of SS.EOF); to set E$BMode, E$Full and E$SLF (of SS.Size), E$FNA (of
--- SS.Attr).
+-- Take the path in A and the code in B. SS.Opt stores 32 bytes at X; SS.Ready returns 0 in B; SS.Size and SS.Pos return
+-- a number in X, its high half, and U; SS.EOF returns 0 in B; SS.FD stores the first Y bytes of the descriptor at X, at
+-- most 16. I$SetStt takes the size in X and U for SS.Size, and the attributes in X for SS.Attr.
+-- Errors: E$BPNum, E$UnkSvc, E$BPAddr, E$EOF (of SS.EOF); for I$SetStt E$BMode, E$Full and E$SLF (of SS.Size), E$FNA
+-- (of SS.Attr).
 use Rattle.std.specs.Prelude.{ℕ, ◌/◌, ◌%◌, ◌==◌, not, is_none, nat_le, min, List, ◌∷◌, ◌++◌, length, take, if◌then◌else◌}
 use Rattle.os9_base.specs.declared.errors.TheConstants.{E_BPADDR, E_UNKSVC, E_BMODE, E_EOF, E_FNA}
 use Rattle.os9_base.specs.declared.registers.Regs.{Regs}
@@ -22,9 +22,9 @@ use Rattle.file_rules.specs.Step.{FileStep, refused, comes, reaches, leaves_so, 
 use Rattle.file_rules.specs.Write.{changes_file}
 use Rattle.file_rules.specs.declared.status.TheConstants.{SS_SIZE, SS_POS, SS_FD, SS_ATTR, DESCRIPTOR_BYTES}
 
--- ---- what is asked for
+-- ---- getting the status
 
--- the registers that answer a number in X, its high half, and U
+-- the registers that return a number in X, its high half, and U
 abbrev pub long_regs : Regs → ℕ → Regs
 long_regs regs number = record regs { x = number / 65536; u = number % 65536 }
 
@@ -38,13 +38,13 @@ descriptor_front file =
     (file.attributes ∷ word_bytes file.owner)
     ++ (file.modified ++ (file.links ∷ long_bytes (length file.contents)) ++ file.created)
 
--- bytes are stored at X, where so many fit
+-- bytes are stored at X, if `count` bytes fit there
 abbrev pub gets_bytes : Asker → Files → ℕ → (FileStep → FileStep) → List ℕ → FileStep
 gets_bytes asker files count access bytes =
     refuses (is_none (user_bytes asker.caller.cells asker.caller.regs.x count)) E_BPADDR
     (access (comes (leaves_so (stores asker.caller.regs.x bytes asker.caller.regs files))))
 
--- how many bytes of the descriptor are asked for
+-- the number of bytes of the descriptor that are asked for
 abbrev pub asked_bytes : Asker → ℕ
 asked_bytes asker = min asker.caller.regs.y DESCRIPTOR_BYTES
 
@@ -81,9 +81,9 @@ i_getstt asker files =
     on_file asker files asker.caller.regs.a (gets_of_device asker.caller files.io)
     (λ opened. gets_status asker files opened asker.caller.regs.b)
 
--- ---- what is set
+-- ---- setting the status
 
--- SS.Size: the position stays
+-- SS.Size: the position is unchanged
 abbrev pub sets_size : Asker → Files → OpenFile → FileStep
 sets_size asker files opened =
     refuses (not (can_write opened.opened.desc.mode)) E_BMODE

@@ -1,5 +1,5 @@
--- What an attempt of a call on files comes to, step by step in the order of its refusals. Where it reaches a drive it
--- may be ended by a fault of that drive; before that it may not.
+-- An attempt of a call on files, step by step in the order of its refusals. If it reaches a drive, a fault of that
+-- drive may end it; before that no fault may.
 use Rattle.std.specs.Prelude.{◌≡◌, ◌⊎◌, ℕ, Bool, true, false, Option, Some, None, List, []}
 use Rattle.os9_base.specs.declared.errors.TheConstants.{E_SLF}
 use Rattle.os9_base.specs.declared.registers.Regs.{Regs}
@@ -12,26 +12,26 @@ use Rattle.file_rules.specs.Files.{Files, Asker, DriveState, NoneFailed, OneFail
 
 -- ---- steps
 
--- the steps of what is an `E` in the end
+-- the steps whose result is an `E`
 pub data Step (E : Type 0) : Type 0 where
   -- it is refused with this number, and changes nothing
   refused : ℕ → Step E
-  -- it comes to this
+  -- it has this result
   comes : E → Step E
-  -- it reaches this drive, and goes on so where the drive does not fail
+  -- it reaches this drive, and goes on with this step if the drive does not fail
   reaches : ℕ → Step E → Step E
 
--- it goes on with what there is, or is refused with this number if there is nothing
+-- it goes on with this value, or is refused with this number if there is none
 abbrev pub needs : {A E : Type 0} → Option A → ℕ → (A → Step E) → Step E
 needs None number next = refused number
 needs (Some a) number next = next a
 
--- it is refused with this number if the test is true, and else goes on
+-- it is refused with this number if the test is true, and goes on otherwise
 abbrev pub refuses : {E : Type 0} → Bool → ℕ → Step E → Step E
 refuses true number next = refused number
 refuses false number next = next
 
--- the drive that it reaches, if it reaches one; none of them reaches two
+-- the drive that it reaches, if any; no step reaches two
 abbrev pub drive_of : {E : Type 0} → Step E → Option ℕ
 drive_of (refused number) = None
 drive_of (comes it) = None
@@ -39,7 +39,7 @@ drive_of (reaches drive step) = Some drive
 
 -- ---- what an attempt does
 
--- what an attempt leaves: how it ends, the bytes that it stores from an address on, and the state but for what is kept
+-- the effect of an attempt: its end, the bytes that it stores from an address on, and the state except for what is kept
 -- of a call on a terminal or a pipe
 pub record FileEffect : Type 0 where
   pub end : IoEnd
@@ -53,16 +53,16 @@ leaves end files = record { end = end; at = 0; bytes = []; files = files }
 abbrev pub stores : ℕ → List ℕ → Regs → Files → FileEffect
 stores at bytes regs files = record { end = answers regs; at = at; bytes = bytes; files = files }
 
--- a change of the volume of a drive, and what the attempt leaves beside it, by the number of the file that is made
+-- a change of the volume of a drive, and the effect of the attempt in addition to it, by the number of the new file
 pub record VolumeChange : Type 0 where
   pub drive : ℕ
   pub change : Change
   pub effect : ℕ → FileEffect
 
 pub data Deed : Type 0 where
-  -- it leaves this, and changes no volume
+  -- it has this effect, and changes no volume
   leaves_so : FileEffect → Deed
-  -- it is what the call on a terminal or a pipe does
+  -- it is this call on a terminal or a pipe
   as_io : IoStep → Deed
   -- it changes a volume
   changes : VolumeChange → Deed
@@ -78,15 +78,15 @@ done regs files = comes (leaves_so (leaves (answers regs) files))
 abbrev pub refuses_so : ℕ → Files → FileEffect
 refuses_so number files = leaves (fails number) files
 
--- what it does where no drive fails
+-- what it does if no drive fails
 abbrev pub deed_of : FileStep → Files → Deed
 deed_of (refused number) files = leaves_so (refuses_so number files)
 deed_of (comes deed) files = deed
 deed_of (reaches drive step) files = deed_of step files
 
--- ---- what comes of it
+-- ---- its effect
 
--- what a call on a terminal or a pipe left, in the state of files
+-- the effect of a call on a terminal or a pipe, in the state of files
 abbrev pub on_files : Files → IoEffect → FileEffect
 on_files files it = record { end = it.end; at = it.at; bytes = it.bytes; files = with_io files it.io }
 
@@ -105,14 +105,14 @@ pub record IsChanged (it : VolumeChange) (asker : Asker) (files : Files) (effect
   pub makes : Makes it.change asker.user asker.now old new number
   pub effect_is : effect ≡ with_volume_after (it.effect number) it.drive new
 
--- a cluster that was chosen found no place
+-- a list of segments had no place for a chosen cluster
 pub record IsTooLong (it : VolumeChange) (files : Files) (effect : FileEffect) : Type 0 where
   pub old : DiskVolume
   pub is : volume_at files it.drive ≡ Some old
   pub too_long : MayBeTooLong it.change old
   pub effect_is : effect ≡ refuses_so E_SLF files
 
--- what is done comes to this effect, and leaves the terminals so
+-- what is done has this effect, and leaves these terminals
 abbrev pub DoesDeed : Deed → Asker → Files → FileEffect → List TerminalState → List TerminalState → Type 0
 DoesDeed (leaves_so it) asker files effect before after = (effect ≡ it) × (after ≡ before)
 DoesDeed (as_io step) asker files effect before after =
@@ -129,14 +129,14 @@ pub record GoesWell (step : FileStep) (asker : Asker) (files : Files) (effect : 
   pub none_failed : NoneFailed files.drives drives
   pub effect_is : effect ≡ with_drives_after it drives
 
--- what a fault may leave of a volume where this was to be done
+-- what a fault may leave of a volume on which this was to be done
 abbrev pub MayBeLeft : Deed → Asker → DiskVolume → DiskVolume → Type 0
 MayBeLeft (leaves_so it) asker old left = left ≡ old
 MayBeLeft (as_io step) asker old left = left ≡ old
 MayBeLeft (changes it) asker old left = MayLeave it.change asker.user asker.now old left
 
--- the drive that it reached has failed. The call answers the number of that fault, which it has in this attempt, and
--- but for the volume nothing has changed
+-- the drive that the step reached has failed. The call returns the number of the fault that the drive had in this
+-- attempt, and nothing but the volume and the drives' counts has changed
 pub record IsBroken (step : FileStep) (asker : Asker) (files : Files) (effect : FileEffect) : Type 0 where
   pub drive : ℕ
   pub reached : drive_of step ≡ Some drive
@@ -149,7 +149,7 @@ pub record IsBroken (step : FileStep) (asker : Asker) (files : Files) (effect : 
   pub may_be : MayBeLeft (deed_of step files) asker old left
   pub effect_is : effect ≡ refuses_so number (with_drives (with_volume files drive left) drives)
 
--- an attempt comes to this effect, and leaves the terminals so
+-- an attempt has this effect, and leaves these terminals
 abbrev pub FileDoes : FileStep → Asker → Files → FileEffect → List TerminalState → List TerminalState → Type 0
 FileDoes step asker files effect before after =
     GoesWell step asker files effect before after ⊎ (IsBroken step asker files effect × (after ≡ before))

@@ -1,6 +1,6 @@
--- The way along which a path list leads to a file: where it starts, and the walk from there (System Programmer's
--- Manual, "Path lists"; Level Two manual, device descriptors). It starts at the root of the drive that it names, else
--- at the execution directory of the process where the mode is for execution, or at its data directory.
+-- The way of a path list to a file: where it starts, and the walk from there (System Programmer's Manual, "Path lists";
+-- Level Two manual, device descriptors). It starts at the root of the drive that the list names. Without a device it
+-- starts at the execution directory of the process if the mode is for execution, else at its data directory.
 -- Errors, in this order: E$BPAddr, E$BMode (of the call's mode), E$BPNam, E$MNF; then on the drive E$FNA and E$PNNF at
 -- the first name that fails.
 use Rattle.std.specs.Prelude.{ℕ, ◌-◌, ◌==◌, ◌&&◌, ◌||◌, Bool, true, false, Option, Some, None, Result, Ok, Err, List, length, take, slice_get, if◌then◌else◌}
@@ -30,7 +30,7 @@ pub data Way : Type 0 where
   -- nowhere: the call is refused with this number
   nowhere : ℕ → Way
 
--- a list that starts at a process's directory; without one nothing is found
+-- a list that starts at a process's directory; without a directory nothing is found
 abbrev pub way_from : Option FilePlace → List (List ℕ) → Way
 way_from None names = nowhere E_PNNF
 way_from (Some place) names = along place names
@@ -39,12 +39,12 @@ way_from (Some place) names = along place names
 abbrev pub root_of : ℕ → DiskVolume → FilePlace
 root_of drive v = record { drive = drive; number = (shape v).root }
 
--- a list that starts at a drive, which has a volume or has none
+-- a list that starts at a drive, with a volume or without
 abbrev pub way_on_drive : ℕ → List (List ℕ) → Option DiskVolume → Way
 way_on_drive drive names None = nowhere E_MNF
 way_on_drive drive names (Some v) = along (root_of drive v) names
 
--- no slash may stand behind a terminal or a pipe
+-- no slash may follow a terminal or a pipe
 abbrev pub to_device_of : PathList → Way
 to_device_of list = if has_slash_behind_device list then nowhere E_BPNAM else to_device
 
@@ -55,7 +55,7 @@ way_of_device files list (Some (Drive drive)) = way_on_drive drive list.names (v
 way_of_device files list (Some (Term terminal)) = to_device_of list
 way_of_device files list (Some Pipe) = to_device_of list
 
--- a list on a machine with so many terminals, by the name of its device
+-- a list on a machine with `terms` terminals, by the name of its device
 abbrev pub way_by : Asker → Files → ℕ → Bool → PathList → Option (List ℕ) → Way
 way_by asker files terms execute list None =
     way_from (directory_of files asker.caller.process.0 execute) list.names
@@ -78,7 +78,8 @@ is_root files terms list =
     (length list.names == 0)
     && option_map_or (λ device. is_drive (device_of (length files.drives) terms device)) list.device false
 
--- the way to a place for what is made: nothing is made at a root, or as a directory itself or the one above it
+-- the way to a place for a new file: nothing is made at a root, or with the name of a directory itself or of the one
+-- above it
 abbrev pub way_to_new : Asker → Files → ℕ → Bool → PathList → Way
 way_to_new asker files terms execute list =
     if ends_in_dots list || is_root files terms list then nowhere E_BPNAM
@@ -86,32 +87,32 @@ way_to_new asker files terms execute list =
 
 -- ---- the list
 
--- it goes on with the path list that was read; a list that breaks off is refused before `test`, one without a name
--- after it
+-- it goes on with the path list that was read; a list that breaks off is refused before `test`, a list without a
+-- required name after it
 abbrev pub reads_list : {E : Type 0} → Result PathList NameFault → (Step E → Step E) → (PathList → Step E) → Step E
 reads_list (Ok list) test next = test (next list)
 reads_list (Err Unreadable) test next = refused E_BPADDR
 reads_list (Err NoName) test next = test (refused E_BPNAM)
 
--- the list at X of the process that calls
+-- the list at X of the calling process
 abbrev pub list_of : Asker → Result PathList NameFault
 list_of asker = path_list asker.caller.cells asker.caller.regs.x
 
 -- ---- the walk
 
--- a file that was found, on the volume of its drive
+-- a found file, on the volume of its drive
 pub record Found : Type 0 where
   pub place : FilePlace
   pub volume : DiskVolume
   pub file : DiskFile
 
--- it goes on with the file of a number; a walk arrives at files alone
+-- it goes on with the file of a number; a walk ends at files only
 abbrev pub finds : {E : Type 0} → ℕ → DiskVolume → ℕ → (Found → Step E) → Step E
 finds drive v n next =
     needs (v.files n) E_PNNF
     (λ file. next (record { place = record { drive = drive; number = n }; volume = v; file = file }))
 
--- it goes on from where a walk on a volume ends
+-- it goes on from the end of a walk on a volume
 abbrev pub walk_ends : {E : Type 0} → ℕ → DiskVolume → WalkEnd → (Found → Step E) → Step E
 walk_ends drive v (arrives n) next = finds drive v n next
 walk_ends drive v not_allowed next = refused E_FNA
@@ -124,7 +125,7 @@ walks asker files execute from names next =
     (λ v. reaches from.drive
     (walk_ends from.drive v (walk v.files asker.user execute from.number names) next))
 
--- the last of some names, if there is one, and those before it
+-- the last of some names, if any, and those before it
 abbrev pub last_of : List (List ℕ) → Option (List ℕ)
 last_of names = slice_get names (length names - 1)
 

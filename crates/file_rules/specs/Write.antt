@@ -1,7 +1,7 @@
 -- I$Write, I$WritLn and F$PErr to a file (System Programmer's Manual, I$Write, I$WritLn and F$PErr).
 -- I$Write and I$WritLn take the path in A, the address of the bytes in X and their count, or the most bytes of the
--- line, in Y; they answer the count in Y. F$PErr takes the number in B, and writes its line to standard error. The
--- position moves past what was written; between the old end and a write behind it are zeros.
+-- line, in Y; they return the count in Y. F$PErr takes the number in B, and writes its line to standard error. The
+-- position moves past the bytes written. If a write begins past the old end, zeros fill the gap.
 -- Errors: E$BPAddr, E$BPNum, E$BMode, E$Full, E$SLF.
 use Rattle.std.specs.Prelude.{ℕ, ◌+◌, nat_lt, not, List, length}
 use Rattle.os9_base.specs.declared.errors.TheConstants.{E_BPADDR, E_BMODE, E_FULL}
@@ -21,8 +21,8 @@ use Rattle.file_rules.specs.Files.{Files, Asker, OpenFile, with_position}
 use Rattle.file_rules.specs.OnFile.{on_file, moves_bytes}
 use Rattle.file_rules.specs.Step.{FileStep, comes, reaches, changes, needs, refuses, leaves}
 
--- the file is changed so that it has a size, and this is the state beside it and the registers; it is
--- refused where it needs more clusters than are free
+-- the file is changed to have a size, with these registers and this state in addition to it; the call is refused if it
+-- needs more clusters than are free
 abbrev pub changes_file : Files → OpenFile → Change → ℕ → Regs → Files → FileStep
 changes_file files opened change size regs after =
     reaches opened.place.drive
@@ -41,7 +41,7 @@ writes_bytes files opened bytes regs =
     (length (written opened.file.contents opened.opened.desc.at bytes)) regs
     (with_position files opened.opened (opened.opened.desc.at + length bytes))
 
--- and their count is answered
+-- the same, returning their count
 abbrev pub sends_bytes : Asker → Files → OpenFile → List ℕ → FileStep
 sends_bytes asker files opened bytes =
     moves_bytes asker files opened can_write
@@ -59,7 +59,7 @@ i_writln asker files =
     (λ opened. needs (line_at asker.caller.cells asker.caller.regs.x asker.caller.regs.y) E_BPADDR
     (sends_bytes asker files opened))
 
--- the registers stay
+-- the registers are unchanged
 abbrev pub f_perr : Asker → Files → FileStep
 f_perr asker files =
     on_file asker files STANDARD_ERROR (tells_device asker.caller files.io)

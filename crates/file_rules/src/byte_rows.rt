@@ -9,8 +9,8 @@ ghost use Rattle.file_rules.specs.Rows.{on, volume_e, opened_a, opened_root, end
 ghost use Rattle.file_rules.specs.Step.{comes, as_io};
 ghost use Rattle.file_rules.specs.declared.path_call.PathCall.TheVariants as Call;
 
-/// Bytes are read from the position on, as many as are asked for and are there; a line up to its
-/// carriage return. At the end there is nothing.
+/// Bytes are read from the position on, up to the number asked for or the end of the file; a line
+/// up to its carriage return. At the end there is nothing.
 pub fn bytes_are_read()
     ensures bytes { bytes_on Call.Read (moving 6) (blanks 6) (opened_a 3 1)
         ≡ codes "one" ++ 13 ∷ codes "tw" }
@@ -24,8 +24,8 @@ pub fn bytes_are_read()
     ensures entries { bytes_on Call.Read (moving 64) (blanks 64) opened_root ≡ new_listing 2 2 }
 {}
 
-/// A buffer must be there before the mode is looked at, and a path that is none before both but its
-/// buffer.
+/// A missing buffer is refused before a wrong mode. A number without a path is refused before a
+/// wrong mode, but after a missing buffer.
 pub fn reads_are_refused_in_order()
     ensures buffer { end_on Call.Read (moving 6) (blanks 5) (opened_a 3 2) ≡ fails E_BPADDR }
     ensures mode { end_on Call.Read (moving 6) (blanks 6) (opened_a 3 2) ≡ fails E_BMODE }
@@ -36,7 +36,7 @@ pub fn reads_are_refused_in_order()
 {}
 
 /// Bytes are written at the position, a line up to its carriage return, the line of an error to
-/// standard error. They need clusters where they lie behind the sectors that the file has.
+/// standard error. They need clusters if they lie after the sectors of the file.
 pub fn bytes_are_written()
     ensures bytes { change_on Call.Write (moving 3) (blanks 3) (seeking 12 (opened_a 3 3))
         ≡ writes 4 12 (blanks 3) }
@@ -50,7 +50,7 @@ pub fn bytes_are_written()
         ≡ fails E_FULL }
 {}
 
-/// What is asked of a file: its size and position in X and U, and its end. The first bytes of its
+/// The status of a file: its size and position in X and U, and its end. The first bytes of its
 /// descriptor are its attributes, owner, date, links, size and day.
 pub fn files_tell_their_status()
     ensures size { end_on Call.GetStt (with_code 2) [] (opened_a 3 1)
@@ -66,7 +66,7 @@ pub fn files_tell_their_status()
     ensures locks { end_on Call.SetStt (with_code 0x11) [] (opened_a 3 3) ≡ fails E_UNKSVC }
 {}
 
-/// The size of a file is set by a path that may write, and its attributes for its owner.
+/// The size of a file is set through a path that may write, and its attributes by its owner.
 pub fn status_is_set()
     ensures size { change_on Call.SetStt (record (with_code 2) { u = 300 }) [] (opened_a 3 2)
         ≡ sizes 4 300 }

@@ -8,22 +8,22 @@ ghost use Rattle.file_rules.specs.Files.{Files, Asker, with_drives};
 ghost use Rattle.file_rules.specs.Rows.{on, volume_e, creation, d0_failed, new_opened};
 ghost use Rattle.file_rules.specs.Step.{FileEffect, FileStep, Deed, refused, comes, IsBroken, FileDoes, refuses_so};
 
-/// A creation comes to a file in the first free cluster, with an entry in its directory and a path
-/// on it.
+/// A creation makes a file in the first free cluster, with an entry in its directory and a path on
+/// it.
 pub fn a_file_is_created()
     ensures { (terms : List TerminalState) → FileDoes creation.step creation.asker (on volume_e)
         new_opened terms terms }
 {}
 
-/// A creation may be ended by a fault of its drive, whose count rose: the call answers that fault's
-/// number, and but for the count nothing has changed.
+/// A fault of its drive, whose count rose, may end a creation. The call returns that fault's
+/// number, and nothing but the count has changed.
 pub fn a_creation_may_be_broken()
     ensures { (terms : List TerminalState) → FileDoes creation.step creation.asker (on volume_e)
         (refuses_so E_WRITE (with_drives (on volume_e) d0_failed)) terms terms }
 {}
 
-/// An attempt that does not reach a drive is ended by no fault: one that is refused before it does,
-/// and one that does all that it does without it.
+/// No fault ends an attempt that does not reach a drive: one that is refused before it does, and
+/// one that needs no drive.
 pub fn faults_come_from_drives_that_are_reached()
     ensures refused { (number : ℕ) (asker : Asker) (files : Files) (effect : FileEffect)
         → IsBroken (refused number) asker files effect → ⊥ }
@@ -31,8 +31,8 @@ pub fn faults_come_from_drives_that_are_reached()
         → IsBroken (comes deed) asker files effect → ⊥ }
 {}
 
-/// A fault leaves the files as they were where one was to be made or given other attributes. A file
-/// that was to be deleted has gone, or nothing has changed.
+/// A fault leaves the files unchanged if a file was to be made or given other attributes. A file
+/// that was to be deleted is deleted, or nothing has changed.
 pub fn the_old_tree_stands()
     ensures file { (d attributes user : ℕ) (name : List ℕ) (now : TimePacket) (v left : DiskVolume)
         → MayLeave (creates d name attributes) user now v left → left.files ≡ v.files }

@@ -5,7 +5,7 @@ ghost use Rattle.file_rules.specs.Files.{Files, Asker};
 ghost use Rattle.file_rules.specs.Step.{FileEffect, FileStep, refused, IsBroken, FileDoes};
 
 /// A fault of a drive ends a call with a number, and leaves paths, positions, pipes, terminals and
-/// directories as they were; nothing is stored.
+/// directories unchanged; nothing is stored.
 pub fn faults_keep_all_but_a_volume()
     ensures end { (step : FileStep) (asker : Asker) (files : Files) (effect : FileEffect)
         → (broken : IsBroken step asker files effect) → effect.end ≡ fails broken.number }
@@ -17,8 +17,8 @@ pub fn faults_keep_all_but_a_volume()
         → IsBroken step asker files effect → effect.bytes ≡ [] }
 {}
 
-/// A call that is refused before it reaches a drive ends with that number; volumes, paths and
-/// directories stay, and so do the terminals.
+/// A call that is refused before it reaches a drive ends with that number, and leaves volumes,
+/// paths, directories and terminals unchanged.
 pub fn refusals_change_nothing()
     ensures end { (number : ℕ) (asker : Asker) (files : Files) (effect : FileEffect)
         (before after : List TerminalState)

@@ -1,5 +1,5 @@
-//! What each call on files and directories answers and leaves: the definitions that the bodies of
-//! the calls cite, and the codes of these calls.
+//! The results and effects of each call on files and directories: the definitions that the bodies
+//! of the calls cite, and the codes of these calls.
 #![tactic(auto)]
 
 pub mod byte_rows;

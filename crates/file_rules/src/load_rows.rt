@@ -6,7 +6,7 @@ ghost use Rattle.call_rules.specs.Inner.{regs_at, cells_at};
 ghost use Rattle.file_rules.specs.Load.{Loads};
 ghost use Rattle.file_rules.specs.LoadRows.{first_revision, second_revision, linked_memory, newer_loaded, loaded_by_two, found_by_three, given_up};
 
-/// A file whose module is entered is refused, and one of a newer revision is loaded. A file of
+/// A file with an entered module is refused, and a file with a newer revision is loaded. A file of
 /// zeros has no module.
 pub fn newer_revisions_are_loaded()
     ensures known { Loads linked_memory first_revision (Err E_KWNMOD) }
@@ -14,8 +14,8 @@ pub fn newer_revisions_are_loaded()
     ensures empty { Loads linked_memory (replicate 9 0) (Err E_BMID) }
 {}
 
-/// The newer module is linked by the name then, and the older one is in its place still, and is
-/// found again when the newer one has gone.
+/// The newer module is linked by the name then. The older one stays in its place, and is found
+/// again after the newer one is gone.
 pub fn newer_revisions_are_linked()
     ensures revision { (regs_at loaded_by_two 2).b ≡ 0x82 }
     ensures past { (regs_at loaded_by_two 2).x ≡ 5 }

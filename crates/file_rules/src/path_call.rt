@@ -33,7 +33,7 @@ pub enum PathCall {
     ReadLn,
     /// I$WritLn: writes a line.
     WritLn,
-    /// I$GetStt: asks for the status of a path.
+    /// I$GetStt: gets the status of a path.
     GetStt,
     /// I$SetStt: sets the status of a path.
     SetStt,
@@ -43,7 +43,7 @@ pub enum PathCall {
     PErr,
 }
 
-/// The call on paths, files and directories that has this code; None if it is no such call's.
+/// The call on paths, files and directories with this code; None if there is none.
 pub fn path_call(code: u8) -> Option<PathCall>
     ensures { result ≡ path_call_of code }
 {

@@ -7,8 +7,8 @@ ghost use Rattle.file_rules.specs.Files.{directories_at};
 ghost use Rattle.file_rules.specs.Rows.{on, volume_e, volume_full, volume_a, volume_cmds, volume_of_one, opening_ends, opened_a, end_on, files_on, change_on, with_a, place_of, no_volume, all_paths_used};
 ghost use Rattle.file_rules.specs.declared.path_call.PathCall.TheVariants as Call;
 
-/// The root is opened as a directory, and not as a file or to be written; a file is not opened as a
-/// directory, nor in a mode that its attributes do not have.
+/// The root is opened as a directory, and not as a file or for writing. A file is not opened as a
+/// directory, or in a mode that its attributes do not have.
 pub fn files_and_directories_are_opened()
     ensures root { opening_ends 0x81 (codes "/D0 ") (on volume_e)
         ≡ answers (record zero_regs { a = 3; x = 3 }) }
@@ -22,8 +22,9 @@ pub fn files_and_directories_are_opened()
     ensures no_execution { opening_ends 4 (codes "A ") (on (volume_a 3)) ≡ fails E_FNA }
 {}
 
-/// What is read of the list comes before the mode, the mode before a list without a name, and that
-/// before the device; then the names are walked, and a directory's permission before its names.
+/// An unreadable list is refused before a bad mode, a bad mode before a list without a name, and
+/// that before a missing device. Then the names are walked; a directory's permission is tested
+/// before its names.
 pub fn lists_are_refused_in_order()
     ensures unreadable { opening_ends 0 (codes "/D0/") (on volume_e) ≡ fails E_BPADDR }
     ensures mode { opening_ends 0 (codes "//") (on volume_e) ≡ fails E_BMODE }
@@ -34,8 +35,8 @@ pub fn lists_are_refused_in_order()
     ensures nowhere { opening_ends 1 (codes "A ") no_volume ≡ fails E_PNNF }
 {}
 
-/// A file that says a single user, or is opened by one, is opened once; without a number for it, a
-/// path is refused last.
+/// A single-user file, or a file opened for a single user, is opened once. A path without a free
+/// number is refused last.
 pub fn single_users_share_nothing()
     ensures twice { opening_ends 1 (codes "A ") (opened_a 3 1)
         ≡ answers (record zero_regs { a = 4; x = 1 }) }
@@ -47,8 +48,8 @@ pub fn single_users_share_nothing()
     ensures no_number { opening_ends 1 (codes "A ") all_paths_used ≡ fails E_PTHFUL }
 {}
 
-/// A file is made in its directory, by the last name of its list. Where no cluster is free it is
-/// not, and it is known before that whether its name is there.
+/// A file is made in its directory, with the last name of its list. It is not made if no cluster is
+/// free; whether its name is there is tested before that.
 pub fn files_are_made()
     ensures file { change_on Call.Create (record zero_regs { a = 3; b = 11 }) (codes "/D0/New ")
         (on volume_e) ≡ creates 2 (codes "New") 11 }
@@ -61,8 +62,8 @@ pub fn files_are_made()
     ensures no_write { end_on Call.Create (with_a 1) (codes "New ") (on volume_e) ≡ fails E_BMODE }
 {}
 
-/// A directory is made for what is in B, which may have bit 7 or not. It needs two clusters of one
-/// sector.
+/// A directory is made with the attributes in B, which may have bit 7 or not. It needs two clusters
+/// of one sector.
 pub fn directories_are_made()
     ensures made { change_on Call.MakDir (record zero_regs { b = 0xBF }) (codes "New ")
         (on volume_e) ≡ makes_directory 2 (codes "New") 0xBF }
@@ -73,8 +74,8 @@ pub fn directories_are_made()
     ensures exists { end_on Call.MakDir zero_regs (codes "A ") (on (volume_a 0)) ≡ fails E_CEF }
 {}
 
-/// The first process has the root of D0 for its data, and for execution CMDS in it, if that is
-/// there. A mode for execution changes the execution directory alone.
+/// The first process has the root of D0 for its data, and for execution CMDS in it, if it exists. A
+/// mode for execution changes only the execution directory.
 pub fn directories_of_a_process_change()
     ensures first { directories_at (on volume_cmds) 2
         ≡ record { data_directory = Some (place_of 2); execution_directory = Some (place_of 4) } }
@@ -89,7 +90,7 @@ pub fn directories_of_a_process_change()
     ensures file { end_on Call.ChgDir (with_a 1) (codes "A ") (on (volume_a 3)) ≡ fails E_FNA }
 {}
 
-/// A file is deleted that no path is on, and no directory is. For a file that is not there the
+/// A file without a path on it is deleted, and a directory is not. If a file is not there, its
 /// directory must be one that may be written.
 pub fn files_are_deleted()
     ensures file { change_on Call.Delete zero_regs (codes "a ") (on (volume_a 2))

@@ -1,4 +1,4 @@
-/// Where a file or a directory is: the number of its drive, and that of its descriptor (OS-9
+/// The place of a file or a directory: the number of its drive, and that of its descriptor (OS-9
 /// Technical Reference, Random Block File Manager, "File Descriptors").
 #[derive(Clone, Copy, Debug, PartialEq, Eq)]
 pub struct FilePlace {
@@ -7,7 +7,7 @@ pub struct FilePlace {
 }
 
 /// The directories of a process, at which path lists without a device start (System Programmer's
-/// Manual, I$ChgDir): that of data, and that of programs to execute.
+/// Manual, I$ChgDir): one for data, and one for programs to execute.
 #[derive(Clone, Copy, Debug, PartialEq, Eq)]
 pub struct Directories {
     pub data_directory: Option<FilePlace>,

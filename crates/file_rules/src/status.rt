@@ -13,7 +13,7 @@ pub const SS_FD: u8 = 0x0F;
 /// SS.Attr: the attributes of a file.
 pub const SS_ATTR: u8 = 0x1C;
 
-/// How many bytes of a descriptor SS.FD stores at most.
+/// The most bytes of a descriptor that SS.FD stores.
 pub const DESCRIPTOR_BYTES: u8 = 16;
 
 /// The bit of a mode and of attributes that says a directory.

@@ -1,5 +1,5 @@
--- The volumes of a machine at its start, and the directories of its first process (Level Two manual, "Booting"; which
--- volumes are mounted and which directories the process has is this project's own).
+-- The volumes of a machine at its start, and the directories of its first process (Level Two manual, "Booting"; the
+-- choice of mounted volumes and of directories is this project's own).
 use Rattle.std.specs.Prelude.{◌≡◌, ℕ, ◌+◌, ◌<◌, ◌≤◌, ◌==◌, nat_lt, Option, Some, None, List, [], length, replicate, slice_get, OnOk, Result, Ok, Err, if◌then◌else◌}
 use Rattle.std.specs.Option.{option_map_or}
 use Rattle.rbf_model.specs.File.{DiskFile, is_directory}
@@ -28,13 +28,13 @@ use Rattle.file_start.specs.declared.fault.StartFault.TheVariants.{OutOfMemory, 
 pub record HoldVolumes (volumes : List DiskVolume) (views : List DriveView) : Type 0 where
   pub each : (n : ℕ) (v : DiskVolume) → slice_get volumes n ≡ Some v → DriveHolds views n v
 
--- the media of each of so many first drives represents a volume
+-- the media of each of the first `drives` drives represents a volume
 pub record HaveVolumes (drives : ℕ) (views : List DriveView) : Type 0 where
   pub volumes : List DiskVolume
   pub as_many : length volumes ≡ drives
   pub hold : HoldVolumes volumes views
 
--- these images are in so many first drives
+-- these images are in the first `drives` drives
 pub record HaveImages (drives : ℕ) (images : List (List ℕ)) (views : List DriveView) : Type 0 where
   pub as_many : length images ≡ drives
   pub each : (n : ℕ) (image : List ℕ) → slice_get images n ≡ Some image → media_at views n ≡ Some image
@@ -45,15 +45,15 @@ pub record HaveImages (drives : ℕ) (images : List (List ℕ)) (views : List Dr
 abbrev pub mounted_files : List DiskVolume → List DriveState → Files
 mounted_files volumes drives = record (first_files volumes drives) { directories = replicate 33 no_directories }
 
--- the state is that one
+-- the state stands for those files
 abbrev pub HasMounted : List DiskVolume → FileState → List DriveView → Type 0
 HasMounted volumes state views = StandsFor state views (mounted_files volumes (drive_states views))
 
--- and with the directories of the first process
+-- the same with the directories of the first process
 abbrev pub HasStarted : List DiskVolume → FileState → List DriveView → Type 0
 HasStarted volumes state views = StandsFor state views (first_files volumes (drive_states views))
 
--- the state is that of a machine at its start with these images
+-- the state stands for that of a machine at its start with these images
 pub record StartedOn (images : List (List ℕ)) (state : FileState) (views : List DriveView) : Type 0 where
   pub was : Files
   pub starts : StartsOn images (drive_states views) was
@@ -64,13 +64,13 @@ pub record AreFirst (state : FileState) (views : List DriveView) : Type 0 where
   pub volumes : List DiskVolume
   pub mounted : HasMounted volumes state views
 
--- the volume that the drive of this number holds is mounted there
+-- the volume in the drive of this number is mounted there
 abbrev pub MountsVolume : ℕ → FileState → List DriveView → FileState → List DriveView → Type 0
 MountsVolume n old before new after =
     (files : Files) (v : DiskVolume) → StandsFor old before files → DriveHolds before n v
     → StandsFor new after (with_drives (with_volume files n v) (drive_states after))
 
--- this is the root directory of the volume that is mounted on its drive
+-- the place is the root directory of the volume that is mounted on its drive
 pub record IsRootAt (disks : List (Option Volume)) (views : List DriveView) (root : FilePlace) : Type 0 where
   pub volumes : List (Option DiskVolume)
   pub mounted : AreMounted disks views volumes
@@ -79,18 +79,18 @@ pub record IsRootAt (disks : List (Option Volume)) (views : List DriveView) (roo
   pub each : (volumes : List (Option DiskVolume)) (v : DiskVolume) → AreMounted disks views volumes
       → mounted_at volumes root.drive ≡ Some v → root ≡ root_of root.drive v
 
--- what holds of the volume of a place
+-- a fact of the volume of a place
 abbrev pub OnVolumeOf : List (Option Volume) → List DriveView → FilePlace → (DiskVolume → Type 0) → Type 0
 OnVolumeOf disks views place fact =
     (volumes : List (Option DiskVolume)) (v : DiskVolume) → AreMounted disks views volumes
     → mounted_at volumes place.drive ≡ Some v → fact v
 
--- what holds of the files and of the volume of D0
+-- a fact of the files and of the volume of D0
 abbrev pub OnFirst : FileState → List DriveView → (Files → DiskVolume → Type 0) → Type 0
 OnFirst state views fact =
     (files : Files) (v : DiskVolume) → StandsFor state views files → volume_at files 0 ≡ Some v → fact files v
 
--- the files with the directories of the first process on this volume of D0, and with drives that were read
+-- the files with the first process's directories on this volume of D0, and with these drives after reads
 abbrev pub given : Files → DiskVolume → List DriveView → Files
 given files v views = with_drives (with_directories_of files 2 (directories_on v)) (drive_states views)
 
@@ -98,32 +98,32 @@ given files v views = with_drives (with_directories_of files 2 (directories_on v
 abbrev pub directory_at : FilePlace → DiskFile → Option FilePlace
 directory_at place file = if is_directory file then Some place else None
 
--- the descriptor of the entry that has a name, if these bytes of a directory have one
+-- the descriptor of the entry with a name, if these bytes of a directory have one
 abbrev pub IsNamed : List ℕ → List ℕ → Option ℕ → Type 0
 IsNamed contents name None = look_up contents name ≡ None
 IsNamed contents name (Some n) = (place : ℕ) × IsFoundAt contents name place n
 
 -- ---- faults
 
--- the number of the drive's fault that ended it, if one did
+-- the number of the drive's fault that ended the step, if one did
 abbrev pub start_fault : {A : Type 0} → Result A StartFault → Option ℕ
 start_fault (Ok a) = None
 start_fault (Err OutOfMemory) = None
 start_fault (Err (Drive drive number)) = Some number
 
--- a fault that ended it was one of this drive
+-- a drive fault that ended the step was one of this drive
 abbrev pub FailsOn : {A : Type 0} → ℕ → Result A StartFault → Type 0
 FailsOn n (Ok a) = Unit {0}
 FailsOn n (Err OutOfMemory) = Unit {0}
 FailsOn n (Err (Drive drive number)) = drive ≡ n
 
--- or one of so many first drives
+-- the same for one of the first `drives` drives
 abbrev pub FailsAmong : {A : Type 0} → ℕ → Result A StartFault → Type 0
 FailsAmong drives (Ok a) = Unit {0}
 FailsAmong drives (Err OutOfMemory) = Unit {0}
 FailsAmong drives (Err (Drive drive number)) = drive < drives
 
--- the drives then: none failed, or the one that is named, whose last fault has this number
+-- the drives after the step: none failed, or only the named one, and its last fault has this number
 abbrev pub StartMoves : {A : Type 0} → Result A StartFault → List DriveView → List DriveView → Type 0
 StartMoves (Ok a) before now = NoneFailed (drive_states before) (drive_states now)
 StartMoves (Err OutOfMemory) before now = NoneFailed (drive_states before) (drive_states now)
@@ -131,21 +131,21 @@ StartMoves (Err (Drive drive number)) before now = OneFailed drive number (drive
 
 -- ---- calls of the drives
 
--- the drives were only read, each at most so often
+-- the drives were only read, each at most `most` times
 pub record ReadUpTo (most : ℕ → ℕ) (before after : List DriveView) : Type 0 where
   pub as_many : length after ≡ length before
   pub media : (n : ℕ) → media_at after n ≡ media_at before n
   pub calls : (n : ℕ) → calls_at after n ≤ calls_at before n + most n
 
--- so often one drive, and no other
+-- `most` calls of one drive, and none of any other
 abbrev pub only_drive : ℕ → ℕ → ℕ → ℕ
 only_drive drive most n = if n == drive then most else 0
 
--- to mount the volumes of so many first drives
+-- to mount the volumes of the first `drives` drives
 abbrev pub mounts_calls : ℕ → List DriveView → ℕ → ℕ
 mounts_calls drives views n = if nat_lt n drives then media_calls (media_at views n) else 0
 
--- to look for CMDS in a root: two descriptors and the directory's sectors, and one call more
+-- to look for CMDS in a root: two descriptors, the directory's sectors, and one more call
 abbrev pub search_calls : DiskFile → ℕ
 search_calls root = 3 + sector_count (length root.contents)
 
@@ -158,7 +158,7 @@ abbrev pub start_calls : List DiskVolume → List DriveView → ℕ → ℕ
 start_calls volumes views n =
     mounts_calls (length volumes) views n + only_drive 0 (root_calls (slice_get volumes 0)) n
 
--- what a start on so many first drives did to the drives, as it was answered
+-- the effect on the drives of a start with the first `drives` drives, by its result
 pub record StartsDrives {A : Type 0} (drives : ℕ) (result : Result A StartFault) (before after : List DriveView)
     : Type 0 where
   pub moves : StartMoves result before after
@@ -169,7 +169,7 @@ pub record StartsDrives {A : Type 0} (drives : ℕ) (result : Result A StartFaul
 
 -- ---- the steps of a start, each with the state and the drives before it and after it
 
--- the volume of the drive of this number is mounted, unless the step failed
+-- the volume in the drive of this number is mounted, unless the step failed
 pub record MountsOne (n : ℕ) (result : Result (Unit {0}) StartFault) (old new : FileState)
     (before after : List DriveView) : Type 0 where
   pub mounted : OnOk result (MountsVolume n old before new after)
@@ -177,7 +177,7 @@ pub record MountsOne (n : ℕ) (result : Result (Unit {0}) StartFault) (old new 
   pub moves : StartMoves result before after
   pub fails : FailsOn n result
 
--- the volumes of so many first drives are mounted, unless it failed
+-- the volumes of the first `drives` drives are mounted, unless the step failed
 pub record MountsFirst (drives : ℕ) (result : Result (Unit {0}) StartFault) (old new : FileState)
     (before after : List DriveView) : Type 0 where
   pub mounted : (volumes : List DiskVolume) → length volumes ≡ drives → HoldVolumes volumes before
@@ -186,7 +186,7 @@ pub record MountsFirst (drives : ℕ) (result : Result (Unit {0}) StartFault) (o
   pub moves : StartMoves result before after
   pub among : FailsAmong drives result
 
--- the first process has its directories, unless it failed: on the volume of D0, if one is mounted there
+-- unless the step failed, the first process has its directories: on the volume of D0, if one is mounted there
 pub record GivesDirectories (result : Result (Unit {0}) StartFault) (old new : FileState)
     (before after : List DriveView) : Type 0 where
   pub stands : (volumes : List DiskVolume) → HasMounted volumes old before
@@ -196,7 +196,7 @@ pub record GivesDirectories (result : Result (Unit {0}) StartFault) (old new : F
   pub moves : StartMoves result before after
   pub among : (volumes : List DiskVolume) → HasMounted volumes old before → FailsAmong (length volumes) result
 
--- the same where a volume is mounted on D0
+-- the same if a volume is mounted on D0
 pub record GivesRoot (result : Result (Unit {0}) StartFault) (old new : FileState) (before after : List DriveView)
     : Type 0 where
   pub stands : OnFirst old before (λ files v. OnOk result (StandsFor new after (given files v after)))

@@ -21,7 +21,7 @@ use rbf_sector::{Fd, read_entry};
 use std::alloc::Global;
 
 /// The directory CMDS in the root of a volume, with the case of letters ignored; None if the root
-/// has no such name, or a file by it.
+/// has no such name, or if the name is a file's.
 ///
 /// # Errors
 ///
@@ -94,7 +94,7 @@ fn if_directory(fd: &Fd, place: FilePlace) -> Option<FilePlace>
     if is_directory(fd) { Some(place) } else { None }
 }
 
-/// Is the file that has a descriptor a directory (OS-9 Technical Reference, File Descriptors,
+/// Does a descriptor say that its file is a directory (OS-9 Technical Reference, File Descriptors,
 /// FD.ATT)?
 fn is_directory(fd: &Fd) -> bool
     ensures { (file : DiskFile) → IsFdOf file fd.now → result ≡ is_directory_lem file }
@@ -129,7 +129,7 @@ fn contents(
     }
 }
 
-/// So many zeros.
+/// `count` zeros.
 fn zeros(alloc: Global, count: u32) -> Result<Vec<u8>, StartFault>
     ensures count { IfOk result (λ bytes. length bytes.items ≡ count) }
     ensures fault { start_fault result ≡ None }
@@ -185,9 +185,9 @@ fn read_whole(
     }
 }
 
-/// The descriptor that the bytes of a directory name so, with the case of letters ignored; None if
-/// no used entry has the name (OS-9 Technical Reference, Random Block File Manager,
-/// "Directories").
+/// The number of the descriptor of the entry with this name in a directory's bytes, with the case
+/// of letters ignored; None if no used entry has the name (OS-9 Technical Reference, Random Block
+/// File Manager, "Directories").
 fn entry_named(directory: &[u8], name: &Name) -> Option<u32>
     ensures { IsNamed directory.now name.now result }
 {
@@ -200,7 +200,7 @@ fn entry_named(directory: &[u8], name: &Name) -> Option<u32>
     None
 }
 
-/// The entry in a place of a directory.
+/// The entry at place `i` of a directory.
 fn entry_at(directory: &[u8], i: usize) -> [u8; 32]
     requires { i < length directory.now / 32 }
     ensures { result ≡ directory_entry directory.now i }
@@ -211,7 +211,7 @@ fn entry_at(directory: &[u8], i: usize) -> [u8; 32]
     entry
 }
 
-/// Is the entry used, and has it this name, with the case of letters ignored?
+/// Is the entry used, and does it have this name, with the case of letters ignored?
 fn has_name(entry: &[u8; 32], name: &Name) -> bool
     ensures { result ≡ entry_has_name name.now entry.now }
 {

@@ -4,7 +4,7 @@
 #[derive(Clone, Copy, Debug, PartialEq, Eq)]
 pub enum StartFault {
     OutOfMemory,
-    /// A call of the drive of this number failed, with the error of this number (System
+    /// A call of the drive of the first number failed, with the error of the second number (System
     /// Programmer's Manual, error codes).
     Drive(u8, u8),
 }

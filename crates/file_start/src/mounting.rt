@@ -13,7 +13,7 @@ use os9_outer::drive::BlockDriver;
 use rbf_access::VolFault;
 use std::alloc::Global;
 
-/// Mounts the volumes of so many first drives.
+/// Mounts the volumes of the first `drives` drives.
 ///
 /// # Errors
 ///

@@ -16,11 +16,10 @@ use std::alloc::Global;
 /// The number of the first process.
 const FIRST_PROCESS: usize = 2;
 
-/// The state of input and output at the start of a machine, whose first process is process 2: the
-/// volumes of so many first drives are mounted, and the process has the root of D0 as its directory
-/// for data, and for execution the directory CMDS in it, or the root where there is none. Without
-/// drives it has no directory (Level Two manual, "Booting"; the directories are this project's
-/// own).
+/// The state of input and output at the start of a machine. The volumes of the first `drives`
+/// drives are mounted. The first process, process 2, has the root of D0 as its data directory. Its
+/// execution directory is CMDS in that root, or the root if there is no CMDS. Without drives it has
+/// no directory (Level Two manual, "Booting"; the directories are this project's own).
 ///
 /// # Errors
 ///
@@ -51,7 +50,7 @@ pub fn start_files(
     }
 }
 
-/// The state without a volume and without a directory.
+/// The state without volumes and without directories.
 fn new_state(alloc: Global) -> Result<FileState, StartFault>
     ensures state { IfOk result (λ state. (views : List DriveView) → length views ≤ 4
         → HasMounted [] state views) }

@@ -1,4 +1,4 @@
--- What an attempt of a call on paths, files and directories comes to, of the kernel's processes and its files.
+-- What an attempt of a call on paths, files and directories does to the kernel's processes and its files.
 use Rattle.std.specs.Prelude.{ℕ, List}
 use Rattle.std.specs.declared.alloc.Global.{Global}
 use Rattle.std.specs.declared.dyn_box.DynBox.{DynBox}
@@ -18,8 +18,8 @@ use Rattle.file_laws.specs.Kinds.{AreKinds}
 use Rattle.file_state.specs.Tie.{StandsFor}
 use Rattle.file_state.specs.declared.state.FileState.{FileState}
 
--- an attempt of a call by a process, at a time: how it ends, and the processes, the files and the terminals then; its
--- process is not told yet
+-- an attempt of a call by a process, at a time: its end, and the processes, the files and the terminals after it; the
+-- result is not yet given to the process
 pub record Attempts (call : PathCall) (m : Inner) (files : Files) (now : TimePacket) (p : ℕ) (end : CallEnd)
     (processes : ProcState) (new : FileState) (views : List DriveView) (before after : List TerminalState)
     : Type 0 where
@@ -29,7 +29,7 @@ pub record Attempts (call : PathCall) (m : Inner) (files : Files) (now : TimePac
   pub comes : Comes m p result end processes
   pub stands : StandsFor new views left
 
--- ---- from any state that the kernel's stands for
+-- ---- from any state that the kernel's state stands for
 
 -- the kernel's processes, its files, and the drives
 pub record Standing : Type 0 where
@@ -37,19 +37,19 @@ pub record Standing : Type 0 where
   pub files : FileState
   pub views : List DriveView
 
--- with these drives, as `standing ⟦<dyn BlockDriver as BlockDriver>⟧ s.old files.old devices.old.drives.items`
+-- the same with these drives, as `standing ⟦<dyn BlockDriver as BlockDriver>⟧ s.old files.old devices.old.drives.items`
 abbrev pub standing : {Table : Type 0} {Driver : Table → Type 0} → ((table : Table) → Ghosts (Driver table)) → ProcState
     → FileState → List (DynBox Table Global Driver) → Standing
 standing members processes files drives =
     record { processes = processes; files = files; views = drive_views members drives }
 
--- what holds of each state of the machine that it stands for, with paths and directories on what is there
+-- a fact of each state of the machine that it stands for, in which the targets of paths and directories exist
 abbrev pub OnEach : Standing → (Inner → Files → Type 0) → Type 0
 OnEach before fact =
     (m : Inner) (was : Files) → Represents before.processes m → StandsFor before.files before.views was → AreKinds was
     → fact m was
 
--- an attempt of a call by a process, at a time, from each of them
+-- an attempt of a call by a process, at a time, from each such state
 abbrev pub AttemptsFrom : PathCall → TimePacket → ℕ → CallEnd → List TerminalState → List TerminalState → Standing
     → Standing → Type 0
 AttemptsFrom call now p end terms terms_after before after =

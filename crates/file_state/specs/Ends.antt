@@ -1,4 +1,4 @@
--- How an attempt of a call on files ends that is a step from here on.
+-- The end of an attempt of a call on files that is a step from here on.
 use Rattle.std.specs.Prelude.{ℕ, List}
 use Rattle.os9_base.specs.declared.call.CallEnd.{CallEnd}
 use Rattle.os9_base.specs.declared.registers.TimePacket.{TimePacket}
@@ -16,8 +16,8 @@ use Rattle.file_state.specs.Media.{KeepsDrives}
 use Rattle.file_state.specs.Tie.{StandsFor}
 use Rattle.file_state.specs.declared.state.FileState.{FileState}
 
--- an attempt of a process, at a time, comes to what the step has, and calls the drives at most so often where it
--- reaches one: so it ends, and these are the processes, the state and the drives then. The terminals are as they were
+-- an attempt of a process, at a time, does what the step says, and calls the drives at most `most` times if it reaches
+-- one. It has this end, and these are the processes, the state and the drives after it. The terminals are unchanged
 pub record Ends (step : FileStep) (most : ℕ) (m : Inner) (files : Files) (now : TimePacket) (p : ℕ) (end : CallEnd)
     (processes : ProcState) (new : FileState) (before after : List DriveView) (terms : List TerminalState) : Type 0
   where

@@ -1,5 +1,5 @@
--- What an attempt of a call on files leaves of the drives and of their media, with what no volume shows of these (this
--- project's own).
+-- The effect of an attempt of a call on files on the drives and their media, including what no volume shows of them
+-- (this project's own).
 use Rattle.std.specs.Prelude.{◌≡◌, ◌≢◌, ◌⊎◌, ℕ, Some, List, slice_get, Result, Ok, Err}
 use Rattle.os9_base.specs.declared.call.CallEnd.{CallEnd}
 use Rattle.os9_base.specs.declared.call.CallEnd.TheVariants.{Done, Error, Wait, Ended, NoMemory}
@@ -14,9 +14,9 @@ use Rattle.file_rules.specs.Step.{Deed, FileStep, VolumeChange, as_io, changes, 
 use Rattle.file_drives.specs.Changed.{AnswersOnDisk}
 use Rattle.file_drives.specs.Drives.{DriveView, KeepsIdent, drive_states, media_at, media_of}
 
--- ---- the media where a volume is changed
+-- ---- the media after a volume is changed
 
--- the file that is changed, or the directory in which one is made or deleted
+-- the changed file, or the directory in which a file is made or deleted
 abbrev pub file_changed : Change → ℕ
 file_changed (writes n at bytes) = n
 file_changed (sizes n size) = n
@@ -25,7 +25,7 @@ file_changed (creates d name attributes) = d
 file_changed (makes_directory d name attributes) = d
 file_changed (deletes d n name) = d
 
--- the media of the drive is as the disk's own call leaves it that makes the change and answers this
+-- the disk's own call that makes the change has this result, and leaves this media of the drive
 pub record ChangesDisk (it : VolumeChange) (asker : Asker) (files : Files) (answer : Result ℕ DirError)
     (before after : List DriveView) : Type 0 where
   pub volume : DiskVolume
@@ -41,7 +41,7 @@ pub record BreaksDisk (it : VolumeChange) (asker : Asker) (files : Files) (numbe
   pub failed : OneFailed it.drive number (drive_states before) (drive_states after)
   pub left : ChangesDisk it asker files (Err (File (Device number))) before after
 
--- by how the attempt ends: the change is made; or a fault has ended it, or all media are as they were
+-- by the end of the attempt: the change is made; or a fault has ended it, or all media are unchanged
 abbrev pub MediaAfterChange : VolumeChange → Asker → Files → CallEnd → List DriveView → List DriveView → Type 0
 MediaAfterChange it asker files Done before after = (n : ℕ) × ChangesDisk it asker files (Ok n) before after
 MediaAfterChange it asker files (Error number) before after =
@@ -52,17 +52,17 @@ MediaAfterChange it asker files NoMemory before after = ⊥
 
 -- ---- the drives
 
--- by what is done; a call that is to be refused changes no volume
+-- by what is done; a call that has to be refused changes no volume
 abbrev pub MediaAfter : Deed → Asker → Files → CallEnd → List DriveView → List DriveView → Type 0
 MediaAfter (leaves_so it) asker files end before after = media_of after ≡ media_of before
 MediaAfter (as_io step) asker files end before after = media_of after ≡ media_of before
 MediaAfter (changes it) asker files end before after = MediaAfterChange it asker files end before after
 
--- what an attempt of this step leaves of the drives, whether one of them fails or not
+-- the effect of an attempt of this step on the drives, whether one of them fails or not
 pub record KeepsDrives (step : FileStep) (asker : Asker) (files : Files) (end : CallEnd) (before after : List DriveView)
     : Type 0 where
-  -- the drives that it does not reach are as they were
+  -- the drives that it does not reach are unchanged
   pub others : (n : ℕ) → drive_of step ≢ Some n → slice_get after n ≡ slice_get before n
   pub media : MediaAfter (deed_of step files) asker files end before after
-  -- in any case all media are as long as they were, and their first sectors are as they were
+  -- in any case all media keep their length and their first sectors
   pub ident : (n : ℕ) → KeepsIdent (media_at before n) (media_at after n)

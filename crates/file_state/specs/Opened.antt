@@ -15,11 +15,11 @@ use Rattle.file_drives.specs.Mounted.{HasDataFileAt, HasFileAt}
 use Rattle.file_state.specs.declared.state.FileState.{FileState}
 use Rattle.file_state.specs.declared.state.OpenFile.{OpenFile}
 
--- the path of a file that is open
+-- the path of an open file
 abbrev pub path_of : OpenFile → OpenPath
 path_of opened = record { path = opened.path; desc = opened.desc }
 
--- a number of a process names this file or directory, which is there
+-- a number of a process names this file or directory, which exists
 pub record IsFileOf (state : FileState) (views : List DriveView) (files : Files) (p n : ℕ) (opened : OpenFile) : Type 0
   where
     pub found : Found
@@ -33,14 +33,14 @@ pub record IsFileOf (state : FileState) (views : List DriveView) (files : Files)
     pub unwritten : opened.is_directory ≡ true → can_write opened.desc.mode ≡ false
     pub data_file : opened.is_directory ≡ false → HasDataFileAt state.disks views opened.place
 
--- by the answer: the file or directory that a number of a process names, or it names none
+-- by the result: the file or directory that a number of a process names, or it names none
 abbrev pub NamesFile : FileState → List DriveView → Files → ℕ → ℕ → Option OpenFile → Type 0
 NamesFile state views files p n None = open_file files p n ≡ None
 NamesFile state views files p n (Some opened) = IsFileOf state views files p n opened
 
 -- ---- by descriptors and directories
 
--- the file or directory of a path that was opened on this
+-- the file or directory of a path with this target
 abbrev pub opened_by : SysPath → Desc → Target → Option OpenFile
 opened_by path desc (File drive number) =
     Some (record { path = path; desc = desc; place = record { drive = drive; number = number }; is_directory = false })
@@ -49,7 +49,7 @@ opened_by path desc (Folder drive number) =
 opened_by path desc (Term terminal) = None
 opened_by path desc (Pipe pipe) = None
 
--- the one for execution, or the one for data
+-- the execution directory, or the data directory
 abbrev pub directory_in : Directories → Bool → Option FilePlace
 directory_in directories execute =
     if execute then directories.execution_directory else directories.data_directory

@@ -1,4 +1,4 @@
--- What calls of one drive leave of the kernel's files, in the words of the calls on files.
+-- What calls of one drive leave of the kernel's files, in the terms of the calls on files.
 use Rattle.std.specs.Prelude.{◌≡◌, ◌≢◌, ◌⊎◌, ℕ, true, Option, Some, None, List, slice_get, Result, Ok, Err}
 use Rattle.rbf_model.specs.File.{DiskFile}
 use Rattle.rbf_model.specs.Volume.{DiskVolume}
@@ -13,16 +13,16 @@ use Rattle.file_drives.specs.Mounted.{DriveHolds, kept_at}
 use Rattle.file_state.specs.Tie.{StandsFor}
 use Rattle.file_state.specs.declared.state.FileState.{FileState}
 
--- the drives after calls of this one, which the fault of this number ended, or none
+-- the drives after calls of this one, which ended with the fault of this number, or without a fault
 abbrev pub DrivesMove : Option ℕ → ℕ → List DriveState → List DriveState → Type 0
 DrivesMove None drive before now = NoneFailed before now
 DrivesMove (Some number) drive before now = OneFailed drive number before now
 
--- all drives but this one are as they were
+-- all drives but this one are unchanged
 abbrev pub OthersStay : ℕ → List DriveView → List DriveView → Type 0
 OthersStay drive before now = (n : ℕ) → n ≢ drive → slice_get now n ≡ slice_get before n
 
--- the drive was read, and the files and the media are as they were
+-- the drive was read, and the files and the media are unchanged
 pub record HasRead (fault : Option ℕ) (drive : ℕ) (files : Files) (new : FileState) (before now : List DriveView)
     : Type 0 where
   pub moved : DrivesMove fault drive files.drives (drive_states now)
@@ -30,8 +30,8 @@ pub record HasRead (fault : Option ℕ) (drive : ℕ) (files : Files) (new : Fil
   pub media_kept : media_of now ≡ media_of before
   pub others : OthersStay drive before now
 
--- a change of the volume `v` of the drive was asked for, and this was answered; `file` is the file that was to change,
--- or the directory in which a file was to be made or deleted
+-- a change of the volume `v` of the drive was asked for, with this result; `file` is the file to change, or the
+-- directory in which a file was to be made or deleted
 pub record HasChanged (asked : Asked) (answer : Result ℕ DirError) (drive : ℕ) (v : DiskVolume) (file : DiskFile)
     (files : Files) (new : FileState) (before now : List DriveView) : Type 0 where
   pub left : DiskVolume
@@ -39,7 +39,7 @@ pub record HasChanged (asked : Asked) (answer : Result ℕ DirError) (drive : �
   pub moved : DrivesMove (directory_fault answer) drive files.drives (drive_states now)
   pub stands : StandsFor new now (with_drives (with_volume files drive left) (drive_states now))
   pub others : OthersStay drive before now
-  -- where it is refused, or was to be when the drive failed, the media are as they were
+  -- if it is refused, or had to be when the drive failed, the media are unchanged
   pub refused : IsRefused answer ⊎ (is_refused asked v file ≡ true) → media_of now ≡ media_of before
   -- the media of the drive is as the disk's own call leaves it
   pub disk : AnswersOnDisk asked.change asked.user asked.now v file answer (media_at before drive) (media_at now drive)
@@ -47,8 +47,8 @@ pub record HasChanged (asked : Asked) (answer : Result ℕ DirError) (drive : �
 
 -- ---- mounting
 
--- by the answer of an attempt to mount the volume of this drive: it is mounted there, or what was mounted is mounted
--- still
+-- by the result of an attempt to mount the volume of this drive: it is mounted there, or each mounted volume is still
+-- mounted
 abbrev pub MountsOn : Result (Unit {0}) VolFault → ℕ → FileState → List DriveView → FileState → List DriveView → Type 0
 MountsOn (Ok done) n old before new after =
     (files : Files) (v : DiskVolume) → StandsFor old before files → DriveHolds before n v
@@ -56,6 +56,6 @@ MountsOn (Ok done) n old before new after =
 MountsOn (Err fault) n old before new after =
     (files : Files) → StandsFor old before files → StandsFor new after (with_drives files (drive_states after))
 
--- what is kept for every other drive stays
+-- the state kept for every other drive is unchanged
 abbrev pub OthersKept : ℕ → List (Option Volume) → List (Option Volume) → Type 0
 OthersKept n before after = (m : ℕ) → m ≢ n → kept_at after m ≡ kept_at before m

@@ -1,4 +1,4 @@
--- How the kernel's files are tied to those of the machine.
+-- The relation between the kernel's files and those of the machine.
 use Rattle.std.specs.Prelude.{◌≡◌, List}
 use Rattle.file_rules.specs.Files.{Files}
 use Rattle.file_drives.specs.Drives.{DriveView, drive_states}
@@ -13,7 +13,7 @@ pub record StandsFor (state : FileState) (views : List DriveView) (files : Files
   pub drives : files.drives ≡ drive_states views
   pub mounted : AreMounted state.disks views files.volumes
 
--- the kernel's files are those of some state in which paths and directories are on what is there
+-- the kernel's files are those of some state in which the targets of paths and directories exist
 pub record IsSound (state : FileState) (views : List DriveView) : Type 0 where
   pub files : Files
   pub stands : StandsFor state views files

@@ -1,4 +1,4 @@
-//! The kernel's state of input and output with its disks, and what calls of the drives leave of it.
+//! The kernel's state of input and output with its disks, and the effect of drive calls on it.
 #![tactic(auto)]
 
 pub mod state;

@@ -38,7 +38,7 @@ const NO_DIRECTORIES: Directories = Directories {
     execution_directory: None,
 };
 
-/// Paths, terminals, pipes and waiting calls, the volumes that are mounted on the drives, and the
+/// Paths, terminals, pipes and pending calls, the volumes mounted on the drives, and the
 /// directories of each process, by its number (Level Two manual, "I/O system"; OS-9 Technical
 /// Reference, Random Block File Manager).
 #[derive(Drop)]
@@ -48,7 +48,7 @@ pub struct FileState {
     pub directories: [Directories; PROCESSES],
 }
 
-/// A path on a file or a directory: its system path, its descriptor, and where the file is.
+/// A path on a file or a directory: its system path, its descriptor, and the place of the file.
 #[derive(Clone, Copy, Debug, PartialEq, Eq)]
 pub struct OpenFile {
     pub path: SysPath,
@@ -77,13 +77,13 @@ impl FileState {
         })
     }
 
-    /// Mounts the volume that the media of a drive holds, in place of the one that was mounted
-    /// there. Paths, directories and what is kept of the other drives stay.
+    /// Mounts the volume on the media of drive `n`, in place of the one that was mounted there.
+    /// Paths, directories and the state kept for the other drives are unchanged.
     ///
     /// # Errors
     ///
     /// `NotRbf` if the drive has no media or the media holds no RBF volume, `Device` if a read of
-    /// the drive fails, or out of memory. What was mounted is mounted still then.
+    /// the drive fails, or out of memory. Each mounted volume is still mounted then.
     pub fn mount(&mut self, alloc: Global, n: u8, devices: &mut Devices) -> Result<(), VolFault>
         requires drive { n < vec_len devices.old.drives }
         requires few { n < 4 }
@@ -133,8 +133,9 @@ impl FileState {
         self.io.is_on_path(place.drive, place.number)
     }
 
-    /// May a file with these attributes not be opened with a mode: is another path on it, and the
-    /// file, the mode or such a path for a single user (OS-9 Technical Reference, FD.ATT)?
+    /// Is a file with these attributes barred from being opened with a mode: is another path on it,
+    /// and is the file, the mode or such a path for a single user (OS-9 Technical Reference,
+    /// FD.ATT)?
     pub fn is_not_shared(&self, place: FilePlace, attributes: u8, mode: u8) -> bool
         ensures { (views : List DriveView) (files : Files) (found : Found)
             → StandsFor self.now views files → found.place ≡ place
@@ -153,8 +154,8 @@ impl FileState {
             .is_on_path_of_mode(place.drive, place.number, SINGLE_USER)
     }
 
-    /// The directory of a process at which a path list starts that is for execution, or is not
-    /// (System Programmer's Manual, I$ChgDir); None if it has none.
+    /// The directory of a process at which its path lists start, for execution or not (System
+    /// Programmer's Manual, I$ChgDir); None if it has none.
     pub fn directory(&self, p: Pid, execute: bool) -> Option<FilePlace>
         requires { p.0 < 33 }
         ensures directory { (views : List DriveView) (files : Files)
@@ -178,8 +179,8 @@ impl FileState {
         self.directories[p.0 as usize] = with_chosen(directories, execute, place);
     }
 
-    /// A new process is given images of its parent's standard paths and its parent's directories
-    /// (System Programmer's Manual, F$Fork). No call of it is kept.
+    /// Gives a new process images of its parent's standard paths and its parent's directories
+    /// (System Programmer's Manual, F$Fork). The new process has no pending call.
     pub fn start(&mut self, parent: Pid, child: Pid)
         requires parent { parent.0 < 33 }
         requires child { child.0 < 33 }
@@ -191,7 +192,7 @@ impl FileState {
         self.directories[child.0 as usize] = self.directories[parent.0 as usize];
     }
 
-    /// A process ends (System Programmer's Manual, F$Exit): its paths are closed, what it waits for
+    /// Ends a process (System Programmer's Manual, F$Exit): its paths are closed, its pending call
     /// is dropped, and it has no directory any more.
     pub fn end(&mut self, p: Pid)
         requires { p.0 < 33 }
@@ -203,7 +204,7 @@ impl FileState {
     }
 }
 
-/// What a path is opened on at the place of a file or a directory.
+/// The target of a path on the file or directory at a place.
 pub fn target_on(place: FilePlace, is_directory: bool) -> Target
     ensures target { (file : DiskFile) → is_directory_lem file ≡ is_directory
         → result ≡ target_on_lem file place }
@@ -216,7 +217,7 @@ pub fn target_on(place: FilePlace, is_directory: bool) -> Target
     }
 }
 
-/// The file or directory of a path that was opened on one.
+/// The file or directory that a path is on, if it is on one.
 fn opened_on(path: SysPath, desc: Desc) -> Option<OpenFile>
     ensures { result ≡ opened_by path desc desc.target }
 {
@@ -237,14 +238,14 @@ fn opened_on(path: SysPath, desc: Desc) -> Option<OpenFile>
     }
 }
 
-/// Do a mode or attributes say a single user?
+/// Does a mode or an attribute byte say a single user?
 fn is_single(bits: u8) -> bool
     ensures { result ≡ is_single_lem bits }
 {
     bits & SINGLE_USER != 0
 }
 
-/// The directory for execution, or the one for data.
+/// The execution directory, or the data directory.
 fn chosen(directories: Directories, execute: bool) -> Option<FilePlace>
     ensures { result ≡ directory_in directories execute }
 {

@@ -1,4 +1,4 @@
--- Calls for the status of a file: the file of a path, how a call leaves the state, and how often it calls the drive.
+-- Calls for the status of a file: the file of a path, the state after a call, and the greatest number of drive calls.
 use Rattle.std.specs.Prelude.{◌≡◌, ℕ, ◌==◌, Some, None, List, if◌then◌else◌}
 use Rattle.std.specs.Option.{option_map_or}
 use Rattle.os9_base.specs.declared.call.CallEnd.{CallEnd}
@@ -28,11 +28,11 @@ use Rattle.file_state.specs.Tie.{StandsFor}
 use Rattle.file_state.specs.declared.state.FileState.{FileState}
 use Rattle.file_state.specs.declared.state.OpenFile.{OpenFile as KernelFile}
 
--- the state where nothing is kept of a call of a process
+-- the state in which nothing is kept of a call of a process
 abbrev pub uncalled : FileState → ℕ → FileState
 uncalled files p = record files { io = with_call files.io p None }
 
--- a path on a file, as the kernel has it, is this one of the machine
+-- a path on a file in the kernel is this path of the machine
 pub record IsOpen (files : Files) (opened : KernelFile) (it : OpenFile) : Type 0 where
   pub path_is : it.opened.path ≡ opened.path
   pub desc_is : it.opened.desc ≡ opened.desc
@@ -41,8 +41,8 @@ pub record IsOpen (files : Files) (opened : KernelFile) (it : OpenFile) : Type 0
   pub volume_is : volume_at files opened.place.drive ≡ Some it.volume
   pub file_is : it.volume.files opened.place.number ≡ Some it.file
 
--- a call of a process on this path, at a time, ends as the step has it, and calls the drive at most so often where it
--- reaches it, from each state of the machine that the kernel's stands for
+-- a call of a process on this path, at a time, ends as the step says, and calls the drive at most `most` times if it
+-- reaches the drive, from each state of the machine that the kernel's state stands for
 abbrev pub EndsOn : KernelFile → (Asker → Files → OpenFile → FileStep) → (Asker → OpenFile → ℕ) → TimePacket → ℕ
     → CallEnd → Standing → Standing → Type 0
 EndsOn opened step most now p end before after =
@@ -62,33 +62,33 @@ abbrev pub gets_options : Asker → Files → OpenFile → FileStep
 gets_options asker files opened =
     gets_bytes asker files OPTION_BYTES (λ step. step) (options opened.opened.desc.target)
 
--- the status of the code in B: what is asked for, and what is set
+-- by the code in B: getting the status, and setting it
 abbrev pub gets_by_code : Asker → Files → OpenFile → FileStep
 gets_by_code asker files opened = gets_status asker files opened asker.caller.regs.b
 
 abbrev pub sets_by_code : Asker → Files → OpenFile → FileStep
 sets_by_code asker files opened = sets_status asker files opened asker.caller.regs.b
 
--- ---- how often the drive is called at most
+-- ---- the greatest number of drive calls
 
 -- the descriptor is read
 abbrev pub getting_calls : Asker → OpenFile → ℕ
 getting_calls asker opened = 1
 
--- for a size that a file is given: a sector of the map has a mark for each cluster that it gains at most
+-- for a new size of a file: at most one sector of the map has a mark for each cluster that the file gains
 abbrev pub sizing_calls : Asker → OpenFile → ℕ → ℕ
 sizing_calls asker opened size =
     size_calls opened.volume opened.file
     (clusters_needed (cluster_size opened.volume) opened.file.segments size)
     (record { number = opened.place.number; size = size; now = asker.now })
 
--- for what this code sets
+-- for the setting with this code
 abbrev pub setting_calls : ℕ → Asker → OpenFile → ℕ
 setting_calls code asker opened =
     if code == SS_SIZE then sizing_calls asker opened (long_of asker.caller.regs)
     else attribute_calls opened.file asker.user
 
--- for what the code in B sets
+-- for the setting with the code in B
 abbrev pub calls_by_code : Asker → OpenFile → ℕ
 calls_by_code asker opened = setting_calls asker.caller.regs.b asker opened
 

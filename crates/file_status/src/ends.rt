@@ -1,4 +1,4 @@
-//! How calls on files end.
+//! The ends of calls on files.
 
 ghost use Rattle.std.specs.Prelude.{◌≡◌, ◌<◌, None};
 ghost use Rattle.io_rules.specs.Io.{kept_at};
@@ -12,7 +12,7 @@ use os9_base::call::CallEnd;
 use os9_base::registers::{Pid, Regs};
 use proc_state::state::ProcState;
 
-/// The call is refused with this number. Nothing is kept of it.
+/// Refuses the call with this number. Nothing is kept of the call.
 pub(crate) fn refuse(files: &mut FileState, p: Pid, number: u8) -> CallEnd
     requires process { p.0 < 33 }
     requires first { kept_at files.old.io p.0 ≡ None }
@@ -23,7 +23,7 @@ pub(crate) fn refuse(files: &mut FileState, p: Pid, number: u8) -> CallEnd
     CallEnd::Error(number)
 }
 
-/// The call is done, and its process has these registers. Nothing is kept of it.
+/// Ends the call as done, with these registers of its process. Nothing is kept of the call.
 pub(crate) fn answer(s: &mut ProcState, files: &mut FileState, p: Pid, regs: Regs) -> CallEnd
     requires lives { IsLiving s.old.table p.0 }
     requires first { kept_at files.old.io p.0 ≡ None }

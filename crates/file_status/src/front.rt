@@ -1,4 +1,4 @@
-//! What is told of a file in bytes and in registers.
+//! What a call returns of a file, in bytes and in registers.
 
 ghost use Rattle.std.specs.Prelude.{◌≡◌, ◌∷◌, ◌++◌, IsSome};
 ghost use Rattle.io_model.specs.declared.path.Target.{Target};
@@ -14,10 +14,10 @@ use io_rules::status::OPTION_BYTES;
 use os9_base::registers::Regs;
 use rbf_sector::Fd;
 
-/// How many bytes of a descriptor are before its segments.
+/// The number of bytes of a descriptor before its segments.
 pub(crate) const FRONT_BYTES: usize = DESCRIPTOR_BYTES as usize;
 
-/// The registers that answer a number in X, its high half, and U (System Programmer's Manual,
+/// The registers that return a number in X, its high half, and U (System Programmer's Manual,
 /// I$GetStt, SS.Size and SS.Pos).
 pub(crate) fn long_regs(regs: Regs, number: u32) -> Regs
     ensures { result ≡ long_regs_lem regs number }
@@ -29,7 +29,7 @@ pub(crate) fn long_regs(regs: Regs, number: u32) -> Regs
     }
 }
 
-/// The number that X, the high half, and U are (System Programmer's Manual, I$SetStt, SS.Size).
+/// The number in X, the high half, and U (System Programmer's Manual, I$SetStt, SS.Size).
 pub(crate) fn long_of(regs: Regs) -> u32
     ensures { result ≡ long_of_lem regs }
 {
@@ -50,7 +50,7 @@ fn long_bytes(number: u32) -> [u8; 4]
     ]
 }
 
-/// Three bytes, five, one, four and three, one behind the other.
+/// Three bytes, five, one, four and three, one after the other.
 fn joined(
     front: [u8; 3],
     modified: [u8; 5],
@@ -100,7 +100,7 @@ pub(crate) fn descriptor_front(fd: &Fd) -> [u8; FRONT_BYTES]
 }
 
 /// The options of a path on a file or a directory (System Programmer's Manual, I$GetStt, SS.Opt;
-/// this project's own layout): the first byte tells what it is.
+/// this project's own layout): the first byte says what the path is on.
 pub(crate) fn file_options() -> [u8; OPTION_BYTES]
     ensures { (target : Target) → IsSome (place_of_target target) → result ≡ options target }
 {

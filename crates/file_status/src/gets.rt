@@ -27,18 +27,18 @@ use os9_base::registers::{Pid, Regs};
 use os9_outer::drive::BlockDriver;
 use proc_state::state::ProcState;
 
-/// I$GetStt of a file or a directory (System Programmer's Manual, I$GetStt): asks for the status of
-/// the path in A, by the code in B. SS.Opt stores 32 bytes at X. SS.Ready answers B 0. SS.Size
-/// answers the size and SS.Pos the position, in bytes, in X, the high half, and U. SS.EOF answers B
-/// 0. SS.FD stores the first bytes of the descriptor at X, as many as Y asks for and at most 16.
+/// I$GetStt of a file or a directory (System Programmer's Manual, I$GetStt): gets the status of the
+/// path in A, by the code in B. SS.Opt stores 32 bytes at X. SS.Ready returns 0 in B. SS.Size
+/// returns the size and SS.Pos the position, in bytes, in X, the high half, and U. SS.EOF returns 0
+/// in B. SS.FD stores the first Y bytes of the descriptor at X, at most 16.
 ///
 /// # Errors
 ///
-/// In this order: E$UnkSvc exactly if the code is another one; of SS.Opt and SS.FD E$BPAddr exactly
-/// if one of the bytes is in no named slot or past `FFFF`; of SS.Size, SS.EOF and SS.FD the number
-/// of the drive's fault if it fails; of SS.EOF E$EOF exactly if the position is not before the end.
-/// Nothing has changed then, but for the counts of the drive. That is called once at most, and not
-/// at all where the call is refused before it is reached.
+/// In this order: E$UnkSvc exactly if the code is another one; for SS.Opt and SS.FD E$BPAddr
+/// exactly if one of the bytes is in no named slot or past `FFFF`; for SS.Size, SS.EOF and SS.FD
+/// the number of the drive's fault if it fails; for SS.EOF E$EOF exactly if the position is not
+/// before the end. Nothing has changed then, except the counts of the drive. The drive is called
+/// once at most, and not at all if the call is refused before it is reached.
 pub fn get_status(
     s: &mut ProcState,
     files: &mut FileState,
@@ -62,7 +62,7 @@ pub fn get_status(
     get_status_of(s, files, devices, p, opened)
 }
 
-/// Asks for the status of a file or a directory, by the code in B.
+/// Gets the status of a file or a directory, by the code in B.
 fn get_status_of(
     s: &mut ProcState,
     files: &mut FileState,
@@ -111,7 +111,7 @@ fn get_options(s: &mut ProcState, files: &mut FileState, p: Pid) -> CallEnd
     answer(s, files, p, regs)
 }
 
-/// SS.Size: answers the size in X and U.
+/// SS.Size: returns the size in X and U.
 fn get_size(
     s: &mut ProcState,
     files: &mut FileState,
@@ -137,7 +137,7 @@ fn get_size(
     }
 }
 
-/// SS.EOF: answers B 0 if the position is before the end of the file.
+/// SS.EOF: returns 0 in B if the position is before the end of the file.
 fn get_end(
     s: &mut ProcState,
     files: &mut FileState,
@@ -168,7 +168,7 @@ fn get_end(
     }
 }
 
-/// SS.FD: stores the first bytes of the descriptor, as many as Y asks for and at most 16.
+/// SS.FD: stores the first Y bytes of the descriptor, at most 16.
 fn get_descriptor(
     s: &mut ProcState,
     files: &mut FileState,
@@ -201,7 +201,7 @@ fn get_descriptor(
     }
 }
 
-/// How many bytes of a descriptor are asked for by this Y.
+/// The number of bytes of a descriptor that this Y asks for.
 fn asked_count(y: u16) -> u16
     ensures { result ≡ min y DESCRIPTOR_BYTES }
 {

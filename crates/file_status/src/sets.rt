@@ -28,18 +28,17 @@ use proc_state::state::ProcState;
 
 /// I$SetStt of a file or a directory, at a time (System Programmer's Manual, I$SetStt; the argument
 /// of SS.Attr is this project's own): sets the status of the path in A, by the code in B. SS.Size
-/// gives the file the size in bytes in X, the high half, and U; the position stays. SS.Attr gives
-/// it the attributes in the low byte of X, whose bit 7 has no effect.
+/// gives the file the size in bytes in X, the high half, and U, and leaves the position unchanged.
+/// SS.Attr gives it the attributes in the low byte of X, whose bit 7 has no effect.
 ///
 /// # Errors
 ///
-/// In this order: E$UnkSvc exactly if the code is another one; of SS.Size E$BMode exactly if the
-/// path may not be written; the number of the drive's fault if it fails; of SS.Size E$Full exactly
-/// if fewer clusters are free than it needs, then E$SLF if a cluster that was chosen finds no place
-/// in the list of segments; of SS.Attr E$FNA exactly if the user is neither the owner nor user 0.
-/// Nothing has changed then, but for the counts of the drive; where a fault has ended SS.Size, the
-/// volume is what a fault may leave. The drive is not called where the call is refused before it is
-/// reached.
+/// In this order: E$UnkSvc exactly if the code is another one; for SS.Size E$BMode exactly if the
+/// path may not be written; the number of the drive's fault if it fails; for SS.Size E$Full exactly
+/// if fewer clusters are free than it needs, then E$SLF if the list of segments has no place for a
+/// chosen cluster; for SS.Attr E$FNA exactly if the user is neither the owner nor user 0. Nothing
+/// has changed then, except the counts of the drive; if a fault has ended SS.Size, the volume is
+/// what a fault may leave. The drive is not called if the call is refused before it is reached.
 pub fn set_status(
     s: &mut ProcState,
     files: &mut FileState,

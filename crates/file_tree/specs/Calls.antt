@@ -1,5 +1,5 @@
--- How often the drives are called at most in the calls on names of files and directories (this project's own): for each
--- directory of the walk, and for what is done where it ends.
+-- The greatest number of drive calls in the calls on names of files and directories (this project's own): for each
+-- directory of the walk, and for the work at its end.
 use Rattle.std.specs.Prelude.{ℕ, ◌+◌, Bool, false, Option, Some, None, List}
 use Rattle.std.specs.Option.{option_map_or}
 use Rattle.rbf_model.specs.File.{DiskFile}
@@ -34,14 +34,14 @@ abbrev pub located_calls : Bool → (DiskVolume → DiskFile → ℕ) → Asker 
 located_calls execute most asker files terms =
     listed_calls (list_of asker) (λ list. way_calls asker files execute most (way_of asker files terms execute list))
 
--- the descriptor of what is found is read
+-- the descriptor of the found file is read
 abbrev pub i_chgdir_calls : Asker → Files → ℕ → ℕ
 i_chgdir_calls asker files terms =
     located_calls (is_for_execution asker.caller.regs.a) (λ v file. 1) asker files terms
 
 -- ---- to the directory of the last name
 
--- by that name; of a list without names no drive is called
+-- by that name; a list without names calls no drive
 abbrev pub last_calls : Asker → Files → Bool → (List ℕ → DiskVolume → DiskFile → ℕ) → Way → Option (List ℕ) → ℕ
 last_calls asker files execute most (along from names) None = 0
 last_calls asker files execute most (along from names) (Some name) =
@@ -55,7 +55,7 @@ named_calls purpose execute most asker files terms =
     listed_calls (list_of asker)
     (λ list. last_calls asker files execute most (way_for purpose asker files terms execute list) (last_of list.names))
 
--- the place of the new entry is looked for, the directory is made, and it is entered
+-- the search for the place of the new entry, the making of the directory, and its entry
 abbrev pub making_calls : ℕ → List ℕ → DiskVolume → DiskFile → ℕ
 making_calls user name v dir =
     place_calls dir name user false + (file_clusters (cluster_size v) new_directory_size + 2 + entry_calls v dir)
@@ -63,7 +63,7 @@ making_calls user name v dir =
 abbrev pub i_makdir_calls : Asker → Files → ℕ → ℕ
 i_makdir_calls asker files terms = named_calls New false (making_calls asker.user) asker files terms
 
--- the entry is looked for; it is made free, and so are the clusters of its file
+-- the search for the entry; then the entry and the clusters of its file are made free
 abbrev pub deleting_calls : ℕ → Bool → List ℕ → DiskVolume → DiskFile → ℕ
 deleting_calls user execute name v dir =
     deletion_calls dir name user execute

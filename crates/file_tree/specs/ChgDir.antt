@@ -1,4 +1,4 @@
--- I$ChgDir in two parts: the directory that is looked for, and what is done with it.
+-- I$ChgDir in two parts: the search for the directory, and what is done with it.
 use Rattle.std.specs.Prelude.{ℕ, not}
 use Rattle.os9_base.specs.declared.errors.TheConstants.{E_FNA}
 use Rattle.io_rules.specs.Modes.{is_mode}
@@ -10,7 +10,7 @@ use Rattle.file_rules.specs.Step.{FileStep, Step, comes, done, refuses}
 use Rattle.file_ways.specs.Ways.{mode_refusal, next_step}
 use Rattle.file_tree.specs.Locating.{FoundBy, locates}
 
--- a file that was found is a directory to which the user may go
+-- a found file is a directory to which the user may go
 abbrev pub allows_to_go : Asker → FoundBy → Step FoundBy
 allows_to_go asker it = refuses (not (may_go_to it.found.file asker.user asker.caller.regs.a)) E_FNA (comes it)
 

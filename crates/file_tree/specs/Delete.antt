@@ -1,4 +1,4 @@
--- I$Delete and I$DeletX in two parts: the name and the directory that are looked for, and what is deleted there.
+-- I$Delete and I$DeletX in two parts: the search for the name and the directory, and the deletion there.
 use Rattle.std.specs.Prelude.{◌≡◌, ℕ, ◌+◌, Bool, List, Result}
 use Rattle.file_drives.specs.Drives.{DriveView}
 use Rattle.file_rules.specs.Delete.{deletes_in}
@@ -16,13 +16,13 @@ use Rattle.file_tree.specs.declared.naming.LastLocated.{LastLocated}
 abbrev pub deletes_it : Asker → Files → Bool → NamedBy → FileStep
 deletes_it asker files execute it = deletes_in asker files execute it.list it.name it.directory
 
--- how often the drives are called at most after such a search, which has found this and has called them so often
+-- the greatest number of drive calls after a search that has found this with `seen` calls, those of the search included
 abbrev pub deletes_it_calls : ℕ → Asker → Bool → NamedBy → ℕ
 deletes_it_calls seen asker execute it =
     seen + deleting_calls asker.user execute it.name it.directory.volume it.directory.file
 
--- by this user, for execution or not: after whatever search that has found the name and its directory, the attempt was
--- answered so
+-- by this user, for execution or not: after any search that has found the name and its directory, the attempt has this
+-- result
 abbrev pub DeletesIn : ℕ → Bool → LastLocated → FileState → List DriveView → Result ℕ ℕ → FileState → List DriveView
     → Type 0
 DeletesIn user execute last old views result new after =

@@ -1,4 +1,4 @@
--- I$MakDir in two parts: the name and the directory that are looked for, and what is made there.
+-- I$MakDir in two parts: the search for the name and the directory, and what is made there.
 use Rattle.std.specs.Prelude.{◌≡◌, ℕ, ◌+◌, List, Result}
 use Rattle.file_drives.specs.Drives.{DriveView}
 use Rattle.file_rules.specs.Files.{Asker, Files}
@@ -17,17 +17,17 @@ use Rattle.file_tree.specs.declared.naming.LastLocated.{LastLocated}
 abbrev pub makes_it : Asker → Files → NamedBy → FileStep
 makes_it asker files it = makes_in asker files it.list it.name it.directory
 
--- who makes it, with which attributes and at which time
+-- who makes it, with which attributes and at what time
 pub record Makes (making : Making) (asker : Asker) : Type 0 where
   pub user_is : asker.user ≡ making.user
   pub attributes_are : asker.caller.regs.b ≡ making.attributes
   pub now_is : asker.now ≡ making.now
 
--- how often the drives are called at most after a search that has found this and has called them so often
+-- the greatest number of drive calls after a search that has found this with `seen` calls, those of the search included
 abbrev pub makes_it_calls : ℕ → Asker → NamedBy → ℕ
 makes_it_calls seen asker it = seen + making_calls asker.user it.name it.directory.volume it.directory.file
 
--- after whatever search that has found the name and its directory, the attempt was answered so
+-- after any search that has found the name and its directory, the attempt has this result
 abbrev pub MakesIn : Making → LastLocated → FileState → List DriveView → Result ℕ ℕ → FileState → List DriveView
     → Type 0
 MakesIn making last old views result new after =

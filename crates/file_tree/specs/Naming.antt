@@ -1,4 +1,4 @@
--- The last name of the path list of a call, and the directory in which it is to be looked up.
+-- The last name of the path list of a call, and the directory in which it has to be looked up.
 use Rattle.std.specs.Prelude.{◌≡◌, ℕ, Bool, false, Option, Some, None, List, Result, Ok, Err}
 use Rattle.os9_base.specs.declared.errors.TheConstants.{E_BPNAM, E_FNA}
 use Rattle.rbf_change.specs.Names.{is_dots}
@@ -19,7 +19,7 @@ use Rattle.file_tree.specs.Locating.{IsFileIn}
 use Rattle.file_tree.specs.Looks.{LooksFor}
 use Rattle.file_tree.specs.declared.naming.LastLocated.{LastLocated}
 
--- a path list, its last name, and the directory to which those before it lead
+-- a path list, its last name, and the directory that the names before it lead to
 pub record NamedBy : Type 0 where
   pub list : PathList
   pub name : List ℕ
@@ -28,8 +28,8 @@ pub record NamedBy : Type 0 where
 abbrev pub named_by : PathList → List ℕ → Found → NamedBy
 named_by list name directory = record { list = list; name = name; directory = directory }
 
--- the number with which a list without names is refused: nothing is made by it, and the root to which it leads is a
--- directory, which is not deleted
+-- the number with which a list without names is refused: it can name nothing new, and it names the root, a directory,
+-- which is not deleted
 abbrev pub unnamed_number : Purpose → ℕ
 unnamed_number New = E_BPNAM
 unnamed_number Existing = E_FNA
@@ -46,14 +46,14 @@ names_on purpose asker files execute list (along from names) (Some name) =
 names_on purpose asker files execute list to_device name = refused E_FNA
 names_on purpose asker files execute list (nowhere number) name = refused number
 
--- by the list at X, for execution or not, of a call with this refusal, if it has one
+-- by the list at X, for execution or not, of a call with this refusal, if any
 abbrev pub names_last : Purpose → Bool → Option ℕ → Asker → Files → ℕ → Step NamedBy
 names_last purpose execute refusal asker files terms =
     reads_list (list_of asker) (refuses_by refusal)
     (λ list. names_on purpose asker files execute list (way_for purpose asker files terms execute list)
     (last_of list.names))
 
--- what was located by a step is that name and its directory, on the drive that the step reached
+-- the located name and its directory are those of a step, on the drive that the step reached
 pub record IsNamed (purpose : Purpose) (step : Step NamedBy) (files : Files) (it : NamedBy) (last : LastLocated)
     : Type 0 where
   pub place_is : it.directory.place ≡ last.directory
@@ -61,15 +61,15 @@ pub record IsNamed (purpose : Purpose) (step : Step NamedBy) (files : Files) (it
   pub next_is : last.next ≡ it.list.next
   pub there : IsFileIn files it.directory
   pub reached : drive_of step ≡ Some it.directory.place.drive
-  -- nothing is made by the name of a directory itself or of the one above it
+  -- nothing is made with the name of a directory itself or of the one above it
   pub proper : purpose ≡ New → is_dots it.name ≡ false
 
--- by where a walk arrived
+-- by the end of a walk
 abbrev pub last_by : Result LastName DirError → ℕ → Result LastLocated ℕ
 last_by (Ok last) next = Ok (record { directory = last.directory; name = last.name; next = next })
 last_by (Err error) next = Err (directory_error error)
 
--- a search by this step came to this
+-- a search by this step has this result
 abbrev pub LocatesLast : Purpose → Step NamedBy → ℕ → Result LastLocated ℕ → Files → FileState → List DriveView
     → List DriveView → Type 0
 LocatesLast purpose step most result files new before now =

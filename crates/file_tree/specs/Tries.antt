@@ -1,4 +1,4 @@
--- What an attempt of a call comes to that answers X past its path list, or is refused.
+-- An attempt of a call that returns X past its path list, or is refused.
 use Rattle.std.specs.Prelude.{ℕ, ◌%◌, List, Result, Ok, Err}
 use Rattle.os9_base.specs.declared.call.CallEnd.{CallEnd}
 use Rattle.os9_base.specs.declared.call.CallEnd.TheVariants.{Done, Error}
@@ -18,17 +18,17 @@ use Rattle.file_state.specs.Media.{KeepsDrives}
 use Rattle.file_state.specs.Tie.{StandsFor}
 use Rattle.file_state.specs.declared.state.FileState.{FileState}
 
--- how it ends for a caller with these registers: its list ends before this address, or this is its error
+-- the end for a caller with these registers: its list ends before this address, or this is its error
 abbrev pub end_by : Regs → Result ℕ ℕ → IoEnd
 end_by regs (Ok next) = answers (record regs { x = next % 65536 })
 end_by regs (Err number) = fails number
 
--- and so the process is told
+-- the same as the end of the call for the process
 abbrev pub told_by : Result ℕ ℕ → CallEnd
 told_by (Ok next) = Done
 told_by (Err number) = Error number
 
--- the attempt that this step is, answered so, in which the drives are called at most so often where it reaches one
+-- an attempt with this step and this result, which calls the drives at most `most` times if the step reaches one
 pub record Tries (step : FileStep) (most : ℕ) (asker : Asker) (files : Files) (result : Result ℕ ℕ) (new : FileState)
     (before now : List DriveView) : Type 0 where
   pub left : Files
@@ -38,8 +38,8 @@ pub record Tries (step : FileStep) (most : ℕ) (asker : Asker) (files : Files) 
   pub calls : CalledAtMost (calls_of step most) before now
   pub drives : KeepsDrives step asker files (told_by result) before now
 
--- such an attempt of a process, at a time and with so many terminals, from each state of the machine that the kernel's
--- stands for
+-- such an attempt of a process, at a time and with this number of terminals, from each state of the machine that the
+-- kernel's state stands for
 abbrev pub TriesFrom : (Asker → Files → ℕ → FileStep) → (Asker → Files → ℕ → ℕ) → TimePacket → ℕ → ℕ → Result ℕ ℕ
     → Standing → Standing → Type 0
 TriesFrom step most now p terms result before after =

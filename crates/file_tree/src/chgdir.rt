@@ -35,16 +35,16 @@ use rbf_sector::Fd;
 use rbf_walk::may;
 
 /// I$ChgDir: changes a directory of the process (System Programmer's Manual, I$ChgDir). Takes the
-/// mode in A and the address of the path list in X; answers X past the list. It is the execution
-/// directory that changes where the mode is for execution, else the data directory.
+/// mode in A and the address of the path list in X; returns X past the list. It changes the
+/// execution directory if the mode is for execution, else the data directory.
 ///
 /// # Errors
 ///
 /// E$BPAddr exactly if a byte of the path list that has to be read is in no named slot or past
 /// `FFFF`; else E$BMode exactly if the mode has none of read, write and execute; else those of the
-/// list; else E$FNA exactly if it leads to a terminal or a pipe; else those of the walk; else E$FNA
-/// exactly if the file is no directory or may not be used so. The number of the fault, if the drive
-/// fails. No directory has changed then.
+/// list; else E$FNA exactly if the list names a terminal or a pipe; else those of the walk; else
+/// E$FNA exactly if the file is not a directory or may not be used so. The number of the fault, if
+/// the drive fails. No directory has changed then.
 pub fn i_chgdir(s: &mut ProcState, files: &mut FileState, devices: &mut Devices, p: Pid) -> CallEnd
     requires lives { IsLiving s.old.table p.0 }
     requires first { kept_at files.old.io p.0 ≡ None }
@@ -70,7 +70,7 @@ pub fn i_chgdir(s: &mut ProcState, files: &mut FileState, devices: &mut Devices,
     }
 }
 
-/// Finds the directory to which a process goes.
+/// Finds the new directory of a process.
 ///
 /// # Errors
 ///
@@ -104,11 +104,11 @@ fn find_directory(
     }
 }
 
-/// What was found, if a user may go to the file of this descriptor with this mode.
+/// The located file, if a user may go to the file of this descriptor with this mode.
 ///
 /// # Errors
 ///
-/// E$FNA exactly if he may not.
+/// E$FNA exactly if the user may not.
 fn if_directory(fd: &Fd, user: u16, mode: u8, located: Located) -> Result<Located, u8>
     ensures { (file : DiskFile) → IsFdOf file fd.now
         → result ≡ (if may_go_to_lem file user mode then Ok located else Err E_FNA) }

@@ -33,17 +33,17 @@ use os9_outer::drive::BlockDriver;
 use proc_state::state::ProcState;
 
 /// I$Delete: deletes a file (System Programmer's Manual, I$Delete). Takes the address of the path
-/// list in X; answers X past the list. The list starts at the data directory of the process, if it
+/// list in X; returns X past the list. The list starts at the data directory of the process, if it
 /// names no device.
 ///
 /// # Errors
 ///
 /// E$BPAddr exactly if a byte of the path list that has to be read is in no named slot or past
-/// `FFFF`; else those of the list; else E$FNA exactly if it leads to a terminal, a pipe or the root
-/// of a drive; else those of the walk to the directory; else E$FNA exactly if the user may not
-/// change that one, E$PNNF exactly if the name is not there, E$FNA exactly if it is that of a
-/// directory or of a file that the user may not write, E$Share exactly if a path is on the file.
-/// The number of the fault, if the drive fails.
+/// `FFFF`; else those of the list; else E$FNA exactly if it names a terminal, a pipe or the root of
+/// a drive; else those of the walk to the directory; else E$FNA exactly if the user may not change
+/// that directory, E$PNNF exactly if the name is not there, E$FNA exactly if it names a directory
+/// or a file that the user may not write, E$Share exactly if a path is on the file. The number of
+/// the fault, if the drive fails.
 pub fn i_delete(s: &mut ProcState, files: &mut FileState, devices: &mut Devices, p: Pid) -> CallEnd
     requires lives { IsLiving s.old.table p.0 }
     requires first { kept_at files.old.io p.0 ≡ None }
@@ -62,9 +62,9 @@ pub fn i_delete(s: &mut ProcState, files: &mut FileState, devices: &mut Devices,
 }
 
 /// I$DeletX: deletes a file (System Programmer's Manual, I$DeletX). Takes a mode in A and the
-/// address of the path list in X; answers X past the list. The list starts at the execution
-/// directory of the process where the mode is for execution, else at its data directory, if it
-/// names no device. The mode is not tested on the file.
+/// address of the path list in X; returns X past the list. A list that names no device starts at
+/// the execution directory of the process if the mode is for execution, else at its data directory.
+/// The mode is not tested on the file.
 ///
 /// # Errors
 ///
@@ -90,11 +90,11 @@ pub fn i_deletx(s: &mut ProcState, files: &mut FileState, devices: &mut Devices,
 }
 
 /// Deletes the file that the path list at X names, for execution or not, in a call with this
-/// refusal, if it has one; answers the address just past the list.
+/// refusal, if any; returns the address just past the list.
 ///
 /// # Errors
 ///
-/// As `i_deletx`, with the call's refusal in the place of E$BMode.
+/// As `i_deletx`, with the call's refusal in place of E$BMode.
 fn delete_named(
     s: &mut ProcState,
     files: &mut FileState,
@@ -122,15 +122,14 @@ fn delete_named(
     }
 }
 
-/// Deletes the file that the directory that was found has by the last name of a path list, and
-/// answers the address just past the list.
+/// Deletes the file with the last name of a path list in the directory that was found, and returns
+/// the address just past the list.
 ///
 /// # Errors
 ///
 /// In this order: E$FNA exactly if the user may not change the directory, E$PNNF exactly if the
-/// name is not there, E$FNA exactly if it is that of a directory or of a file that the user may
-/// not write, E$Share exactly if a path is on the file. The number of the fault, if the drive
-/// fails.
+/// name is not there, E$FNA exactly if it names a directory or a file that the user may not write,
+/// E$Share exactly if a path is on the file. The number of the fault, if the drive fails.
 fn delete_in(
     files: &mut FileState,
     devices: &mut Devices,

@@ -1,4 +1,4 @@
-//! How calls end that answer where their path list ends.
+//! The ends of calls that return the address past their path list.
 
 ghost use Rattle.std.specs.Prelude.{◌≡◌, ℕ, List, None};
 ghost use Rattle.call_rules.specs.Inner.{Inner};
@@ -20,8 +20,8 @@ use os9_base::registers::{Pid, Regs};
 use path_calls::ends::{answer, refuse};
 use proc_state::state::ProcState;
 
-/// The call of a process ends: its path list ends before this address, which X is then, or this is
-/// the number of its error. Nothing is kept of it.
+/// Ends the call of a process. `came` is the address past its path list, to which X is set, or the
+/// number of its error. Nothing is kept of the call.
 pub(crate) fn end_call(
     s: &mut ProcState,
     files: &mut FileState,

@@ -1,4 +1,4 @@
-//! The way along which a call's path list leads, and the file at its end.
+//! The way of a call's path list, and the file at its end.
 
 ghost use Rattle.std.specs.Prelude.{◌≡◌, IfOk, vec_len};
 ghost use Rattle.call_rules.specs.Inner.{Inner, cells_at};
@@ -30,7 +30,7 @@ use os9_outer::drive::BlockDriver;
 use proc_state::state::ProcState;
 use rbf_walk::DirError;
 
-/// A file that a path list leads to.
+/// The file that a path list names.
 #[derive(Clone, Copy, Debug, PartialEq, Eq)]
 pub struct Located {
     pub place: FilePlace,
@@ -38,13 +38,13 @@ pub struct Located {
     pub next: u32,
 }
 
-/// The way along which the path list at X leads, from the execution directory of the process or
-/// from its data directory, if the list names no device (System Programmer's Manual, I$Open). The
-/// call has this refusal, if it has one.
+/// The way of the path list at X, from the execution directory of the process or from its data
+/// directory, if the list names no device (System Programmer's Manual, I$Open). `refusal` is the
+/// call's refusal, if any.
 ///
 /// # Errors
 ///
-/// The number of the refusal, exactly as `file_ways::way::find_route` has it.
+/// The number of the refusal, exactly as for `file_ways::way::find_route`.
 pub(crate) fn lead(
     s: &mut ProcState,
     files: &FileState,
@@ -77,13 +77,13 @@ pub(crate) fn lead(
     call_route(s, &files.disks, devices, query)
 }
 
-/// Finds the file to which the path list at X leads, from the execution directory of the process or
+/// Finds the file that the path list at X names, from the execution directory of the process or
 /// from its data directory, if the list names no device (System Programmer's Manual, I$Open).
 ///
 /// # Errors
 ///
-/// The number of the refusal: that of `find_route`, else E$FNA exactly if the list leads to a
-/// terminal or a pipe; else that of the walk: E$FNA, E$PNNF, or the number of the drive's fault.
+/// The number of the refusal: that of `find_route`, else E$FNA exactly if the list names a terminal
+/// or a pipe; else that of the walk: E$FNA, E$PNNF, or the number of the drive's fault.
 pub(crate) fn locate(
     s: &mut ProcState,
     files: &mut FileState,
@@ -122,7 +122,7 @@ pub(crate) fn locate(
     }
 }
 
-/// The file at which a walk arrived, by a list that ends before an address.
+/// The file at the end of a walk, by a list that ends before an address.
 ///
 /// # Errors
 ///

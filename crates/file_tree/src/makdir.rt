@@ -27,7 +27,7 @@ use os9_base::registers::{Pid, TimePacket};
 use os9_outer::drive::BlockDriver;
 use proc_state::state::ProcState;
 
-/// Who makes a directory, with which attributes and at which time.
+/// Who makes a directory, with which attributes and at what time.
 #[derive(Clone, Copy, Debug)]
 pub struct Making {
     pub user: u16,
@@ -36,16 +36,16 @@ pub struct Making {
 }
 
 /// I$MakDir: makes a directory (System Programmer's Manual, I$MakDir). Takes its attributes in B
-/// and the address of the path list in X; answers X past the list.
+/// and the address of the path list in X; returns X past the list.
 ///
 /// # Errors
 ///
 /// E$BPAddr exactly if a byte of the path list that has to be read is in no named slot or past
-/// `FFFF`; else those of the list; else E$FNA exactly if it leads to a terminal or a pipe; else
-/// those of the walk to the directory above; else E$FNA exactly if the user may not change that
-/// one, E$CEF exactly if the name is there, E$Full exactly if too few clusters are free, E$SLF
-/// exactly if the directory above needs a segment more and has no room for it. The number of the
-/// fault, if the drive fails.
+/// `FFFF`; else those of the list; else E$FNA exactly if it names a terminal or a pipe; else those
+/// of the walk to the directory above; else E$FNA exactly if the user may not change that
+/// directory, E$CEF exactly if the name is there, E$Full exactly if too few clusters are free,
+/// E$SLF exactly if the directory above needs one more segment and has no room for it. The number
+/// of the fault, if the drive fails.
 pub fn i_makdir(
     s: &mut ProcState,
     files: &mut FileState,
@@ -68,7 +68,7 @@ pub fn i_makdir(
     end_call(s, files, p, came)
 }
 
-/// Makes the directory that the path list at X names, and answers the address just past the list.
+/// Makes the directory that the path list at X names, and returns the address just past the list.
 ///
 /// # Errors
 ///
@@ -101,14 +101,15 @@ fn make_directory(
     }
 }
 
-/// Makes a directory by the last name of a path list in the directory that was found, and answers
+/// Makes a directory with the last name of a path list in the directory that was found, and returns
 /// the address just past the list.
 ///
 /// # Errors
 ///
 /// In this order: E$FNA exactly if the user may not change the directory above, E$CEF exactly if
 /// the name is there, E$Full exactly if too few clusters are free, E$SLF exactly if the directory
-/// above needs a segment more and has no room for it. The number of the fault, if the drive fails.
+/// above needs one more segment and has no room for it. The number of the fault, if the drive
+/// fails.
 fn make_in(
     files: &mut FileState,
     devices: &mut Devices,

@@ -13,7 +13,7 @@ pub(crate) fn is_for_execution(mode: u8) -> bool
     mode & MODE_EXECUTE != 0
 }
 
-/// Has the mode one of the bits for reading, writing and execution?
+/// Does the mode have one of the bits for reading, writing and execution?
 pub(crate) fn is_mode(mode: u8) -> bool
     ensures { result ≡ is_mode_lem mode }
 {

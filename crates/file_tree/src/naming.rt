@@ -1,4 +1,4 @@
-//! The last name of a call's path list, and the directory in which it is to be looked up.
+//! The last name of a call's path list, and the directory in which it has to be looked up.
 
 ghost use Rattle.std.specs.Prelude.{◌≡◌, IfOk, vec_len};
 ghost use Rattle.file_drives.specs.Drives.{drive_views};
@@ -27,7 +27,7 @@ use os9_outer::drive::BlockDriver;
 use proc_state::state::ProcState;
 use rbf_walk::DirError;
 
-/// The last name of a path list, and the directory to which those before it lead.
+/// The last name of a path list, and the directory that the names before it lead to.
 #[derive(Clone, Copy, Debug)]
 pub struct LastLocated {
     pub directory: FilePlace,
@@ -36,15 +36,15 @@ pub struct LastLocated {
     pub next: u32,
 }
 
-/// Finds the last name of the path list at X, and the directory to which those before it lead, from
-/// the execution directory of the process or from its data directory, if the list names no device
-/// (System Programmer's Manual, I$Create and I$Delete).
+/// Finds the last name of the path list at X, and the directory that the names before it lead to,
+/// from the execution directory of the process or from its data directory, if the list names no
+/// device (System Programmer's Manual, I$Create and I$Delete).
 ///
 /// # Errors
 ///
-/// The number of the refusal: that of `lead`, else E$FNA exactly if the list leads to a terminal or
-/// a pipe; else, if it has no names, E$FNA where its file has to exist and E$BPNam where it is
-/// made; else that of the walk: E$FNA, E$PNNF, or the number of the drive's fault.
+/// The number of the refusal: that of `lead`, else E$FNA exactly if the list names a terminal or a
+/// pipe. Else, if it has no names, E$FNA if its file has to exist and E$BPNam if it has to be made;
+/// else that of the walk: E$FNA, E$PNNF, or the number of the drive's fault.
 pub(crate) fn locate_last(
     s: &mut ProcState,
     files: &mut FileState,
@@ -97,7 +97,7 @@ fn unnamed_number(purpose: Purpose) -> u8
     }
 }
 
-/// The last name and its directory, of a list that ends before an address.
+/// The last name and its directory, by a list that ends before an address.
 ///
 /// # Errors
 ///

@@ -1,4 +1,4 @@
--- What a walk comes to on the volume of its drive, in the words of the calls on files.
+-- The result of a walk on the volume of its drive, in the terms of the calls on files.
 use Rattle.std.specs.Prelude.{◌≡◌, ℕ, Some, Result, Ok, Err, List}
 use Rattle.rbf_model.specs.Volume.{DiskVolume}
 use Rattle.rbf_model.specs.Walk.{WalkEnd, arrives, not_allowed, not_found, walk}
@@ -10,7 +10,7 @@ use Rattle.file_rules.specs.Way.{Found}
 use Rattle.file_rules.specs.declared.places.FilePlace.{FilePlace}
 use Rattle.file_ways.specs.declared.walk.Walker.{Walker}
 
--- it ends so on the volume of the drive
+-- it has this end on the volume of the drive
 pub record EndsOn (walker : Walker) (files : Files) (from : FilePlace) (names : List (List ℕ)) (end : WalkEnd)
     : Type 0 where
   pub volume : DiskVolume
@@ -27,7 +27,7 @@ pub record Finds (walker : Walker) (files : Files) (from : FilePlace) (names : L
   pub end_is : walk found.volume.files walker.user walker.execute from.number names ≡ arrives place.number
   pub file_is : found.volume.files place.number ≡ Some found.file
 
--- by its answer
+-- by its result
 abbrev pub WalkComes : Walker → Files → FilePlace → List (List ℕ) → Result FilePlace DirError → Type 0
 WalkComes walker files from names (Ok place) = Finds walker files from names place
 WalkComes walker files from names (Err NotAllowed) = EndsOn walker files from names not_allowed

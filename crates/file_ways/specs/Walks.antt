@@ -18,12 +18,12 @@ use Rattle.file_ways.specs.declared.walk.Walker.{Walker}
 
 -- ---- the names
 
--- some names stand from an address on
+-- some names are at an address and after it
 pub record SomeStand (cells : Cells) (at : ℕ) : Type 0 where
   pub names : List (List ℕ)
   pub stand : NamesStand cells at names
 
--- some names are there, or none
+-- the same, or no names
 pub record SomeFrom (cells : Cells) (first : Option ℕ) : Type 0 where
   pub names : List (List ℕ)
   pub from : NamesFrom cells first names
@@ -40,7 +40,7 @@ pub record WalksBy (walker : Walker) (at : FilePlace) (name : List ℕ) (result 
   pub drive : ReadsFile at (directory_fault result) (λ v file.
       step_calls (Some file) walker.user walker.execute name) disks before new after
 
--- along these names: it ends where the walk on the volume ends, unless a fault of the drive ended it before
+-- along these names: it has the end of the walk on the volume, unless a fault of the drive ended it before
 pub record Walks (walker : Walker) (from : FilePlace) (names : List (List ℕ)) (result : Result FilePlace DirError)
     (disks : List (Option Volume)) (before : List DriveView) (new : List (Option Volume)) (after : List DriveView)
     : Type 0 where
@@ -50,19 +50,19 @@ pub record Walks (walker : Walker) (from : FilePlace) (names : List (List ℕ)) 
   pub drive : ReadsFile from (directory_fault result) (λ v file.
       walk_calls v.files walker.user walker.execute from.number names) disks before new after
 
--- where a walk arrived that goes along all names but the last
+-- the end of a walk along all names but the last
 abbrev pub directory_reached : Result LastName DirError → Result FilePlace DirError
 directory_reached (Ok last) = Ok last.directory
 directory_reached (Err error) = Err error
 
--- along all names but the last, which it answers
+-- along all names but the last, which it returns
 pub record WalksToLast (walker : Walker) (from : FilePlace) (names : List (List ℕ)) (result : Result LastName DirError)
     (disks : List (Option Volume)) (before : List DriveView) (new : List (Option Volume)) (after : List DriveView)
     : Type 0 where
   pub walks : Walks walker from (before_last names) (directory_reached result) disks before new after
   pub name : IfOk result (λ last. last_of names ≡ Some last.name)
 
--- the last of some names stands at an address, and no other one behind it
+-- the last of some names is at an address, and no other after it
 pub record LastStands (cells : Cells) (names : List (List ℕ)) (at : ℕ) : Type 0 where
   pub name : List ℕ
   pub last : last_of names ≡ Some name
@@ -72,7 +72,7 @@ abbrev pub place_reached : Result LastPlace DirError → Result FilePlace DirErr
 place_reached (Ok last) = Ok last.directory
 place_reached (Err error) = Err error
 
--- along all names but the last, where this one stands
+-- along all names but the last, which is at the returned address
 pub record ReachesLast (cells : Cells) (walker : Walker) (from : FilePlace) (names : List (List ℕ))
     (result : Result LastPlace DirError) (disks : List (Option Volume)) (before : List DriveView)
     (new : List (Option Volume)) (after : List DriveView) : Type 0 where
@@ -81,7 +81,7 @@ pub record ReachesLast (cells : Cells) (walker : Walker) (from : FilePlace) (nam
 
 -- ---- one step of it
 
--- the name is the last one, and nothing was read of a drive
+-- the name is the last one, and no drive was read
 pub record StepsToLast (names : List (List ℕ)) (disks : List (Option Volume)) (before : List DriveView)
     (new : List (Option Volume)) (after : List DriveView) : Type 0 where
   pub name : List ℕ
@@ -99,7 +99,7 @@ pub record StepsBy (cells : Cells) (walker : Walker) (at : FilePlace) (names : L
   pub stand : NamesStand cells next rest
   pub walks : WalksBy walker at name result disks before new after
 
--- what a file that was reached is stepped to, where the next name stands at this address
+-- the step to a reached file, if the next name is at this address
 abbrev pub stepped_to : ℕ → Result FilePlace DirError → Result Stepped DirError
 stepped_to next (Ok place) = Ok (Onward place next)
 stepped_to next (Err error) = Err error

@@ -1,4 +1,4 @@
--- The way along which a path list leads, as the code has it.
+-- The way of a path list, in the code's form.
 use Rattle.std.specs.Prelude.{◌≡◌, ℕ, ◌<◌, ◌&&◌, ◌||◌, not, ⊤, Bool, true, false, IfOk, Option, Some, None, Result, Ok, Err, List, length}
 use Rattle.std.specs.Option.{option_map_or}
 use Rattle.os9_base.specs.Cells.{Cells}
@@ -27,13 +27,13 @@ use Rattle.file_ways.specs.declared.way.Way.TheVariants.{Along, Device}
 
 -- ---- ways
 
--- the way, or none, as the rules of calls have it of these names
+-- the way, or none, in the form of the calls' rules, for these names
 abbrev pub way_to : Result Way ℕ → List (List ℕ) → Rule.Way
 way_to (Ok (Along from first)) names = along from names
 way_to (Ok Device) names = to_device
 way_to (Err number) names = nowhere number
 
--- from a start along the names of which the first stands at an address; without a start it is refused
+-- from a start along names, the first at this address; without a start it is refused
 abbrev pub along_from : Option FilePlace → Option ℕ → ℕ → Result Way ℕ
 along_from None first number = Err number
 along_from (Some from) first number = Ok (Along from first)
@@ -43,17 +43,17 @@ abbrev pub NamesOn : Cells → Way → List (List ℕ) → Type 0
 NamesOn cells (Along from first) names = NamesFrom cells first names
 NamesOn cells Device names = ⊤
 
--- a file is there at its start
+-- there is a file at its start
 abbrev pub StartsOn : List (Option Volume) → List DriveView → Way → Type 0
 StartsOn disks views (Along from first) = HasFileAt disks views from
 StartsOn disks views Device = ⊤
 
--- it has some names, or none
+-- it has some names, or no names
 abbrev pub HasNames : Cells → Way → Type 0
 HasNames cells (Along from first) = SomeFrom cells first
 HasNames cells Device = ⊤
 
--- the way along which a list leads, by what the call looks for
+-- the way of a list, by the purpose of the call
 abbrev pub way_for : Purpose → Asker → Files → ℕ → Bool → PathList → Rule.Way
 way_for Existing asker files terms execute list = way_of asker files terms execute list
 way_for New asker files terms execute list = way_to_new asker files terms execute list
@@ -66,55 +66,55 @@ IsDevice (Drive drive) = drive < 4
 IsDevice (Term terminal) = ⊤
 IsDevice Pipe = ⊤
 
--- a list is the root of a drive, on a machine with so many drives and terminals
+-- a list is the root of a drive, on a machine with `drives` drives and `terms` terminals
 abbrev pub names_root : ℕ → ℕ → Listed → Bool
 names_root drives terms list =
     not list.has_names && option_map_or (λ device. is_drive (device_of drives terms device)) list.device false
 
--- nothing may be made by it
+-- nothing may be made with it
 abbrev pub makes_nothing : Purpose → ℕ → ℕ → Listed → Bool
 makes_nothing Existing drives terms list = false
 makes_nothing New drives terms list = list.dots || names_root drives terms list
 
 -- ---- a call's path list
 
--- a list that was read, and the way along which it leads
+-- a list that was read, and its way
 pub record Led : Type 0 where
   pub list : PathList
   pub way : Rule.Way
 
--- a list that leads nowhere is refused
+-- a list without a way is refused
 abbrev pub led_by : PathList → Rule.Way → Step Led
 led_by list (along from names) = comes (record { list = list; way = along from names })
 led_by list to_device = comes (record { list = list; way = to_device })
 led_by list (nowhere number) = refused number
 
--- what a call tests when the list was read: it is refused with this number, or goes on
+-- the test of a call after its list was read: the call is refused with this number, or goes on
 abbrev pub refuses_by : {E : Type 0} → Option ℕ → Step E → Step E
 refuses_by None step = step
 refuses_by (Some number) step = refused number
 
--- the refusal of a call by its mode, which it may have or not
+-- the refusal of a call by its mode, by whether the mode is allowed
 abbrev pub mode_refusal : Bool → Option ℕ
 mode_refusal true = None
 mode_refusal false = Some E_BMODE
 
--- the list of a call with this refusal, if it has one
+-- the list of a call with this refusal, if any
 abbrev pub leads : Asker → Option ℕ → (PathList → Rule.Way) → Step Led
 leads asker refusal way = reads_list (list_of asker) (refuses_by refusal) (λ list. led_by list (way list))
 
--- the answer, where the call has no refusal
+-- the result, if the call has no refusal
 abbrev pub unless_refused : {A : Type 0} → Option ℕ → Result A ℕ → Result A ℕ
 unless_refused None answer = answer
 unless_refused (Some number) answer = Err number
 
--- what goes on from a step that comes to something
+-- the step that goes on with the result of a step
 abbrev pub next_step : {A E : Type 0} → Step A → (A → Step E) → Step E
 next_step (refused number) next = refused number
 next_step (comes it) next = next it
 next_step (reaches drive step) next = reaches drive (next_step step next)
 
--- a query of an asker whose bytes these are, where these drives are read
+-- a query of an asker with these bytes, if these drives are read
 pub record Asks (query : Query) (cells : Cells) (disks : List (Option Volume)) (views : List DriveView) (drives : ℕ)
     (asker : Asker) (files : Files) (execute : Bool) : Type 0 where
   pub cells_are : asker.caller.cells ≡ cells
@@ -123,7 +123,7 @@ pub record Asks (query : Query) (cells : Cells) (disks : List (Option Volume)) (
   pub mounted : AreMounted disks views files.volumes
   pub as_many : length files.drives ≡ drives
 
--- a list that was read leads along this way, or is refused
+-- this is the route of a list that was read, with this way
 pub record IsRouteTo (cells : Cells) (list : PathList) (way : Rule.Way) (route : Route) : Type 0 where
   pub way_is : way ≡ way_to (Ok route.way) list.names
   pub next_is : route.next ≡ list.next
@@ -133,7 +133,7 @@ abbrev pub IsRouteOf : Cells → PathList → Rule.Way → Result Route ℕ → 
 IsRouteOf cells list way (Ok route) = IsRouteTo cells list way route
 IsRouteOf cells list way (Err number) = way ≡ nowhere number
 
--- a list that leads to files or to a device, as it was read
+-- the route of a list of files or of a device, after it was read
 pub record IsRoute (cells : Cells) (asker : Asker) (step : Step Led) (route : Route) : Type 0 where
   pub list : PathList
   pub read : list_of asker ≡ Ok list
@@ -146,16 +146,16 @@ abbrev pub RouteIs : Cells → Asker → Step Led → Result Route ℕ → Type 
 RouteIs cells asker step (Ok route) = IsRoute cells asker step route
 RouteIs cells asker step (Err number) = step ≡ refused number
 
--- what a call finds that looks for this and has this refusal, if it has one: the route by its path list, on a machine
--- with so many terminals, or the number with which it is refused
+-- the result for a call with this purpose and this refusal, if any: the route of its path list, on a machine with
+-- `terms` terminals, or the number with which it is refused
 abbrev pub IsRouteFor : Purpose → Option ℕ → Cells → Asker → Files → ℕ → Bool → Result Route ℕ → Type 0
 IsRouteFor purpose refusal cells asker files terms execute result =
     RouteIs cells asker (leads asker refusal (way_for purpose asker files terms execute)) result
 
--- a route that was found has some names, or none
+-- a found route has some names, or no names
 abbrev pub RouteHasNames : Cells → Result Route ℕ → Type 0
 RouteHasNames cells result = IfOk result (λ route. HasNames cells route.way)
 
--- and a file is there at its start
+-- and there is a file at its start
 abbrev pub RouteStarts : List (Option Volume) → List DriveView → Result Route ℕ → Type 0
 RouteStarts disks views result = IfOk result (λ route. StartsOn disks views route.way)

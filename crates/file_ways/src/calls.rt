@@ -23,7 +23,7 @@ use os9_outer::drive::BlockDriver;
 use proc_state::state::ProcState;
 use rbf_walk::DirError;
 
-/// The way along which the path list of a process's call leads.
+/// The route of the path list of a process's call.
 ///
 /// # Errors
 ///
@@ -77,8 +77,8 @@ pub fn call_walk(
     walk(&mut s.memory, disks, devices, walker, from, first)
 }
 
-/// Goes from a directory along the names of the path list of a process's call but the last, which
-/// it answers with the directory that is reached.
+/// Goes from a directory along all names of the path list of a process's call but the last. Returns
+/// the last name and the directory that is reached.
 ///
 /// # Errors
 ///

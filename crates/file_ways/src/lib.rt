@@ -1,5 +1,4 @@
-//! The ways along which path lists lead to files: where they start, and the walk from there, name
-//! by name.
+//! The ways of path lists to files: where they start, and the walk from there, name by name.
 #![tactic(auto)]
 
 pub mod calls;

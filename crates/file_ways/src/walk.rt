@@ -17,7 +17,7 @@ use os9_outer::drive::BlockDriver;
 use path_lists::named::read_name;
 use rbf_walk::DirError;
 
-/// Who walks along a path list, and what for.
+/// Who walks along a path list, and for what.
 #[derive(Clone, Copy, Debug, PartialEq, Eq)]
 pub struct Walker {
     /// The process in whose memory the path list is.
@@ -27,37 +27,37 @@ pub struct Walker {
     pub execute: bool,
 }
 
-/// The last name of a path list, and the directory in which it is to be looked up.
+/// The last name of a path list, and the directory in which it has to be looked up.
 #[derive(Clone, Copy, Debug)]
 pub struct LastName {
     pub directory: FilePlace,
     pub name: Name,
 }
 
-/// Where the last name of a path list stands, and the directory in which it is to be looked up.
+/// The address of the last name of a path list, and the directory in which it has to be looked up.
 #[derive(Clone, Copy, Debug)]
 pub struct LastPlace {
     pub directory: FilePlace,
     pub at: u16,
 }
 
-/// What one name of a path list leads to.
+/// The result of one name of a path list.
 #[derive(Clone, Copy, Debug)]
 pub enum Stepped {
-    /// It is the last one, and has not been looked up.
+    /// It is the last name, and has not been looked up.
     Last,
-    /// To this file, and the next name stands at this address.
+    /// It names this file, and the next name is at this address.
     Onward(FilePlace, u16),
 }
 
-/// Goes from a directory along the names of a path list, of which the first stands at an address,
-/// and answers the file that is reached; `from` itself if there are no names. Each directory that
-/// is searched must let the user read it, or execute it in search of a file to execute (OS-9
-/// Technical Reference, I$Open).
+/// Goes from a directory along the names of a path list, with the first name at `first`. Returns
+/// the file that is reached, or `from` itself if there are no names. Each searched directory must
+/// let the user read it, or execute it in search of a file to execute (OS-9 Technical Reference,
+/// I$Open).
 ///
 /// # Errors
 ///
-/// `NotAllowed` at the first name that is looked up in a file that is no directory or may not be
+/// `NotAllowed` at the first name that is looked up in a file that is not a directory or may not be
 /// searched, `NotFound` at the first that is not there, `Device` if a read of the drive fails.
 pub fn walk(
     memory: &mut Memory,
@@ -88,8 +88,8 @@ pub fn walk(
     }
 }
 
-/// Goes from a directory along the names of a path list but the last, of which the first stands at
-/// an address, and answers the directory that is reached and the last name.
+/// Goes from a directory along all names of a path list but the last, with the first name at
+/// `first`. Returns the directory that is reached and the last name.
 ///
 /// # Errors
 ///
@@ -126,8 +126,8 @@ pub fn walk_to_last(
     }
 }
 
-/// Goes from a directory along the names of a path list but the last, and answers the directory
-/// that is reached and where the last name stands.
+/// Goes from a directory along all names of a path list but the last. Returns the directory that is
+/// reached and the address of the last name.
 ///
 /// # Errors
 ///
@@ -166,7 +166,7 @@ fn reach_last(
     }
 }
 
-/// Reads the name at an address, and goes from a directory by it if it is not the last one.
+/// Reads the name at an address, and goes from a directory by it if it is not the last.
 ///
 /// # Errors
 ///
@@ -226,7 +226,7 @@ fn walk_by(
     disks.walk_to(devices, directory, name, walker.user, walker.execute)
 }
 
-/// What a name leads to, if it leads to a file, where the next name stands at this address.
+/// The result of a name: the file at its end, if there is one, with the address of the next name.
 fn onward(arrived: Result<FilePlace, DirError>, next: u16) -> Result<Stepped, DirError>
     ensures { result ≡ stepped_to next arrived }
 {

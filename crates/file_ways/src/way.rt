@@ -1,4 +1,4 @@
-//! Where path lists start, and what they lead along.
+//! The starts of path lists, and their ways.
 
 ghost use Rattle.std.specs.Prelude.{◌≡◌, ◌||◌, ◌<◌, ℕ, Bool, Option, Some, Ok, Err, IfOk, IfSome, List, vec_len, if◌then◌else◌};
 ghost use Rattle.guest_memory.specs.Tie.{IsSame, cells_of};
@@ -22,35 +22,34 @@ use os9_base::registers::Pid;
 use path_lists::list::{Listed, read_path_list};
 use user_names::name_fault::NameFault;
 
-/// What a call looks for by a path list.
+/// The purpose of a call with a path list.
 #[derive(Clone, Copy, Debug, PartialEq, Eq)]
 pub enum Purpose {
-    /// What is there.
+    /// To find what exists.
     Existing,
-    /// A place for what the call makes.
+    /// To find a place for what the call makes.
     New,
 }
 
-/// A call's question where its path list leads.
+/// A call's query for the route of its path list.
 #[derive(Clone, Copy, Debug, PartialEq, Eq)]
 pub struct Query {
     /// The process that calls.
     pub process: Pid,
     /// The address of its path list.
     pub at: u16,
-    /// The directory of the process at which a list starts that names no device.
+    /// The directory of the process at which a list without a device starts.
     pub directory: Option<FilePlace>,
     pub purpose: Purpose,
-    /// The number with which the call is refused where no byte of its list is missing; None if it
-    /// is to go on.
+    /// The number with which the call is refused if no byte of its list is missing; None if it goes
+    /// on.
     pub refusal: Option<u8>,
 }
 
-/// What a path list leads along.
+/// The way of a path list.
 #[derive(Clone, Copy, Debug, PartialEq, Eq)]
 pub enum Way {
-    /// From a file along names, of which the first stands at an address; there are none if it is
-    /// None.
+    /// From a file along names, with the first name at address `first`; no names if it is None.
     Along { from: FilePlace, first: Option<u16> },
     /// To a terminal or a pipe.
     Device,
@@ -64,18 +63,18 @@ pub struct Route {
     pub next: u32,
 }
 
-/// The way along which the path list of a call leads (System Programmer's Manual, I$Open; Level Two
-/// manual, device descriptors): from the root of the drive that it names, else from the directory
-/// of the process.
+/// The route of the path list of a call (System Programmer's Manual, I$Open; Level Two manual,
+/// device descriptors): from the root of the drive that the list names, else from the directory of
+/// the process.
 ///
 /// # Errors
 ///
 /// The number of the refusal: E$BPAddr exactly if a byte of the list that has to be read is in no
-/// named slot or past `FFFF`; else that of the query, if it has one; else E$BPNam
-/// exactly if a name that has to stand there is none, if something is made at the root of a drive
-/// or as a directory itself or the one above it, or if a slash stands behind a terminal or a pipe;
-/// else E$PNNF exactly if the list names no device and the process has no directory, and E$MNF
-/// exactly if its device is not there or is a drive without a volume.
+/// named slot or past `FFFF`; else that of the query, if it has one; else E$BPNam exactly if a
+/// required name is missing, if something is made at the root of a drive or with the name of a
+/// directory itself or of the one above it, or if a slash follows a terminal or a pipe; else E$PNNF
+/// exactly if the list names no device and the process has no directory, and E$MNF exactly if its
+/// device does not exist or is a drive without a volume.
 pub fn find_route(
     memory: &mut Memory,
     disks: &Disks,
@@ -101,8 +100,8 @@ pub fn find_route(
     }
 }
 
-/// The refusal of a call by its mode (System Programmer's Manual, E$BMode): E$BMode, if it may not
-/// have it.
+/// The refusal of a call by its mode (System Programmer's Manual, E$BMode): E$BMode, if the mode is
+/// not allowed.
 pub fn mode_refusal(allowed: bool) -> Option<u8>
     ensures { result ≡ mode_refusal_lem allowed }
 {
@@ -180,13 +179,12 @@ fn way_by(disks: &Disks, devices: &Devices, query: Query, list: &Listed) -> Resu
     }
 }
 
-/// The way of a path list that starts at this device, and of whose names the first stands at an
-/// address.
+/// The way of a path list that starts at this device, with the first of its names at an address.
 ///
 /// # Errors
 ///
 /// E$MNF exactly if it is a drive without a volume, E$BPNam exactly if it is a terminal or a pipe
-/// with a slash behind it.
+/// followed by a slash.
 fn way_on(disks: &Disks, device: Dev, list: &Listed, first: Option<u16>) -> Result<Way, u8>
     requires { IsDevice device }
     ensures way { (files : Files) (views : List DriveView) (named : PathList)
@@ -203,7 +201,7 @@ fn way_on(disks: &Disks, device: Dev, list: &Listed, first: Option<u16>) -> Resu
     }
 }
 
-/// From a start along names, of which the first stands at an address.
+/// From a start along names, with the first name at an address.
 ///
 /// # Errors
 ///
@@ -221,7 +219,7 @@ fn along(start: Option<FilePlace>, first: Option<u16>, number: u8) -> Result<Way
 ///
 /// # Errors
 ///
-/// E$BPNam exactly if a slash stands behind it.
+/// E$BPNam exactly if a slash follows it.
 fn unless_slash(list: &Listed) -> Result<Way, u8>
     ensures { result
         ≡ (if list.now.slash || list.now.has_names then Err E_BPNAM else Ok Way.Device) }
@@ -233,8 +231,8 @@ fn unless_slash(list: &Listed) -> Result<Way, u8>
     }
 }
 
-/// Is this call to make something where nothing may be made: at the root of a drive, or as a
-/// directory itself or the one above it?
+/// Does this call make something where nothing may be made: at the root of a drive, or with the
+/// name of a directory itself or of the one above it?
 fn makes_nothing(purpose: Purpose, devices: &Devices, list: &Listed) -> bool
     ensures { result ≡ makes_nothing_lem purpose (vec_len devices.now.drives)
         (vec_len devices.now.terms) list.now }

@@ -31,11 +31,11 @@ use Rattle.machine_model.specs.State.{State}
 
 -- ---- one attempt
 
--- how many bytes the attempts of a call of a process have moved before
+-- the number of bytes that earlier attempts of a call of a process have moved
 abbrev pub moved_before : Io → ℕ → ℕ
 moved_before io p = option_map_or (λ kept. kept.moved) (kept_at io p) 0
 
--- where a read stores: I$ReadLn behind what it has moved
+-- the address at which a read stores: I$ReadLn after what it has moved
 abbrev pub stored_from : IoCall → Regs → ℕ → ℕ
 stored_from Call.ReadLn regs moved = regs.x + moved
 stored_from call regs moved = regs.x
@@ -54,30 +54,30 @@ pub record AttemptsOn (s : State) (p n : ℕ) (call : IoCall) (way : Direction) 
   pub path : (opened : OpenPath) × (open_path s.files.io p (path_number call (regs_at s.inner p)) ≡ Some opened)
       × (opened.desc.target ≡ Pipe n)
 
--- how many bytes a call moves in all: what is kept of it says it, or what its first attempt finds
+-- the number of bytes that a call moves in all: from what is kept of it, or from its first attempt
 abbrev pub in_all : Io → ℕ → ℕ → ℕ
 in_all io p first = option_map_or (λ kept. kept.count) (kept_at io p) first
 
--- the registers of the caller where a read is done that took so many bytes in this attempt: I$ReadLn answers those of
--- the attempts before with them
+-- the registers of the caller after a finished read that took `count` bytes in this attempt: I$ReadLn adds those of the
+-- attempts before
 abbrev pub read_answers : IoCall → Caller → Io → ℕ → Regs
 read_answers Call.ReadLn caller io count = count_regs caller (moved_before io caller.process.0 + count)
 read_answers call caller io count = count_regs caller count
 
--- the registers of the caller where a write is done that sends so many bytes in all: F$PErr answers no count
+-- the registers of the caller after a finished write that sends `count` bytes in all: F$PErr answers no count
 abbrev pub write_answers : IoCall → Caller → ℕ → Regs
 write_answers Call.PErr caller count = caller.regs
 write_answers call caller count = count_regs caller count
 
--- a read that took so many bytes ends so: where it waits it has moved so many more, where it is done it answers them,
--- and where it is refused it took none
+-- the end of a read that took `count` bytes: if it waits it has moved `count` more; if it is done it answers them; and
+-- if it is refused it took none
 abbrev pub ReadCounts : IoCall → Caller → Io → ℕ → IoEnd → Type 0
 ReadCounts call caller io count (answers regs) = regs ≡ read_answers call caller io count
 ReadCounts call caller io count (fails number) = count ≡ 0
 ReadCounts call caller io count (keeps kept) = kept.moved ≡ moved_before io caller.process.0 + count
 
--- a write that sends these bytes and put in so many ends so: where it waits it has moved so many more, where it is done
--- it has moved all, and answers their count, and where one is refused that had bytes left, it has some left still
+-- the end of a write that sends these bytes and put in `count`: if it waits it has moved `count` more; if it is done it
+-- has moved all and answers their count; and if one with bytes left is refused, it still has some left
 abbrev pub WriteCounts : IoCall → Caller → Io → List ℕ → ℕ → IoEnd → Type 0
 WriteCounts call caller io sent count (answers regs) =
     (moved_before io caller.process.0 + count ≡ in_all io caller.process.0 (length sent))
@@ -87,14 +87,14 @@ WriteCounts call caller io sent count (fails number) =
     → moved_before io caller.process.0 + count ≢ in_all io caller.process.0 (length sent)
 WriteCounts call caller io sent count (keeps kept) = kept.moved ≡ moved_before io caller.process.0 + count
 
--- An attempt on a pipe that moves no byte of it ends so: it is refused; or its call asks for none, and is done at once,
--- with the registers that it was made with. F$PErr always sends a line.
+-- The end of an attempt on a pipe that moves no byte of it: it is refused; or its call asks for none, and is done at
+-- once, with the registers with which it was made. F$PErr always sends a line.
 abbrev pub MovesNone : Caller → IoEnd → Type 0
 MovesNone caller (answers regs) = (caller.regs.y ≡ 0) × (regs ≡ caller.regs)
 MovesNone caller (fails number) = ⊤
 MovesNone caller (keeps kept) = ⊥
 
--- an attempt of a process that ends in this way leads to this state
+-- an attempt of a process with this kind of end leads to this state
 pub record EndsIn (s : State) (p : ℕ) (Counts : IoEnd → Type 0) (t : State) : Type 0 where
   pub effect : IoEffect
   pub inner : t.inner ≡ after_attempt s.inner p (result_of s.inner p effect)
@@ -108,7 +108,7 @@ pub record TakesOut (n : ℕ) (s : State) (bytes : List ℕ) (t : State) : Type 
   pub call : IoCall
   pub attempt : AttemptsOn s process n call Reading
   pub front : pipe_bytes s.files.io n ≡ bytes ++ pipe_bytes t.files.io n
-  -- one that has a byte left to move, and takes none, finds none
+  -- a read with a byte left to move that takes none finds none
   pub none : bytes ≡ [] → moved_before s.files.io process < in_all s.files.io process (regs_at s.inner process).y
       → pipe_bytes s.files.io n ≡ []
   pub seen : t.inner.memory
@@ -126,20 +126,20 @@ pub record PutsIn (n : ℕ) (s : State) (bytes : List ℕ) (t : State) : Type 0 
   pub sent : List ℕ
   pub sends : sent_by call (caller_of s.inner process) s.files.io ≡ Some sent
   pub next : bytes ≡ take (length bytes) (drop (moved_before s.files.io process) sent)
-  -- one that has a byte left to move, and puts none in, finds no room
+  -- a write with a byte left to move that puts none in finds no room
   pub none : bytes ≡ [] → moved_before s.files.io process < length sent → pipe_room (pipe_bytes s.files.io n) ≡ 0
   pub memory : t.inner.memory ≡ s.inner.memory
   pub counts : EndsIn s process (WriteCounts call (caller_of s.inner process) s.files.io sent (length bytes)) t
 
 -- ---- events
 
--- an event leaves a pipe as it is; if it is an attempt of a call on it, that moves no byte, and stores none
+-- an event leaves a pipe unchanged; if it is an attempt of a call on it, that moves no byte, and stores none
 pub record LeavesPipe (n : ℕ) (s t : State) : Type 0 where
   pub held : pipe_bytes t.files.io n ≡ pipe_bytes s.files.io n
   pub attempt : (p : ℕ) (call : IoCall) (way : Direction) → s.chosen ≡ Some p → AttemptsOn s p n call way
       → EndsIn s p (MovesNone (caller_of s.inner p)) t × (t.inner.memory ≡ s.inner.memory)
 
--- an event moves this through a pipe, or leaves it as it is
+-- an event moves this through a pipe, or leaves it unchanged
 abbrev pub MovesThrough : ℕ → State → Option Movement → State → Type 0
 MovesThrough n s None t = LeavesPipe n s t
 MovesThrough n s (Some (In bytes)) t = PutsIn n s bytes t
@@ -157,7 +157,7 @@ pub record Passing : Type 0 where
 abbrev pub IsPassing : ℕ → Passing → Type 0
 IsPassing n it = (end : EventEnd) × Event it.before end it.after × MovesThrough n it.before it.moved it.after
 
--- a pipe is there after an event, and was not there before; then no path of a process was opened on it
+-- a pipe exists after an event, and did not exist before; no path of a process was opened on it before
 pub record IsNew (n : ℕ) (s t : State) : Type 0 where
   pub absent : pipe_of s.files.io.pipes n ≡ None
   pub unused : (p number : ℕ) (opened : OpenPath) → open_path s.files.io p number ≡ Some opened
@@ -178,20 +178,20 @@ pub record IsBrokenOff (n : ℕ) (s : State) (p : ℕ) (kept : Kept) : Type 0 wh
 abbrev pub with_y : Inner → ℕ → ℕ → Regs
 with_y inner p y = record (regs_at inner p) { y = y }
 
--- what is pushed of them for the routine of its intercept: a call that waits ends as refused with the signal
+-- the registers that are pushed for the routine of its intercept: a pending call ends as refused with the signal
 abbrev pub pushed_regs : Inner → ℕ → ℕ → ℕ → Regs
 pushed_regs inner p signal y =
     if is_waiting (record_at inner.records p).life then refused_regs (with_y inner p y) signal else with_y inner p y
 
--- a frame is pushed that has in Y how many bytes the call has moved
+-- a frame is pushed whose Y has the number of bytes that the call has moved
 pub record TellsMoved (before : Inner) (p signal moved : ℕ) (after : Inner) : Type 0 where
   pub frame : after.memory
       ≡ stored before.memory p (stack_top (regs_at before p).s - 12) (frame_bytes (pushed_regs before p signal moved))
 
 -- ---- runs
 
--- What a run leaves from one event to the next: ticks, choices and the host, who takes what terminals were given, leave
--- pipes, paths, the calls that wait, memory and registers.
+-- What a run leaves unchanged from one event to the next: ticks, choices and the host, who takes the bytes that
+-- terminals were given, leave pipes, paths, pending calls, memory and registers unchanged.
 pub record Rests (m s : State) : Type 0 where
   pub pipes : s.files.io.pipes ≡ m.files.io.pipes
   pub paths : s.files.io.paths ≡ m.files.io.paths
@@ -199,7 +199,8 @@ pub record Rests (m s : State) : Type 0 where
   pub memory : s.inner.memory ≡ m.inner.memory
   pub regs : (p : ℕ) → regs_at s.inner p ≡ regs_at m.inner p
 
--- each of these events begins where the one before it ended, the first one in s, and t is where the last one ended
+-- each of these events begins in the state after the one before it, the first one in s, and t is the state after the
+-- last one
 abbrev pub Linked : State → List Passing → State → Type 0
 Linked s [] t = Rests s t
 Linked s (it ∷ events) t = Rests s it.before × Linked it.after events t
@@ -212,8 +213,8 @@ AllLive n states = AllByRecursion (λ (s : State). IsPipe s.files.io.pipes n) st
 abbrev pub moved_by : List Passing → List Movement
 moved_by events = filter_map (λ it. it.moved) events
 
--- what goes through a pipe from one state to another, through these: all that comes out is the front of what was in it
--- and comes in, and the rest is what it holds
+-- what passes through a pipe from one state to another, through these: everything read is the front of what was in it
+-- and is put in, and the rest is what it holds
 pub record PassesThrough (n : ℕ) (s : State) (states : List State) (t : State) : Type 0 where
   pub events : List Passing
   pub through : map (λ it. it.after) events ≡ states

@@ -1,4 +1,4 @@
--- What becomes of the keys of a terminal (Level Two manual, SCF).
+-- The use of the keys of a terminal (Level Two manual, SCF).
 use Rattle.std.specs.Prelude.{◌≡◌, ◌≢◌, ◌⊎◌, ℕ, ◌-◌, ◌<◌, ◌≤◌, min, true, false, Option, Some, None, List, [], ◌∷◌, ◌++◌, length, slice_get, take}
 use Rattle.std.specs.List.{AllByRecursion, filter_map, flat_map}
 use Rattle.std.specs.Option.{option_map_or}
@@ -39,7 +39,7 @@ use Rattle.machine_model.specs.State.{State}
 abbrev pub keys_to_come : State → ℕ → List Key
 keys_to_come s n = option_map_or (λ terminal. terminal.keys) (slice_get s.terms n) []
 
--- how often it has failed
+-- the number of its failures
 abbrev pub faults_at : State → ℕ → ℕ
 faults_at s n = option_map_or (λ terminal. terminal.faults) (slice_get s.terms n) 0
 
@@ -52,28 +52,29 @@ pub record HasAhead (n : ℕ) (s : State) : Type 0 where
   pub within : n < length s.files.io.terminals
   pub few : length (ahead_at s n) ≤ TYPE_AHEAD
 
--- of keys that arrive, those that go into the type-ahead: no key that sends a signal does, and none that finds it full
+-- the arriving keys that go into the type-ahead: none that sends a signal, and none that finds it full
 abbrev pub gained : State → ℕ → List Key → List ℕ
 gained s n keys = take (TYPE_AHEAD - length (ahead_at s n)) (typed_bytes (key_bytes keys))
 
 -- ---- the line that is typed
 
--- it stays, and whose read it is
+-- it stays, with its reader
 pub record LineStays (old new : Terminal) : Type 0 where
   pub line : new.line ≡ old.line
   pub reading : new.reading ≡ old.reading
 
--- it is dropped, with its read; the last finished line is what it was
+-- it is dropped, with its read; the last finished line is unchanged
 pub record LineGoes (last : Editing) (new : Terminal) : Type 0 where
   pub line : new.line ≡ cleared last
   pub reading : new.reading ≡ None
 
--- the process whose read is unfinished ends in this event, or it is where a signal is delivered to it
+-- the process whose read is unfinished ends in this event, or a signal is delivered to it
 pub record ReaderStops (n p : ℕ) (s : State) (end : EventEnd) : Type 0 where
   pub reads : reader (terminal_at s.files.io n) ≡ Some (pid p)
   pub stops : (end ≡ Ended) ⊎ ((signal : ℕ) × (act_of s.inner p ≡ delivers signal))
 
--- a process attempts a write, whose path was opened on this terminal, and which is refused because the terminal failed
+-- a process attempts a write on a path that was opened on this terminal, and the write is refused because the terminal
+-- failed
 pub record WriteFails (n p : ℕ) (s t : State) : Type 0 where
   pub call : IoCall
   pub attempted : (code : ℕ) × (act_of s.inner p ≡ attempts code) × (io_call_of code ≡ Some call)
@@ -100,13 +101,13 @@ pub record KeysArrive (n : ℕ) (s : State) (keys : List Key) (t : State) : Type
 
 -- ---- events
 
--- the call that reads so
+-- the call of this kind of read
 abbrev pub read_call : ReadKind → IoCall
 read_call Bytes = Call.Read
 read_call WholeLine = Call.ReadLn
 
--- how many bytes a read of a process with these registers asks for: what is kept of it says it, or Y at its first
--- attempt
+-- the number of bytes that a read of a process with these registers asks for: from what is kept of it, or from Y at its
+-- first attempt
 abbrev pub asked_by : Io → ℕ → Regs → ℕ
 asked_by io p regs = option_map_or (λ kept. kept.count) (kept_at io p) regs.y
 
@@ -121,9 +122,9 @@ pub record ReadsFrom (s : State) (p n : ℕ) (kind : ReadKind) : Type 0 where
   pub path : (opened : OpenPath) × (open_path s.files.io p (regs_at s.inner p).a ≡ Some opened)
       × (opened.desc.target ≡ Term n)
 
--- An attempt of a read that used keys ends so, by what they made of its line. Where they ended the line, its bytes are
--- stored and it answers their count; where it is refused, the end of the file was typed or the terminal failed, and
--- the line is dropped; where they did not end it, the line stays with the read, no key is left, and the call waits.
+-- The end of an attempt of a read that used keys, by their effect on its line. If they ended the line, its bytes are
+-- stored and the read answers their count. If it is refused, the end of the file was typed or the terminal failed, and
+-- the line is dropped. If they did not end it, the line stays with the read, no key is left, and the call waits.
 abbrev pub ReadEnds : ℕ → State → ℕ → Reading → Typing → State → IoEnd → Type 0
 ReadEnds n s p request made t (answers regs) =
     (made.end ≡ Some Line) × (regs ≡ count_regs (caller_of s.inner p) (length made.line.bytes))
@@ -137,8 +138,8 @@ ReadEnds n s p request made t (keeps kept) =
     × ((terminal_at t.files.io n).reading ≡ Some request)
     × (ahead_at t n ≡ []) × (t.inner.memory ≡ s.inner.memory)
 
--- a read of the chosen process uses these keys, the next ones of the type-ahead: its line is what all of them make of
--- it, none lies behind its end
+-- a read of the chosen process uses these keys, the next ones of the type-ahead: its line is the result of all of them,
+-- and none is after its end
 pub record UsesKeys (n : ℕ) (s : State) (keys : List ℕ) (t : State) : Type 0 where
   pub process : ℕ
   pub chosen : s.chosen ≡ Some process
@@ -152,21 +153,21 @@ pub record UsesKeys (n : ℕ) (s : State) (keys : List ℕ) (t : State) : Type 0
   pub ends : EndsIn s process (ReadEnds n s process request (typed request (terminal_at s.files.io n).line keys) t) t
   pub come : keys_to_come t n ≡ keys_to_come s n
 
--- the process ends in this event, or it is where a signal is delivered to it whose call waits on this terminal
+-- the process ends in this event, or a signal is delivered to it and its call waits on this terminal
 abbrev pub StopsReading : ℕ → ℕ → State → EventEnd → Type 0
 StopsReading n p s end =
     (end ≡ Ended)
     ⊎ ((signal : ℕ) × (act_of s.inner p ≡ delivers signal) × (wait_target s.files.io p ≡ Some (Term n)))
 
--- An attempt of a read that uses no key ends so: it asks for no byte, and is done at once, with the registers that it
--- was made with; it is refused with neither 211 nor 245; or it waits for the read of another process.
+-- The end of an attempt of a read that uses no key: it asks for no byte, and is done at once, with the registers with
+-- which it was made; it is refused with neither 211 nor 245; or it waits for the read of another process.
 abbrev pub UsesNone : ℕ → Caller → Io → IoEnd → Type 0
 UsesNone n caller io (answers regs) = (caller.regs.y ≡ 0) × (regs ≡ caller.regs)
 UsesNone n caller io (fails number) = (number ≢ E_EOF) × (number ≢ E_WRITE)
 UsesNone n caller io (keeps kept) = is_taken caller.process (terminal_at io n) ≡ true
 
--- no key arrives, and none is used, so that an attempt of a read of this terminal ends as one that uses none; the line
--- stays, or it is dropped for a cause, and it is where the reader stops
+-- no key arrives, and none is used, so an attempt of a read of this terminal ends as one that uses none; the line
+-- stays, or it is dropped for a cause, and it is dropped if the reader stops
 pub record KeysStay (n : ℕ) (s : State) (end : EventEnd) (t : State) : Type 0 where
   pub ahead : ahead_at t n ≡ ahead_at s n
   pub come : keys_to_come t n ≡ keys_to_come s n
@@ -176,7 +177,7 @@ pub record KeysStay (n : ℕ) (s : State) (end : EventEnd) (t : State) : Type 0 
   pub reads : (p : ℕ) (kind : ReadKind) → s.chosen ≡ Some p → ReadsFrom s p n kind
       → EndsIn s p (UsesNone n (caller_of s.inner p) s.files.io) t × (t.inner.memory ≡ s.inner.memory)
 
--- what becomes of keys in a step of a run
+-- what happens to keys in a step of a run
 pub data KeyMove : Type 0 where
   -- these arrive
   arrive : List Key → KeyMove
@@ -193,7 +194,7 @@ EventKeys n s end stay t = KeysStay n s end t
 
 -- ---- runs
 
--- a tick or an event of a run, and what becomes of the keys in it
+-- a tick or an event of a run, and what happens to the keys in it
 pub record KeyStep : Type 0 where
   pub before : State
   pub move : KeyMove
@@ -219,14 +220,16 @@ through_ahead n s stay = None
 abbrev pub ahead_moves : ℕ → List KeyStep → List Movement
 ahead_moves n steps = filter_map (λ it. through_ahead n it.before it.move) steps
 
--- What a run leaves from one step to the next: a choice, and the host, who takes what terminals were given, leave the
--- kernel's input and output, the keys to come, and all of the processes but the order of choice.
+-- What a run leaves unchanged from one step to the next: a choice, and the host, who takes the bytes that terminals
+-- were given, leave unchanged the kernel's input and output, the keys to come, and all of the processes except the
+-- order of choice.
 pub record Stands (m s : State) : Type 0 where
   pub io : s.files.io ≡ m.files.io
   pub come : (n : ℕ) → keys_to_come s n ≡ keys_to_come m n
   pub inner : s.inner ≡ record m.inner { order = s.inner.order }
 
--- each of these steps begins where the one before it ended, the first one in s, and t is where the last one ended
+-- each of these steps begins in the state after the one before it, the first one in s, and t is the state after the
+-- last one
 abbrev pub FollowOn : State → List KeyStep → State → Type 0
 FollowOn s [] t = Stands s t
 FollowOn s (it ∷ steps) t = Stands s it.before × FollowOn it.after steps t
@@ -237,9 +240,9 @@ after_event (arrive keys) after = None
 after_event (use_up keys) after = Some after
 after_event stay after = Some after
 
--- What becomes of the keys of a terminal from one state to another, by ticks and the events that lead through these:
--- those that arrive are the next ones that were to come; all that reads use, one after another, is the front of the
--- type-ahead and of what has come into it, and the rest is what it has.
+-- The keys of a terminal from one state to another, by ticks and the events that lead through these states: those that
+-- arrive are the next ones to come. All keys that reads use, in order, are the front of the type-ahead and of what has
+-- entered it, and the rest is what it has.
 pub record KeysPass (n : ℕ) (s : State) (states : List State) (t : State) : Type 0 where
   pub steps : List KeyStep
   pub through : filter_map (λ it. after_event it.move it.after) steps ≡ states

@@ -11,14 +11,14 @@ ghost use Rattle.os9_outer.specs.declared.terminal.Key.{Key};
 ghost use Rattle.flow_laws.specs.Keys.{KeyMove, EventKeys, HasAhead, KeysArrive, KeysPass, ahead_at};
 
 /// The type-ahead of a terminal is empty at the start. Its keys arrive in ticks, in order, and go
-/// into it, but for those that send a signal or find it full. Only a read whose path was opened on
+/// into it, except those that send a signal or find it full. Only a read whose path was opened on
 /// the terminal takes keys out of it, from its front, while no other process's read is unfinished,
-/// and they make its line. That is stored where they end it, stays with the read where they do not,
-/// and is dropped where the read is refused. Any other attempt of a read of it asks for no byte, is
-/// refused with neither 211 nor 245, or waits for another process's read. Nothing else drops the
-/// line but a signal that is delivered to the reader, its end, and a write that the terminal fails.
-/// Over a slice and a run the keys that came into the type-ahead are, in order, those that its
-/// events used and those that stand there still.
+/// and they make its line. The line is stored if they end it, stays with the read if they do not,
+/// and is dropped if the read is refused. Any other attempt of a read of the terminal asks for no
+/// byte, is refused with neither 211 nor 245, or waits for another process's read. Otherwise the
+/// line is dropped only by a signal delivered to the reader, the reader's end, and a write in which
+/// the terminal fails. Over a slice and a run the keys that entered the type-ahead are, in order,
+/// those that its events used and those that are still in it.
 pub fn each_key_is_used_once()
     ensures start { (boot : Boot) (s : State) (n : ℕ) → Starts boot s → n < 4
         → HasAhead n s × (ahead_at s n ≡ []) }

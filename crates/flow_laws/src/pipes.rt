@@ -12,14 +12,14 @@ ghost use Rattle.machine_model.specs.Run.{BeginsSlice, FirstSteps, Run, Slice, S
 ghost use Rattle.machine_model.specs.State.{State};
 ghost use Rattle.flow_laws.specs.Flow.{TellsMoved, AllLive, IsBrokenOff, IsNew, Passes, PassesThrough};
 
-/// While a pipe lives, an event moves bytes into it or out of it only as an attempt of a call on it
-/// does: a read takes them from its front and stores them where its process sees them, and a write
-/// puts them in at its end, which are the next ones of those that its process sends. A call that is
-/// done answers how many they were, and a read that is refused took none. One that has bytes left
-/// and moves none finds the pipe empty or, to write, full. Any other attempt on the pipe is
-/// refused, or asks for no byte. Where a signal breaks off a line read or a write that waits, the
-/// frame of the routine has the registers of the process, with how many bytes the call has moved in
-/// Y, and carry set and the signal in B where the process waited.
+/// While a pipe lives, an event moves bytes into it or out of it only as an attempt of a call on
+/// it: a read takes them from its front and stores them where its process sees them, and a write
+/// appends the next of the bytes that its process sends. A call that is done answers their count,
+/// and a refused read took none. A call with bytes left that moves none finds the pipe empty or, in
+/// a write, full. Any other attempt on the pipe is refused, or asks for no byte. If a signal breaks
+/// off a pending line read or write, the frame of the routine has the registers of the process,
+/// with the number of bytes moved by the call in Y, and carry set and the signal in B if the
+/// process waited.
 pub fn what_is_read_of_a_pipe_is_what_was_written()
     ensures event { (s t : State) (end : EventEnd) (n : ℕ) → Event s end t
         → IsPipe s.files.io.pipes n → IsPipe t.files.io.pipes n → Passes n s t }
@@ -40,9 +40,9 @@ pub fn a_new_pipe_is_empty()
         → pipe_bytes t.files.io n ≡ [] }
 {}
 
-/// A pipe may be opened by an event of a slice, and go with another one. So what passes through it
-/// passes from any state in which it lives: over the rest of a slice, over the first events of
-/// such a rest or of a slice, and over parts of a run that follow one another.
+/// A pipe may be opened by an event of a slice, and disappear with another one. So bytes pass
+/// through it from any state in which it lives: over the rest of a slice, over the first events of
+/// such a rest or of a slice, and over consecutive parts of a run.
 pub fn a_pipe_passes_bytes_as_long_as_it_lives()
     ensures rest { (left : ℕ) (s t : State) (states : List State) (n : ℕ)
         → Steps left s states t → IsPipe s.files.io.pipes n → AllLive n states

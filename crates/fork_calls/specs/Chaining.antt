@@ -5,7 +5,7 @@ use Rattle.proc_rules.specs.Signals.{with_intercept}
 use Rattle.call_rules.specs.Inner.{Inner, with_records, with_own}
 use Rattle.fork_calls.specs.declared.starting.Beginning.{Beginning}
 
--- the state where a process begins anew so, without an intercept
+-- the state in which a process begins anew in this way, without an intercept
 abbrev pub begun_so : Inner → ℕ → Beginning → Inner
 begun_so s p start =
     with_own (with_records s (with_intercept (with_regs s.records p start.regs) p None)) p start.own

@@ -1,5 +1,5 @@
--- A program that is loaded into the memory of a process, and the process that begins with it (System Programmer's
--- Manual, F$Fork and F$Chain).
+-- Loading a program into the memory of a process, and the process that begins with it (System Programmer's Manual,
+-- F$Fork and F$Chain).
 use Rattle.std.specs.Prelude.{◌≡◌, ℕ, nat_lt, Result}
 use Rattle.std.specs.Result.{result_map_both}
 use Rattle.os9_base.specs.declared.errors.TheConstants.{E_MEMFUL}
@@ -16,7 +16,7 @@ use Rattle.proc_state.specs.declared.state.ProcState.{ProcState}
 use Rattle.proc_state.specs.Tie.{Represents}
 use Rattle.fork_calls.specs.declared.starting.Beginning.{Beginning}
 
--- the memory of a process that begins with a program: the parameters are stored and the module has one link more
+-- the memory of a process that begins with a program: the parameters are stored and the module has one more link
 abbrev pub begun : MemoryState → ℕ → Program → Result MemoryState MemoryFault
 begun m p program =
     result_map_both (λ memory. with_parameters (linked memory program.entered.number) p program) (λ fault. fault)
@@ -28,7 +28,7 @@ loads_program m p program next =
     refuses (nat_lt most_pages program.pages) E_MEMFUL
     (changes (started m.memory p program.entered.number (blocks_of_pages program.pages)) next)
 
--- a process begins so with a program, and a call goes on with its memory
+-- a process has this beginning with a program, and a call goes on with its memory
 pub record IsLoaded (m : Inner) (p : ℕ) (program : Program) (new : ProcState) (start : Beginning) : Type 0 where
   pub memory : MemoryState
   pub goes : (next : MemoryState → CallResult) → loads_program m p program next ≡ next memory
@@ -36,12 +36,12 @@ pub record IsLoaded (m : Inner) (p : ℕ) (program : Program) (new : ProcState) 
   pub regs : start.regs ≡ start_regs program
   pub own : start.own ≡ start_own program
 
--- a call that can not load the program is refused with this number, and nothing has changed
+-- a call that cannot load the program is refused with this number, and nothing has changed
 pub record IsNotLoaded (m : Inner) (p : ℕ) (program : Program) (new : ProcState) (number : ℕ) : Type 0 where
   pub goes : (next : MemoryState → CallResult) → loads_program m p program next ≡ refused number
   pub stands : Represents new m
 
--- the state with a child of a process that begins so: its user and its priority are its parent's
+-- the state with a child of a process that has this beginning, and its parent's user and priority
 abbrev pub with_new_child : Inner → ℕ → ℕ → Beginning → Inner
 with_new_child s p child start =
     with_own (record s {

@@ -17,7 +17,7 @@ finds_program entries kind read next =
     (λ name. needs (found_entry entries name kind) E_MNF
     (λ found. refuses (not (found.entry.info.kind == program_kind)) E_NEMOD (next name found))))
 
--- a call goes on with this program, whose name has so many characters
+-- a call goes on with this program, whose name has this length
 pub record IsFound (entries : List (Option ModuleEntry)) (kind : ℕ) (read : Option (List ℕ)) (number count : ℕ)
     : Type 0 where
   pub name : List ℕ
@@ -32,7 +32,7 @@ abbrev pub IsUnfound : List (Option ModuleEntry) → ℕ → Option (List ℕ) �
 IsUnfound entries kind read number =
     (next : List ℕ → Entered → CallResult) → finds_program entries kind read next ≡ refused number
 
--- the program that is meant, by the entry of its module and the bytes of its parameters
+-- the program that is meant, from the entry of its module and the bytes of its parameters
 abbrev pub meant : NamedProgram → ModuleEntry → List ℕ → Program
 meant program entry bytes = record {
   entered = record { number = program.id.0; entry = entry };
@@ -41,7 +41,7 @@ meant program entry bytes = record {
   count = program.count;
 }
 
--- a call goes on with this program, whose parameters stand at the front of a buffer
+-- a call goes on with this program, whose parameters are at the front of a buffer
 pub record IsRead (m : Inner) (p : ℕ) (program : NamedProgram) (buffer : List ℕ) : Type 0 where
   pub entry : ModuleEntry
   pub is : module_entry_at m.memory.modules program.id.0 ≡ Some entry

@@ -24,16 +24,16 @@ use proc_state::outcome::call_end;
 use proc_state::state::ProcState;
 
 /// F$Chain: starts another program in this process (System Programmer's Manual, F$Chain). Takes the
-/// type and language of the program in A, the pages of its data area in B, its name at X, and the
-/// size and the address of its parameters in Y and U. The process keeps its number, its parent, its
-/// user, its priority, its children and a pending signal; it gives up its map, its intercept and,
-/// once the new program is linked, a link to its old primary module.
+/// type and language of the program in A, the pages of its data area in B, the address of its name
+/// in X, and the size and the address of its parameters in Y and U. The process keeps its number,
+/// its parent, its user, its priority, its children and a pending signal; it gives up its map, its
+/// intercept and, once the new program is linked, a link to its old primary module.
 ///
 /// # Errors
 ///
-/// Those of the name, the parameters and the program, as [`read_program`] has them; else E$MemFul
-/// and E$NoRAM exactly if there is no room for its memory, as [`load_program`] has them, where the
-/// blocks of its own data area count as free. Nothing has changed then.
+/// Those of the name, the parameters and the program, as in [`read_program`], else E$MemFul and
+/// E$NoRAM exactly if there is no room for its memory, as in [`load_program`]; the blocks of its
+/// own data area count as free. Nothing has changed then.
 pub fn f_chain(s: &mut ProcState, p: Pid) -> CallEnd
     requires lives { IsLiving s.old.table p.0 }
     ensures call { (m : Inner) → Represents s.old m
@@ -53,13 +53,13 @@ fn chain(s: &mut ProcState, p: Pid) -> Result<(), u8>
     start_anew(s, p, program)
 }
 
-/// A process begins anew with a program. The parameters stand at the front of the buffer. What
-/// becomes of it is that of F$Chain.
+/// A process begins anew with a program. The parameters are at the front of the buffer. The process
+/// changes as by F$Chain.
 ///
 /// # Errors
 ///
-/// E$MemFul and E$NoRAM exactly if there is no room for its memory, as [`load_program`] has them,
-/// where the blocks of its own data area count as free. Nothing has changed then.
+/// E$MemFul and E$NoRAM exactly if there is no room for its memory, as in [`load_program`]; the
+/// blocks of its own data area count as free. Nothing has changed then.
 pub fn start_anew(s: &mut ProcState, p: Pid, program: NamedProgram) -> Result<(), u8>
     requires lives { IsLiving s.old.table p.0 }
     requires entered { IsSome (module_entry_at (modules_of s.old.memory) program.id.0) }
@@ -91,7 +91,7 @@ fn begin_anew(s: &mut ProcState, p: Pid, start: Beginning)
     s.unlink_primary(old);
 }
 
-/// The record of a process has these registers, and no intercept any more.
+/// The record of a process gets these registers, and has no intercept any more.
 fn renew_record(s: &mut ProcState, p: Pid, regs: Regs)
     requires lives { IsLiving s.old.table p.0 }
     ensures tied { (m : Inner) → Represents s.old m → Represents s.new

@@ -23,16 +23,17 @@ use os9_base::registers::{Pid, Regs};
 use proc_state::outcome::call_end;
 use proc_state::state::ProcState;
 
-/// F$Fork: starts a process (System Programmer's Manual, F$Fork). Takes the type and language of the
-/// program in A, the pages of its data area in B, its name at X, and the size and the address of its
-/// parameters in Y and U; answers the number of the new process in A, and X past the name. The new
-/// process is a child of this one and has its user and its priority.
+/// F$Fork: starts a process (System Programmer's Manual, F$Fork). Takes the type and language of
+/// the program in A, the pages of its data area in B, the address of its name in X, and the size
+/// and the address of its parameters in Y and U. Returns the number of the new process in A, and
+/// the address after the name in X. The new process is a child of this one and has its user and its
+/// priority.
 ///
 /// # Errors
 ///
-/// Those of the name, the parameters and the program, as [`read_program`] has them; else E$PrcFul
-/// exactly if there are 31 records; else E$MemFul and E$NoRAM exactly if there is no room for its
-/// memory, as [`load_program`] has them. Nothing has changed then.
+/// Those of the name, the parameters and the program, as in [`read_program`], else E$PrcFul exactly
+/// if there are 31 records, else E$MemFul and E$NoRAM exactly if there is no room for its memory,
+/// as in [`load_program`]. Nothing has changed then.
 pub fn f_fork(s: &mut ProcState, p: Pid) -> CallEnd
     requires lives { IsLiving s.old.table p.0 }
     ensures call { (m : Inner) → Represents s.old m
@@ -52,13 +53,13 @@ fn fork(s: &mut ProcState, p: Pid) -> Result<(), u8>
     start_child(s, p, program)
 }
 
-/// A process gets a child, which starts a program. The parameters stand at the front of the buffer.
-/// What it answers is that of F$Fork.
+/// A process gets a child, which starts a program. The parameters are at the front of the buffer.
+/// The results are those of F$Fork.
 ///
 /// # Errors
 ///
 /// E$PrcFul exactly if there are 31 records; else E$MemFul and E$NoRAM exactly if there is no room
-/// for its memory, as [`load_program`] has them. Nothing has changed then.
+/// for its memory, as in [`load_program`]. Nothing has changed then.
 pub fn start_child(s: &mut ProcState, p: Pid, program: NamedProgram) -> Result<(), u8>
     requires lives { IsLiving s.old.table p.0 }
     requires entered { IsSome (module_entry_at (modules_of s.old.memory) program.id.0) }
@@ -78,7 +79,7 @@ pub fn start_child(s: &mut ProcState, p: Pid, program: NamedProgram) -> Result<(
     Ok(())
 }
 
-/// A process gets a child, whose number is the least that is free and which begins so.
+/// A process gets a child with the least free number and this beginning.
 fn add_child(s: &mut ProcState, p: Pid, child: Pid, start: Beginning)
     requires lives { IsLiving s.old.table p.0 }
     requires free { free_process s.old.table ≡ Some child.0 }
@@ -97,7 +98,7 @@ fn add_child(s: &mut ProcState, p: Pid, child: Pid, start: Beginning)
 }
 
 /// The registers of a process that has forked this child with a program whose name, or path list,
-/// has so many characters.
+/// has `count` characters.
 pub fn forked_regs(regs: Regs, child: Pid, count: u32) -> Regs
     ensures { (program : Program) → program.count ≡ count
         → result ≡ forked_regs_lem regs child.0 program }

@@ -1,4 +1,4 @@
-//! Programs that are loaded into the memory of a process.
+//! Loading programs into the memory of a process.
 
 ghost use Rattle.std.specs.Prelude.{◌≡◌, ℕ, ◌*◌, ◌<◌, ◌≤◌, None, Some, is_some, IsSome, IfOk, MatchResult, length, take};
 ghost use Rattle.std.specs.Option.{ForSome};
@@ -21,14 +21,14 @@ use proc_model::memory::MemoryFault;
 use proc_state::state::ProcState;
 
 /// The memory of a process begins anew with a program: a data area of zeros, with the parameters at
-/// its end, and the group of the program's module, which has one link more. Answers what else the
+/// its end, and the group of the program's module, which has one more link. Returns what else the
 /// process begins with.
 ///
 /// # Errors
 ///
-/// E$MemFul exactly if the data area has more than 57,344 bytes, the slots are too few or the module
-/// has all the links that it can have; else E$NoRAM exactly if too few blocks are free. Nothing has
-/// changed then.
+/// E$MemFul exactly if the data area has more than 57,344 bytes, the slots are too few or the
+/// module has all the links that it can have; else E$NoRAM exactly if too few blocks are free.
+/// Nothing has changed then.
 pub fn load_program(s: &mut ProcState, p: Pid, program: NamedProgram) -> Result<Beginning, u8>
     requires process { p.0 < 33 }
     requires entered { IsSome (module_entry_at (modules_of s.old.memory) program.id.0) }
@@ -53,8 +53,8 @@ pub fn load_program(s: &mut ProcState, p: Pid, program: NamedProgram) -> Result<
     }
 }
 
-/// Memory where a process begins with a program and these parameters, and the program's module has
-/// one link more.
+/// The memory in which a process begins with a program and these parameters, and the program's
+/// module has one more link.
 fn begin(
     memory: &mut Memory,
     p: Pid,

@@ -22,8 +22,8 @@ const PROGRAM: u8 = 0x11;
 /// The type of a program, in any language.
 const ANY_PROGRAM: u8 = 0x10;
 
-/// Reads what the bytes at an address of a process name: of a run of name characters at most 30
-/// bytes, and the byte behind a `/` that ends it (System Programmer's Manual, F$Fork and F$Chain).
+/// Reads what the bytes at an address of a process name (System Programmer's Manual, F$Fork and
+/// F$Chain): at most 30 bytes of a run of name characters, and the byte after a `/` that ends it.
 pub fn read_name(memory: &mut Memory, p: Pid, at: u16) -> ProgramName
     requires { p.0 < 33 }
     ensures name { (m : MemoryState) → Represents memory.old m
@@ -72,13 +72,12 @@ fn ends_in_slash(bytes: &[u8]) -> bool
     }
 }
 
-/// The entered program with a name and this type and language, and how many characters the name
-/// has.
+/// The entered program with a name and this type and language, and the length of the name.
 ///
 /// # Errors
 ///
-/// E$NEMod if no program is asked for; else E$BNam if there is no name; else E$MNF if no such module
-/// is entered; else E$NEMod if the module is no program in 6809 code.
+/// E$NEMod if the call does not ask for a program, else E$BNam if there is no name, else E$MNF if
+/// no such module is entered, else E$NEMod if the module is not a program in 6809 code.
 pub fn find_program(memory: &Memory, kind: u8, name: Option<Name>) -> Result<(ModId, u8), u8>
     ensures found { (m : MemoryState) → Represents memory.now m
         → MatchResult result (λ found. IsFound m.modules kind name found.0.0 found.1)
@@ -108,8 +107,8 @@ fn asks_for_program(kind: u8) -> bool
     matches!(kind, 0 | ANY_PROGRAM | PROGRAM)
 }
 
-/// The pages of a new data area: one at least, those of the module's storage, those asked for, and
-/// those of the parameters.
+/// The pages of a new data area: at least one, those of the module's storage, those that the call
+/// asks for, and those of the parameters.
 pub fn area_pages(storage: u16, pages: u8, parameters: u16) -> u16
     ensures pages { (entry : ModuleEntry) → entry.info.storage ≡ storage
         → result ≡ area_pages_lem entry pages parameters }

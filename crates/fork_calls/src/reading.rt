@@ -15,14 +15,15 @@ use os9_base::registers::Pid;
 use proc_state::state::ProcState;
 
 /// Reads the program that the registers of a process name (System Programmer's Manual, F$Fork and
-/// F$Chain): its type and language in A, the pages of its data area in B, its name at X, the size
-/// and the address of its parameters in Y and U.
+/// F$Chain): its type and language in A, the pages of its data area in B, the address of its name
+/// in X, the size and the address of its parameters in Y and U.
 ///
 /// # Errors
 ///
-/// E$BPAddr exactly if a byte of the name or of the parameters is in no named slot or past `FFFF`;
-/// else E$NEMod if A asks for no program; else E$BNam if the bytes at X are not one name; else E$MNF if
-/// no such module is entered; else E$NEMod if the module is no program in 6809 code.
+/// E$BPAddr exactly if a byte of the name or of the parameters is in no named slot or past `FFFF`,
+/// else E$NEMod if A does not ask for a program, else E$BNam if the bytes at X are not one name,
+/// else E$MNF if no such module is entered, else E$NEMod if the module is not a program in 6809
+/// code.
 pub fn read_program(s: &mut ProcState, p: Pid) -> Result<NamedProgram, u8>
     requires lives { IsLiving s.old.table p.0 }
     ensures read { (m : Inner) → Represents s.old m

@@ -15,14 +15,14 @@ use os9_base::registers::Regs;
 use proc_model::module::ModuleInfo;
 use proc_rules::own::Own;
 
-/// What a process begins with beside its memory.
+/// What a process begins with, other than its memory.
 #[derive(Clone, Copy, Debug)]
 pub struct Beginning {
     pub regs: Regs,
     pub own: Own,
 }
 
-/// The registers, and what else a process has, when it begins with a program.
+/// The registers, and the other data of a process, when it begins with a program.
 pub fn beginning_of(memory: &Memory, program: NamedProgram) -> Beginning
     requires entered { IsSome (module_entry_at (modules_of memory.now) program.id.0) }
     requires most { program.pages ≤ MOST_PAGES }
@@ -68,8 +68,8 @@ fn start_regs(program: NamedProgram, info: ModuleInfo, slot: u8) -> Regs
     }
 }
 
-/// What a process that begins with a program, whose group begins at this slot, has beside its record
-/// and its memory.
+/// The data, other than its record and its memory, of a process that begins with a program whose
+/// group begins at this slot.
 fn start_own(program: NamedProgram, slot: u8) -> Own
     requires most { program.pages ≤ MOST_PAGES }
     requires slot { slot < 8 }

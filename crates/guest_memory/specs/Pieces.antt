@@ -2,7 +2,7 @@
 use Rattle.std.specs.Prelude.{ℕ, ◌+◌, ◌<◌, ◌≤◌, List, length}
 use Rattle.os9_base.specs.Cells.{Cells, Holds}
 
--- bytes from an address on, one at least and at most so many, none past FFFF
+-- bytes from an address on, at least one and at most this many, none past FFFF
 pub record IsPiece (cells : Cells) (at most : ℕ) (bytes : List ℕ) : Type 0 where
   pub holds : Holds cells at bytes
   pub fits : at + length bytes ≤ 65536

@@ -10,7 +10,7 @@ use Rattle.proc_model.specs.Memory.{MemoryState, map_at}
 use Rattle.proc_model.specs.MemoryChanges.{written}
 use Rattle.proc_model.specs.Objects.{object_cells}
 
--- the byte that a process sees at each address, or nothing where the address is not named
+-- the byte that a process sees at each address, or nothing if the address is not named
 abbrev pub cells_seen : MemoryState → ℕ → Cells
 cells_seen m process = object_cells m.objects (map_at m process).places
 
@@ -21,18 +21,19 @@ LeavesMemory process (Done effect) stop r m after t =
 LeavesMemory process (Calls code past_it) stop r m after t = (stop ≡ Call code) × (after ≡ past_it) × (t ≡ m)
 LeavesMemory process (Aborts status) stop r m after t = (stop ≡ Abort status) × (after ≡ r) × (t ≡ m)
 
--- the instruction of a process at PC ended so
+-- the instruction of a process at PC ended in this way
 abbrev pub ExecutesInMemory : ℕ → Stop → Regs → MemoryState → Regs → MemoryState → Type 0
 ExecutesInMemory process stop r m after t = LeavesMemory process (step_of (cells_seen m process) r) stop r m after t
 
--- so many instructions of a process, each followed by the next one, lead from registers and memory to others
+-- this many instructions of a process, each followed by the next one, lead from registers and memory to others
 abbrev pub FollowInMemory : ℕ → ℕ → Regs → MemoryState → Regs → MemoryState → Type 0
 FollowInMemory process zero r m after t = (after ≡ r) × (t ≡ m)
 FollowInMemory process (suc k) r m after t =
     (next : Regs) × (held : MemoryState) × ExecutesInMemory process Next r m next held
     × FollowInMemory process k next held after t
 
--- so many of n instructions were followed by the next one; the run ended there, with all of them or with one that stops
+-- this many of n instructions were followed by the next one; the run ended there, with all of them or with one that
+-- stops
 abbrev pub EndsInMemory : ℕ → ℕ → ℕ → Stop → Regs → MemoryState → Regs → MemoryState → Type 0
 EndsInMemory process n followed Next r m after t = (followed ≡ n) × (after ≡ r) × (t ≡ m)
 EndsInMemory process n followed stop r m after t = (followed < n) × ExecutesInMemory process stop r m after t

@@ -1,4 +1,4 @@
--- How the kernel's memory is tied to that of the machine.
+-- How the kernel's memory represents that of the machine.
 use Rattle.std.specs.Prelude.{◌≡◌, ℕ, Option, Some, None, option_and_then, Result, Ok, Err, IsOk, List, length, slice_index_or}
 use Rattle.std.specs.Option.{option_map_or}
 use Rattle.os9_base.specs.Cells.{Cells}
@@ -16,8 +16,8 @@ use Rattle.guest_memory.specs.declared.memory.Memory.{Memory}
 abbrev pub Represents : Memory → MemoryState → Type 0
 Represents memory m = RepresentMemory memory.pool memory.maps.items memory.dir m
 
--- A call on memory answers what the change of memory comes to: it is done, and memory represents that of the machine
--- then; or it is refused, for the same reason, and memory represents what it did before.
+-- A call on memory returns the result of the change of memory: it is done, and memory then represents that of the
+-- machine; or it is refused, for the same reason, and memory represents what it did before.
 abbrev pub Answers : {T : Type 0} → Result MemoryState MemoryFault → MemoryState → Result T MemoryFault → Memory
     → Type 0
 Answers (Ok after) before result new = IsOk result × Represents new after
@@ -29,7 +29,7 @@ Answers (Err fault) before result new = (result ≡ Err fault) × Represents new
 abbrev pub modules_of : Memory → List (Option ModuleEntry)
 modules_of memory = memory.dir
 
--- how many blocks the group of an entered module has
+-- the number of blocks in the group of an entered module
 abbrev pub group_len : Memory → ℕ → ℕ
 group_len memory number = option_map_or (λ entry. length entry.group) (module_entry_at memory.dir number) 0
 
@@ -44,7 +44,7 @@ abbrev pub MapsGroup : Option (ℕ × MemoryState) → MemoryState → Option �
 MapsGroup (Some found) before result new = (result ≡ Some found.0) × Represents new found.1
 MapsGroup None before result new = (result ≡ None) × Represents new before
 
--- the byte that a process sees at each address, or nothing where the address is not named
+-- the byte that a process sees at each address, or nothing if the address is not named
 abbrev pub cells_of : Memory → ℕ → ℕ → Option ℕ
 cells_of memory process = map_cells (slice_index_or memory.maps.items process no_slots) memory.pool
 
@@ -52,7 +52,7 @@ cells_of memory process = map_cells (slice_index_or memory.maps.items process no
 abbrev pub seen_cells : MemoryState → ℕ → Cells
 seen_cells m process = object_cells m.objects (map_at m process).places
 
--- memory is the same for all that callers may know of it
+-- memory is the same in everything that callers may know of it
 pub record IsSame (before after : Memory) : Type 0 where
   pub modules : modules_of after ≡ modules_of before
   pub cells : (process : ℕ) → cells_of after process ≡ cells_of before process

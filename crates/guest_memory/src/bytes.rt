@@ -11,7 +11,7 @@ use os9_base::memory::UserMem;
 use os9_base::registers::Pid;
 
 impl Memory {
-    /// Stores bytes in the memory of a process, from an address on, where they fit.
+    /// Stores bytes in the memory of a process, from an address on; they fit there.
     pub fn store(&mut self, p: Pid, at: u16, bytes: &[u8])
         requires process { p.0 < 33 }
         requires fits { FitsIn (cells_of self.old p.0) at (length bytes.now) }

@@ -9,12 +9,12 @@ use os9_base::registers::Pid;
 use proc_model::memory::MemoryFault;
 
 impl Memory {
-    /// The data area of a process grows by so many new blocks, whose bytes are zeros (F$Mem).
+    /// The data area of a process grows by `count` new blocks, whose bytes are zeros (F$Mem).
     ///
     /// # Errors
     ///
-    /// `MemFull` exactly where one of the slots that follow the data area is named or there are
-    /// fewer; else `NoRam` exactly where fewer blocks are free. Nothing has changed then.
+    /// `MemFull` exactly if one of the slots that follow the data area is named or there are fewer;
+    /// else `NoRam` exactly if fewer blocks are free. Nothing has changed then.
     pub fn grow(&mut self, p: Pid, count: u8) -> Result<(), MemoryFault>
         requires { p.0 < 33 }
         ensures grows { (m : MemoryState) → Represents self.old m
@@ -29,7 +29,7 @@ impl Memory {
         }
     }
 
-    /// At most so many blocks of a process's data area are kept, the first ones (F$Mem).
+    /// At most `count` blocks of a process's data area are kept, the first ones (F$Mem).
     pub fn cut(&mut self, p: Pid, count: u8)
         requires { p.0 < 33 }
         ensures cuts { (m : MemoryState) → Represents self.old m

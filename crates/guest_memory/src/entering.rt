@@ -1,4 +1,4 @@
-//! Modules that are entered, with the blocks that hold their file.
+//! Entered modules, with the blocks that hold their file.
 
 ghost use Rattle.std.specs.Prelude.{◌≡◌, ◌+◌, ◌*◌, ◌<◌, ◌≤◌, ◌∷◌, [], None, Some, IfOk, IsSome, IsSomeAnd, length};
 ghost use Rattle.block_map.specs.TakenBlocks.{group_blocks};
@@ -21,13 +21,13 @@ use proc_model::memory::MemoryFault;
 use proc_model::module::{ModId, ModuleInfo};
 
 impl Memory {
-    /// Loads the file of a module into new blocks, zeros behind it, and enters the module
-    /// (F$Load). The file has at most 57,344 bytes, the module lies in it and begins to run in itself,
-    /// and the directory does not know the module and has room for it.
+    /// Loads the file of a module into new blocks, fills the last one with zeros, and enters the
+    /// module (F$Load). The file has at most 57,344 bytes, the module lies in it, its entry lies in
+    /// the module, and the directory does not know the module and has room for it.
     ///
     /// # Errors
     ///
-    /// `NoRam` exactly where fewer blocks are free than the file needs. Nothing has changed then.
+    /// `NoRam` exactly if fewer blocks are free than the file needs. Nothing has changed then.
     pub fn enter(
         &mut self,
         file: &[u8],
@@ -50,8 +50,8 @@ impl Memory {
         Ok(enter_module(&mut self.dir, info, group, is_boot))
     }
 
-    /// Enters one more module of the file of an entered module (F$Load). It lies in the file and
-    /// begins to run in itself, and the directory does not know it and has room for it.
+    /// Enters one more module of the file of an entered module (F$Load). It lies in the file, its
+    /// entry lies in the module, and the directory does not know it and has room for it.
     pub fn enter_beside(&mut self, id: ModId, info: ModuleInfo) -> ModId
         requires entered { IsSome (module_entry_at (modules_of self.old) id.0) }
         requires inside { IsSomeAnd (module_entry_at (modules_of self.old) id.0)
@@ -68,7 +68,7 @@ impl Memory {
     }
 }
 
-/// Enters a module that the directory does not know and has room for.
+/// Enters a module. The directory does not know it and has room for it.
 fn enter_module(dir: &mut Dir, info: ModuleInfo, group: Group, is_boot: bool) -> ModId
     requires { entry_refusal dir.old info ≡ None }
     ensures number { free_number dir.old ≡ Some result.0 }
@@ -82,7 +82,7 @@ fn enter_module(dir: &mut Dir, info: ModuleInfo, group: Group, is_boot: bool) ->
     }
 }
 
-/// Takes blocks for a file and copies it there, zeros behind it: a group.
+/// Takes blocks for a file, copies it there and fills the last one with zeros: a group.
 fn load_group(pool: &mut Pool, file: &[u8]) -> Group
     requires short { length file.now ≤ MOST_GROUP_BYTES }
     requires room { file_blocks file.now ≤ free_block_count pool.old }
@@ -104,7 +104,7 @@ fn load_group(pool: &mut Pool, file: &[u8]) -> Group
     }
 }
 
-/// Takes a block for these bytes and copies them there, zeros behind them.
+/// Takes a block for these bytes, copies them there and fills the rest with zeros.
 fn load_block(pool: &mut Pool, bytes: &[u8]) -> BlockId
     requires short { length bytes.now ≤ 8192 }
     requires room { 0 < free_block_count pool.old }

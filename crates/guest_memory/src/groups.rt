@@ -32,8 +32,8 @@ impl Memory {
     }
 
     /// Maps the group of an entered module, which the process does not map, into the highest run of
-    /// as many free slots, and answers the first of them; None exactly where there is no such run,
-    /// and nothing has changed then (F$Link).
+    /// free slots of its length (F$Link). Returns the first of these slots; None exactly if there
+    /// is no such run, and nothing has changed then.
     pub fn map_group(&mut self, p: Pid, id: ModId) -> Option<u8>
         requires process { p.0 < 33 }
         requires entered { IsSome (module_entry_at (modules_of self.old) id.0) }
@@ -49,7 +49,7 @@ impl Memory {
         }
     }
 
-    /// The group of an entered module leaves the map of a process, if the process maps it
+    /// Removes the group of an entered module from the map of a process, if the process maps it
     /// (F$UnLink).
     pub fn unmap(&mut self, p: Pid, id: ModId)
         requires process { p.0 < 33 }

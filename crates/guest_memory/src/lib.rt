@@ -1,5 +1,5 @@
-//! Guest memory: the blocks of the machine, the maps of all processes and the module directory,
-//! with what holds of them at all times.
+//! Guest memory: the blocks of the machine, the maps of all processes and the module directory, and
+//! what always holds of them.
 #![tactic(auto)]
 
 mod bytes;

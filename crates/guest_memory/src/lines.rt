@@ -18,7 +18,7 @@ use os9_base::registers::Pid;
 const RETURN: u8 = 0x0D;
 
 impl Memory {
-    /// Do so many bytes of a process from an address on lie in named slots, up to `FFFF`?
+    /// Do `len` bytes of a process from an address on lie in named slots, up to `FFFF`?
     pub fn is_named(&self, p: Pid, at: u16, len: u16) -> bool
         requires { p.0 < 33 }
         ensures { IsTrue result ↔ FitsIn (cells_of self.now p.0) at len }
@@ -33,8 +33,8 @@ impl Memory {
     }
 
     /// Reads the bytes of a process from an address on, up to and with the first carriage return,
-    /// but at most `most`, into the front of a buffer, and answers how many they are; None where
-    /// one of them is in no named slot or past `FFFF`.
+    /// but at most `most`, into the front of a buffer. Returns the number of bytes, or None if one
+    /// of them is in no named slot or past `FFFF`.
     pub fn read_line(&self, p: Pid, at: u16, most: u16, into: &mut [u8]) -> Option<usize>
         requires process { p.0 < 33 }
         requires room { most ≤ length into.old }
@@ -59,8 +59,8 @@ impl Memory {
         Some(most as usize)
     }
 
-    /// The bytes of a process at an offset from an address that lie together there, at most so
-    /// many; None if the first of them is in no named slot or past `FFFF`.
+    /// The bytes of a process at an offset from an address that lie together there, at most `most`;
+    /// None if the first of them is in no named slot or past `FFFF`.
     fn piece(&self, p: Pid, at: u16, offset: u16, most: u16) -> Option<&[u8]>
         requires process { p.0 < 33 }
         requires some { 0 < most }
@@ -75,7 +75,7 @@ impl Memory {
     }
 }
 
-/// Where the first carriage return stands.
+/// The place of the first carriage return.
 fn return_place(bytes: &[u8]) -> Option<usize>
     ensures place { result ≡ position (λ byte. byte == 13) bytes.now }
     ensures within { IfSome result (λ place. place < length bytes.now) }
@@ -83,7 +83,8 @@ fn return_place(bytes: &[u8]) -> Option<usize>
     bytes.iter().position(|byte| *byte == RETURN)
 }
 
-/// How many of so many bytes are read of a line whose first carriage return stands there.
+/// The number of bytes up to and with the first carriage return, which is at `found`; `all` if
+/// there is none.
 fn line_len(found: Option<usize>, all: usize) -> usize
     requires { IfSome found (λ place. place < all) }
     ensures { result ≡ option_map_or (λ place. place + 1) found all }
@@ -108,7 +109,7 @@ fn are_slots_named(map: &Map, first: u8, last: u8) -> bool
     true
 }
 
-/// The slot that an address lies in.
+/// The slot of an address.
 fn slot_of(at: u16) -> u8
     ensures { result ≡ at / 8192 }
 {

@@ -20,7 +20,7 @@ impl Memory {
         &self.dir
     }
 
-    /// Counts one link more of an entered module, which has fewer than 65,535 (F$Link).
+    /// Counts one more link of an entered module, which has fewer than 65,535 (F$Link).
     pub fn link(&mut self, id: ModId)
         requires { IsSomeAnd (module_entry_at (modules_of self.old) id.0)
             (λ entry. entry.links < 65535) }
@@ -32,9 +32,9 @@ impl Memory {
         self.dir.link(id);
     }
 
-    /// Gives up one link of an entered module, if it has one (F$UnLink, F$UnLoad). Does its group
-    /// leave with it? Then the entries of the group have gone, and each of its blocks goes when no
-    /// map names it either.
+    /// Gives up one link of an entered module, if it has one (F$UnLink, F$UnLoad). Returns whether
+    /// its group leaves with it. If so, the entries of the group are removed, and each of its
+    /// blocks is freed when no map names it either.
     pub fn unlink(&mut self, id: ModId) -> bool
         requires { IsSome (module_entry_at (modules_of self.old) id.0) }
         ensures less { (m : MemoryState) → Represents self.old m

@@ -12,8 +12,8 @@ use os9_base::limits::PROCESS_PLACES;
 use std::alloc::{AllocError, Global};
 
 impl Memory {
-    /// The memory of a machine with 8 to 256 blocks, in which no process names anything and no
-    /// module is entered. Only this call takes memory.
+    /// The memory of a machine with 8 to 256 blocks, without named slots and entered modules. Only
+    /// this call takes memory.
     pub fn new(alloc: Global, blocks: u16) -> Result<Memory, OutOfMemory>
         requires least { 8 ≤ blocks }
         requires most { blocks ≤ 256 }
@@ -27,7 +27,7 @@ impl Memory {
     }
 }
 
-/// A map that names nothing for each process number.
+/// For each process number a map that names nothing.
 fn empty_maps(alloc: Global) -> Result<Vec<Map>, AllocError>
     ensures { IfOk result (λ maps. maps.items ≡ replicate 33 no_slots) }
 {

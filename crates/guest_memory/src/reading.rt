@@ -1,4 +1,4 @@
-//! Bytes and names that are read in the memory of a process.
+//! Reading bytes and names in the memory of a process.
 
 ghost use Rattle.std.specs.Prelude.{◌≡◌, ◌+◌, ◌*◌, ◌<◌, ◌≤◌, ◌↔◌, Some, IsTrue, IsSome, IfSome, option_map, length, take};
 ghost use Rattle.os9_base.specs.Cells.{FitsIn, Holds};
@@ -33,7 +33,7 @@ impl Memory {
         Some(bytes[(address % BLOCK_BYTES) as usize])
     }
 
-    /// Do so many bytes of a process from an address on lie in named slots, up to `FFFF`?
+    /// Do `len` bytes of a process from an address on lie in named slots, up to `FFFF`?
     pub fn fits(&mut self, p: Pid, at: u16, len: u16) -> bool
         requires { p.0 < 33 }
         ensures fits { IsTrue result ↔ FitsIn (cells_of self.old p.0) at len }
@@ -57,7 +57,7 @@ impl Memory {
     /// # Errors
     ///
     /// `Unreadable` exactly if a byte that has to be read is in no named slot or past `FFFF`, else
-    /// `NoName` exactly if the bytes are no name.
+    /// `NoName` exactly if the bytes are not a name.
     pub fn name(&mut self, p: Pid, at: u16) -> Result<Name, NameFault>
         requires { p.0 < 33 }
         ensures name { result ≡ name_at (cells_of self.old p.0) at }
@@ -70,7 +70,7 @@ impl Memory {
     }
 
     /// Reads the bytes of a run of name characters from an address of a process on into the front
-    /// of a buffer, at most 30, and answers how many they are; None if one of them is in no named
+    /// of a buffer, at most 30. Returns the number of bytes, or None if one of them is in no named
     /// slot or past `FFFF`.
     pub fn name_run(&mut self, p: Pid, at: u16, into: &mut [u8]) -> Option<usize>
         requires process { p.0 < 33 }
@@ -88,7 +88,7 @@ impl Memory {
         read_run(&view, at, into)
     }
 
-    /// How many blocks the data area of a process has.
+    /// The number of blocks in the data area of a process.
     pub fn area(&self, p: Pid) -> u8
         requires { p.0 < 33 }
         ensures tied { (m : MemoryState) → Represents self.now m → result ≡ (map_at m p.0).low }
@@ -97,8 +97,8 @@ impl Memory {
         self.maps[p.0 as usize].low()
     }
 
-    /// The slot at which the group of an entered module would be mapped: the first of the highest
-    /// run of as many free slots; None if there is no such run (F$Link).
+    /// The slot at which the group of an entered module would be mapped (F$Link): the first of the
+    /// highest run of free slots of its length; None if there is no such run.
     pub fn free_slot(&self, p: Pid, id: ModId) -> Option<u8>
         requires process { p.0 < 33 }
         requires entered { IsSome (module_entry_at (modules_of self.now) id.0) }
@@ -110,7 +110,7 @@ impl Memory {
         self.free_run(p, group.len)
     }
 
-    /// How many blocks the group of an entered module has: 1 to 7.
+    /// The number of blocks in the group of an entered module: 1 to 7.
     pub fn group_len(&self, id: ModId) -> u8
         requires { IsSome (module_entry_at (modules_of self.now) id.0) }
         ensures len { result ≡ group_len_lem self.now id.0 }

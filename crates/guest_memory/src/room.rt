@@ -1,4 +1,4 @@
-//! The room that is left in memory.
+//! The room left in memory.
 
 ghost use Rattle.std.specs.Prelude.{◌≡◌, ◌+◌, ◌<◌, ◌≤◌, IfSome};
 ghost use Rattle.proc_model.specs.Memory.{MemoryState, map_at, free_blocks as free_blocks_lem};
@@ -9,7 +9,7 @@ use crate::memory::Memory;
 use os9_base::registers::Pid;
 
 impl Memory {
-    /// How many blocks are free: those that no map and no entered group names (Level Two manual,
+    /// The number of free blocks: those that no map and no entered group names (Level Two manual,
     /// "Memory management").
     pub fn free_blocks(&self) -> u16
         ensures tied { (m : MemoryState) → Represents self.now m → result ≡ free_blocks_lem m }
@@ -17,8 +17,8 @@ impl Memory {
         self.pool.free_blocks()
     }
 
-    /// The slot at which a group of so many blocks would be mapped: the first of the highest run of
-    /// as many free slots; None if there is no such run (F$Link).
+    /// The slot at which a group of `len` blocks would be mapped (F$Link): the first of the highest
+    /// run of free slots of this length; None if there is no such run.
     pub fn free_run(&self, p: Pid, len: u8) -> Option<u8>
         requires process { p.0 < 33 }
         requires some { 1 ≤ len }

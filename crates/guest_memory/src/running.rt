@@ -10,8 +10,8 @@ use cpu6809::Ran;
 use os9_base::registers::{Pid, Regs};
 
 impl Memory {
-    /// Executes `n` instructions of a process one after another, or fewer, up to the first after
-    /// which the next one does not follow, as [`cpu6809::run`] does.
+    /// Executes up to `n` instructions of a process one after another. It stops earlier after an
+    /// instruction that the next one does not follow, as [`cpu6809::run`] does.
     pub fn run(&mut self, p: Pid, regs: &mut Regs, n: u32) -> Ran
         requires process { p.0 < 33 }
         ensures run { (m : MemoryState) → Represents self.old m

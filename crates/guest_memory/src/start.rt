@@ -14,15 +14,15 @@ use proc_model::memory::{MOST_LINKS, MemoryFault};
 use proc_model::module::ModId;
 
 impl Memory {
-    /// Clears the map of a process and fills it anew: a data area of so many new blocks from slot 0
-    /// up, whose bytes are zeros, and the group of an entered module in the highest slots (F$Fork,
-    /// F$Chain).
+    /// Clears the map of a process and fills it anew: a data area of `blocks` new blocks from slot
+    /// 0 up, whose bytes are zeros, and the group of an entered module in the highest slots
+    /// (F$Fork, F$Chain).
     ///
     /// # Errors
     ///
-    /// `MemFull` exactly where the module has 65,535 links or the slots are too few; else `NoRam`
-    /// exactly where fewer blocks are free, those of the data area that the process had counted as
-    /// free. Nothing has changed then.
+    /// `MemFull` exactly if the module has 65,535 links or the slots are too few; else `NoRam`
+    /// exactly if fewer blocks are free, counting the blocks of the old data area as free. Nothing
+    /// has changed then.
     pub fn start(&mut self, p: Pid, id: ModId, blocks: u8) -> Result<(), MemoryFault>
         requires process { p.0 < 33 }
         requires entered { IsSome (module_entry_at (modules_of self.old) id.0) }

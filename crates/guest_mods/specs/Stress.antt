@@ -6,7 +6,7 @@ use Rattle.guest_mods.specs.declared.programs.TheConstants.{STORAGE, SYSGO, WORK
 use Rattle.module_maker.specs.GuestModule.{guest_module}
 use Rattle.guest_mods.specs.Random.{draws}
 
--- a load that there may be
+-- a valid load
 pub record IsLoad (load : Load) : Type 0 where
   pub seed : load.seed < 2147483648
   pub some_workers : 1 ≤ load.workers
@@ -16,11 +16,11 @@ pub record IsLoad (load : Load) : Type 0 where
   pub some_records : 1 ≤ load.records
   pub few_records : load.records ≤ MOST_RECORDS
 
--- how many bytes each record has, at most 32: those of the first Worker, then those of the second, and so on
+-- the number of bytes of each record, at most 32: those of the first Worker, then those of the second, and so on
 abbrev pub record_lengths : Load → List ℕ
 record_lengths load = draws load.seed 32 0 (load.workers * load.records)
 
--- the code of SysGo, with how many Workers there are
+-- the code of SysGo, with the number of Workers
 unfoldable pub sysgo_code : ℕ → List ℕ
 sysgo_code workers = SYSGO ++ workers ∷ []
 

@@ -1,5 +1,5 @@
-//! What the command `stress` runs: an image with a boot file of modules, and a list of slices; and
-//! the source of a shell. The maker of modules is passed on from `module_maker`.
+//! The image that the command `stress` boots, with a boot file of modules, and its list of slices;
+//! and the source of a shell. The maker of modules is passed on from `module_maker`.
 #![tactic(auto)]
 
 pub use load::Load;

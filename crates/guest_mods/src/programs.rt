@@ -19,22 +19,21 @@ const PROGRAM: u8 = 0x11;
 /// The attributes and revision: re-entrant, revision 1.
 const ATTRIBUTES: u8 = 0x81;
 
-/// How many bytes of data memory a program asks for.
+/// The bytes of data memory that a program asks for.
 pub const STORAGE: u16 = 200;
 
-/// The most bytes of a record.
+/// The greatest length of a record, in bytes.
 const LONGEST_RECORD: u32 = 32;
 
-/// The code of `SysGo`. Behind it stands how many Workers there are. It forks them, each with a
-/// letter from `A` on, waits for as many ends, and exits with status 0, or with the error of a
-/// call.
+/// The code of `SysGo`. The number of Workers follows it. It forks them, each with a letter from
+/// `A` on, waits until each has ended, and exits with status 0, or with the error of a call.
 pub const SYSGO: [u8; 58] = [
     0xa6, 0x8c, 0x37, // start: lda workers,pcr
     0x97, 0x01, // sta <1 ; 1: how many Workers are to begin
     0x86, 0x41, // lda #$41 ; A: the parameter of the first, the letter `A`
     0x97, 0x00, // fork: sta <0 ; 0: the parameter
     0x30, 0x8c, 0x28, // leax name,pcr ; X: the program's name
-    0xce, 0x00, 0x00, // ldu #0 ; U: where the parameter stands
+    0xce, 0x00, 0x00, // ldu #0 ; U: the parameter's address
     0x10, 0x8e, 0x00, 0x01, // ldy #1 ; Y: its size
     0xcc, 0x11, 0x00, // ldd #$1100 ; A: type and language; B: no pages besides the module's storage
     0x10, 0x3f, F_FORK, // os9 F$Fork
@@ -54,10 +53,10 @@ pub const SYSGO: [u8; 58] = [
     0x57, 0x6f, 0x72, 0x6b, 0x65, 0xf2, // name: fcs "Worker"
 ];
 
-/// The code of `Worker`. Behind it stand the passes, the records of a pass, and the lengths of all
-/// records. It creates its file and opens it again, and in each pass cuts the file, writes its
-/// records through one path and compares what it reads through the other. It exits with status 0,
-/// with 1 where that differs, or with the error of a call.
+/// The code of `Worker`. The passes, the records of a pass, and the lengths of all records follow
+/// it. It creates its file and opens it again. In each pass it cuts the file, writes its records
+/// through one path and compares what it reads through the other. It exits with status 0, with 1
+/// if that differs, or with the error of a call.
 pub const WORKER: [u8; 182] = [
     0xa6, 0x84, // start: lda ,x ; A: the parameter, a letter
     0x97, 0x00, // sta <0 ; 0: the letter
@@ -106,7 +105,7 @@ pub const WORKER: [u8; 182] = [
     0x30, 0x8c, 0x4a, // leax lengths,pcr
     0x30, 0x8b, // leax d,x ; X: this Worker's lengths
     0xe6, 0x80, // record: ldb ,x+ ; B: the length of the record
-    0x9f, 0x06, // stx <6 ; 6: the lengths behind it
+    0x9f, 0x06, // stx <6 ; 6: the lengths after it
     0x4f, // clra
     0xdd, 0x08, // std <8 ; 8: the length
     0x10, 0x9e, 0x08, // ldy <8 ; Y: the count
@@ -116,7 +115,7 @@ pub const WORKER: [u8; 182] = [
     0x25, 0x2f, // bcs end ; B: the error
     0x10, 0x9e, 0x08, // ldy <8 ; Y: the most bytes
     0x96, 0x02, // lda <2 ; A: the path to read
-    0x8e, 0x00, 0x30, // ldx #$30 ; X: 30 to 4F, where they go
+    0x8e, 0x00, 0x30, // ldx #$30 ; X: 30 to 4F, their place
     0x10, 0x3f, I_READ, // os9 I$Read
     0x25, 0x22, // bcs end ; B: the error
     0x10, 0x9c, 0x08, // cmpy <8
@@ -128,7 +127,7 @@ pub const WORKER: [u8; 182] = [
     0x26, 0x10, // bne differ ; another was read
     0x5a, // decb
     0x26, 0xf9, // bne compare
-    0x9e, 0x06, // ldx <6 ; X: the lengths behind it
+    0x9e, 0x06, // ldx <6 ; X: the lengths after it
     0x0a, 0x04, // dec <4
     0x26, 0xc6, // bne record
     0x0a, 0x03, // dec <3
@@ -159,7 +158,7 @@ pub fn worker(alloc: Global, load: &Load) -> Result<Vec<u8>, OutOfMemory>
     program(alloc, b"Worker", &code)
 }
 
-// Puts the lengths of all records behind the code.
+// Adds the lengths of all records after the code.
 fn push_lengths(code: &mut Vec<u8>, load: &Load) -> Result<(), AllocError>
     requires { IsLoad load.now }
     ensures { IfOk result (λ _. code.new.items ≡ code.old.items ++ record_lengths load.now) }
@@ -172,7 +171,7 @@ fn push_lengths(code: &mut Vec<u8>, load: &Load) -> Result<(), AllocError>
     Ok(())
 }
 
-// Makes a program of this code.
+// Makes a program with this code.
 fn program(alloc: Global, name: &[u8], code: &[u8]) -> Result<Vec<u8>, OutOfMemory>
     requires name { parsed_name name.now ≡ Some name.now }
     requires filled { 0 < length code.now }

@@ -1,13 +1,13 @@
 ghost use Rattle.std.specs.Prelude.{◌≡◌, ◌+◌, ◌<◌, ◌≤◌};
 ghost use Rattle.guest_mods.specs.Random.{random, random_after, drawn_by};
 
-/// What a random number is multiplied by to make the next one.
+/// The factor by which a random number is multiplied to make the next one.
 const MULTIPLIER: u64 = 1_103_515_245;
 
-/// What is added to it then.
+/// The number that is then added.
 const INCREMENT: u64 = 12_345;
 
-/// The random numbers lie below this one.
+/// The random numbers are below this one.
 const MODULUS: u64 = 2_147_483_648;
 
 /// The random number after this one.
@@ -19,7 +19,7 @@ pub fn next_random(x: u32) -> u32
     ((MULTIPLIER * u64::from(x) + INCREMENT) % MODULUS) as u32
 }
 
-/// The random number of a seed in this place, with the seed itself in place 0.
+/// The random number of a seed at a place; the seed itself is at place 0.
 pub fn random_at(seed: u32, place: u32) -> u32
     requires { seed < 2147483648 }
     ensures random { result ≡ random seed place }

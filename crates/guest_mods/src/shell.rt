@@ -54,7 +54,7 @@ prompt  fcc     "OS9:"
 
 /// The source of a shell in the language of the assembler (this project's own). It is a program
 /// `SysGo` that writes `OS9:` and reads a line of at most 80 bytes. At the end of the file it exits
-/// with status 0. Otherwise it forks the program that the line names, with the bytes behind the name
+/// with status 0. Otherwise it forks the program that the line names, with the bytes after the name
 /// as parameters, waits for it, and calls F$PErr for an error of the fork or a status other than 0.
 pub fn shell_source() -> &'static [u8]
     // No line breaks a rule of the language.

@@ -5,14 +5,14 @@ use crate::random::{draw, next_random, random_at};
 use os9_base::call::OutOfMemory;
 use std::alloc::Global;
 
-/// Behind which place the random numbers of the slices stand: those up to it are of the writes.
+/// The place after which the random numbers of the slices begin; the writes use those up to it.
 const WRITES: u32 = 800;
 
-/// The most instructions of a slice.
+/// The greatest number of instructions of a slice.
 const LONGEST_SLICE: u32 = 500;
 
-/// How many instructions each slice of the command `stress` has, in order, for a seed and a count
-/// of slices (this project's own).
+/// The number of instructions of each slice of the command `stress`, in order, for a seed and a
+/// number of slices (this project's own).
 ///
 /// # Errors
 ///
@@ -31,7 +31,7 @@ pub fn stress_slices(alloc: Global, seed: u32, count: u32) -> Result<Vec<u32>, O
     Ok(slices)
 }
 
-// Puts one more length behind these.
+// Adds one length at the end of these.
 fn push_length(lengths: &mut Vec<u32>, length: u32) -> Result<(), OutOfMemory>
     ensures { IfOk result (λ _. lengths.new.items ≡ lengths.old.items ++ length ∷ []) }
 {

@@ -11,10 +11,10 @@ abbrev pub subject_text : Entry → List ℕ
 subject_text entry =
     spaced (letter entry.kind ∷ []) (spaced (decimal entry.process) (spaced (decimal entry.path) []))
 
--- drive and descriptor of a file, and a space
+-- the drive and the descriptor of a file, and a space
 abbrev pub file_text : FilePlace → List ℕ
 file_text file = spaced (decimal file.drive ++ 58 ∷ hex_digits 6 file.number) []
 
--- start and end of a range, each with its space
+-- the start and the end of a range, each with its space
 abbrev pub range_text : Range → List ℕ
 range_text range = spaced (hex_digits 8 range.start) (spaced (end_text range.end) [])

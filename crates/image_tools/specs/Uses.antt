@@ -1,4 +1,4 @@
--- Which tool is used, and what it answers (this project's own).
+-- The tool that is used, and its answer (this project's own).
 use Rattle.std.specs.Prelude.{◌≡◌, ℕ, List, [], Result, Ok, Err}
 use Rattle.os9_base.specs.declared.registers.TimePacket.{TimePacket}
 use Rattle.tool_rules.specs.Tool.{Tool, put, get, mkdir, remove, list}

@@ -1,4 +1,4 @@
-//! Tools for the image in a drive: its volume is mounted, and the tool is used on it.
+//! Tools for the image in a drive: its volume is mounted, and a tool is used on it.
 #![tactic(auto)]
 
 pub use mounted::use_tool;

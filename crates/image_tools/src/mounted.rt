@@ -13,13 +13,13 @@ use rbf_access::{VolFault, Volume};
 use std::alloc::Global;
 use vol_tools::ToolFault;
 
-/// Mounts the volume of the image in a drive, which is well formed, and uses a tool on it, for user 0
-/// (this project's own). The answer is the tool's bytes, none if it has none.
+/// Mounts the volume of the well formed image in a drive, and uses a tool on it, for user 0 (this
+/// project's own). Returns the tool's bytes, none if it has none.
 ///
 /// # Errors
 ///
-/// `Number` if the tool is refused; `Device` if an access of the drive fails when the volume is mounted
-/// or the tool used; or out of memory.
+/// `Number` if the tool is refused; `Device` if an access of the drive fails in the mount or in the
+/// tool; or out of memory.
 pub fn use_tool(
     alloc: Global,
     d: &mut dyn BlockDriver,

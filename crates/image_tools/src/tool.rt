@@ -12,22 +12,22 @@ use rbf_access::Volume;
 use std::alloc::Global;
 use vol_tools::{NewFile, ToolFault, get, list, mkdir, put, remove};
 
-/// A tool for a volume, with what it is given. The paths are of names joined by `/`, from the root.
+/// A tool for a volume, with its arguments. The paths are of names joined by `/`, from the root.
 #[derive(Clone, Copy, Debug)]
 pub enum ToolUse<'a> {
     /// Makes a file with these bytes.
     Put(NewFile<'a>),
-    /// Answers the bytes of a file.
+    /// Returns the bytes of a file.
     Get(&'a [u8]),
     /// Makes a directory.
     Mkdir(&'a [u8]),
     /// Deletes a file.
     Remove(&'a [u8]),
-    /// Answers the lines of a directory.
+    /// Returns the lines of a directory.
     List(&'a [u8]),
 }
 
-/// Uses a tool on a mounted volume, for user 0, and answers its bytes, none if it has none.
+/// Uses a tool on a mounted volume, for user 0, and returns its bytes, none if it has none.
 pub fn use_mounted(
     alloc: Global,
     v: &mut Volume,
@@ -52,7 +52,7 @@ pub fn use_mounted(
     }
 }
 
-/// The answer of a tool that has no bytes.
+/// The answer of a tool without bytes.
 fn no_bytes(alloc: Global, done: Result<(), ToolFault>) -> Result<Vec<u8>, ToolFault>
     ensures { AnswersNoBytes (λ bytes. bytes.items) done result }
 {

@@ -1,4 +1,4 @@
--- Images of which one thing is changed (this project's own).
+-- Images with one change (this project's own).
 use Rattle.std.specs.Prelude.{ℕ, nat_lt, nat_le, Option, Some, None, List, length, take, set, if◌then◌else◌}
 use Rattle.image_vectors.specs.declared.change.Change.{Change}
 use Rattle.image_vectors.specs.declared.change.Change.TheVariants.{Byte, Cut}

@@ -3,7 +3,7 @@ ghost use Rattle.image_vectors.specs.Changes.{changed_image};
 
 use thiserror::Error;
 
-/// Why a line changes no image.
+/// Why a line does not change an image.
 #[derive(Clone, Copy, Debug, PartialEq, Eq, Error)]
 pub(crate) enum LineError {
     #[error("a change is bad")]
@@ -15,9 +15,9 @@ pub(crate) enum LineError {
 /// A change of an image.
 #[derive(Clone, Copy, Debug, PartialEq, Eq)]
 pub(crate) enum Change {
-    /// A byte of it is another one.
+    /// A byte of it is replaced.
     Byte { place: usize, value: u8 },
-    /// So many of its first bytes are left.
+    /// Only its first `length` bytes are left.
     Cut { length: usize },
 }
 

@@ -1,6 +1,6 @@
-//! Checks disk images of which it is known from elsewhere what a check answers, and prints how
-//! many there were and how many came out otherwise. They are files, which a list names, and one of
-//! these files with changes, which the input has.
+//! Checks disk images for which the answer of a check is known from elsewhere, and prints the
+//! number of images and the number of answers that differ. The images are the files that a list
+//! names, and one of these files with the changes in the input.
 #![tactic(auto)]
 
 ghost use Rattle.std.specs.Prelude.{◌≡◌, not, bytes_eq};
@@ -14,14 +14,14 @@ use std::alloc::{AllocError, Global};
 use std::fs;
 use std::io::{BufRead, BufReader};
 
-/// How many images were checked, and how many answers differ.
+/// The number of images that were checked, and the number of answers that differ.
 #[derive(Clone, Copy, Debug)]
 struct Count {
     images: u64,
     differ: u64,
 }
 
-/// What the check of an image answers, as a line.
+/// The answer of the check of an image, as a line.
 fn answer(alloc: Global, image: &[u8]) -> Result<String, AllocError> {
     match check(alloc, image) {
         Ok(tree) => {
@@ -35,7 +35,7 @@ fn answer(alloc: Global, image: &[u8]) -> Result<String, AllocError> {
     }
 }
 
-/// Is the answer another one than is known?
+/// Whether the answer differs from the known one.
 fn differs(found: &str, expected: &str) -> bool
     ensures { result ≡ not (bytes_eq found.now expected.now) }
 {
@@ -82,8 +82,8 @@ fn changed(rt: &HostRuntime, words: &str) -> Result<Vec<u8>> {
     Ok(image)
 }
 
-/// Checks the image of each line of the input, which is its words (`changed`) and an answer, with a
-/// tab between them.
+/// Checks the image of each line of the input, which has its words (`changed`) and an answer, with
+/// a tab between them.
 fn compare_changes(rt: &HostRuntime, count: &mut Count) -> Result<()> {
     for line in BufReader::new(rt.alloc(), rt.reader())?.lines(rt.alloc()) {
         let line = line?;

@@ -1,2 +1,2 @@
--- What attempts ask for, as those of reads and writes do.
+-- The requirements of attempts, which are those of reads and writes.
 pub use Rattle.stream_calls.specs.Moving.{MayAttempt, StaysAllowed}

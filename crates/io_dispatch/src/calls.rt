@@ -19,10 +19,10 @@ use proc_state::state::ProcState;
 use stream_calls::reads::{i_read, i_readln};
 use stream_calls::writes::{f_perr, i_write, i_writln};
 
-/// An attempt of a call on paths by a process that lives (System Programmer's Manual, "I/O service
-/// requests"). Its process is not told yet what it comes to. Where a call of the process waits,
-/// this is a further attempt of it, with the registers that it was made with. `NoMemory` comes only
-/// where a byte was to be put on a terminal.
+/// An attempt of a call on paths by a living process (System Programmer's Manual, "I/O service
+/// requests"). The process does not get its result yet. If the process has a pending call, this is
+/// a further attempt of it, with the registers of that call. `NoMemory` occurs only if a byte was
+/// to be put on a terminal.
 ///
 /// # Errors
 ///
@@ -46,7 +46,7 @@ pub fn attempt(
     ensures drives { devices.new.drives ≡ devices.old.drives }
     ensures count { vec_len devices.new.terms ≡ vec_len devices.old.terms }
 {
-    // A call that moves no byte is at its first attempt.
+    // A call that moves no byte is in its first attempt.
     prove!(io.kept(p).is_none() || call.direction().is_some());
     match call {
         IoCall::Dup => i_dup(s, io, p),

@@ -1,4 +1,4 @@
-//! What an attempt asks for holds in every state of a run.
+//! The requirements of an attempt hold in every state of a run.
 
 ghost use Rattle.std.specs.Prelude.{◌≡◌, ◌<◌, ℕ, Some};
 ghost use Rattle.call_rules.specs.Inner.{Inner};
@@ -12,9 +12,9 @@ ghost use Rattle.io_rules.specs.declared.io_call.IoCall.{IoCall};
 ghost use Rattle.proc_state.specs.Tie.{Represents};
 ghost use Rattle.proc_state.specs.declared.state.ProcState.{ProcState};
 
-/// If a call on paths is next of a process, among processes that these represent, what
-/// [`attempt`](crate::attempt) asks for holds: what is kept of pending calls is of them, and the
-/// terminal of each open path is there.
+/// If a call on paths is the next event of a process, among processes that these represent, the
+/// requirements of [`attempt`](crate::attempt) hold: what is kept of pending calls belongs to them,
+/// and the terminal of each open path exists.
 pub fn a_process_may_attempt_its_call()
     ensures { (processes : ProcState) (inner : Inner) (io : Io) (terms p code : ℕ) (call : IoCall)
         → p < 33 → Represents processes inner → AreKept inner io → AreOnTerminals terms io.paths

@@ -1,4 +1,4 @@
--- Calls that wait on a terminal or a pipe: what is kept of them (Level Two manual, "I/O system").
+-- Pending calls on a terminal or a pipe: what is kept of them (Level Two manual, "I/O system").
 use Rattle.std.specs.Prelude.{◌≡◌, ℕ, true, Some, IsSome, IsSomeAnd}
 use Rattle.os9_base.specs.Cells.{Cells, FitsIn}
 use Rattle.os9_base.specs.declared.registers.Regs.{Regs}
@@ -17,12 +17,12 @@ pub record StaysRead (cells : Cells) (regs : Regs) (io : Io) (p : ℕ) : Type 0 
   pub named : FitsIn cells regs.x regs.y
   pub mode : IsSomeAnd (open_path io p regs.a) (λ opened. can_read opened.desc.mode ≡ true)
 
--- where a call is a read, it is not refused
+-- if a call is a read, it is not refused
 abbrev pub StaysAllowed : IoCall → Cells → Regs → Io → ℕ → Type 0
 StaysAllowed call cells regs io p = direction_of_call call ≡ Some Reading → StaysRead cells regs io p
 
--- this is kept of the call in which a process waits, which it made with the registers that it has, and which is not
--- refused where it is attempted again
+-- this is kept of the pending call of a process, which it made with its current registers, and which is not refused if
+-- it is attempted again
 pub record KeepsCall (inner : Inner) (io : Io) (p : ℕ) (kept : Kept) : Type 0 where
   pub lives : IsLiving inner.records p
   pub waits : is_waiting (record_at inner.records p).life ≡ true
@@ -31,7 +31,7 @@ pub record KeepsCall (inner : Inner) (io : Io) (p : ℕ) (kept : Kept) : Type 0 
   pub again : IsKept call (regs_at inner p) io p kept
   pub stays : StaysAllowed call (cells_at inner p) (regs_at inner p) io p
 
--- what is kept of a call is of the call in which its process waits
+-- what is kept of a call belongs to the pending call of its process
 abbrev pub AreKept : Inner → Io → Type 0
 AreKept inner io = (p : ℕ) (kept : Kept) → kept_at io p ≡ Some kept → KeepsCall inner io p kept
 
@@ -41,7 +41,7 @@ pub record WaitsInCall (inner : Inner) (io : Io) (p : ℕ) : Type 0 where
   pub made : (own_at inner p).call ≡ Some code
   pub kept : IsSome (io_call_of code) → IsSome (kept_at io p)
 
--- each process that waits does so in a call
+-- each waiting process waits in a call
 abbrev pub AreInCalls : Inner → Io → Type 0
 AreInCalls inner io =
     (p : ℕ) → IsLiving inner.records p → is_waiting (record_at inner.records p).life ≡ true → WaitsInCall inner io p

@@ -5,7 +5,7 @@ use Rattle.io_model.specs.Terminal.{Terminal}
 use Rattle.io_model.specs.declared.path.Desc.{Desc}
 use Rattle.io_model.specs.declared.path.Target.TheVariants.{Term}
 
--- but for its last user a terminal is as before: its keys, its line and its unfinished read
+-- a terminal's keys, line and unfinished read are unchanged; its last user may change
 abbrev pub KeepsReading : Terminal → Terminal → Type 0
 KeepsReading old new = new ≡ record old { user = new.user }
 

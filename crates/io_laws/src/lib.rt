@@ -1,5 +1,5 @@
-//! What one call on terminals, pipes and paths leaves of the input and output of the other processes, and what is kept
-//! of a call that waits.
+//! What one call on terminals, pipes and paths leaves of the input and output of other processes,
+//! and what is kept of a pending call.
 #![tactic(auto)]
 
 pub mod attempt;

@@ -16,7 +16,7 @@ pub record Edited : Type 0 where
   pub echo : List ℕ  -- the bytes that are put
   pub end : Option LineEnd
 
--- the line has room: for a byte more where it may still be typed, else for what it has
+-- the line has room: for one more byte if typing goes on, else for its own bytes
 pub record HasRoom (most : ℕ) (end : Option LineEnd) (line : Editing) : Type 0 where
   pub more : IfNone end (length line.bytes < most)
   pub within : length line.bytes ≤ most
@@ -25,27 +25,27 @@ pub record HasRoom (most : ℕ) (end : Option LineEnd) (line : Editing) : Type 0
 abbrev pub with_bytes : Editing → List ℕ → Editing
 with_bytes line bytes = record line { bytes = bytes }
 
--- the line without a byte; the last finished one stays
+-- the empty line; the last finished one stays
 abbrev pub cleared : Editing → Editing
 cleared line = with_bytes line []
 
--- the line before anything was typed
+-- the line before anything is typed
 abbrev pub no_line : Editing
 no_line = record { bytes = []; last = [] }
 
--- the line is this now, these bytes are put, and typing goes on
+-- the line is now this one, these bytes are put, and typing goes on
 abbrev pub still_typing : Editing → List ℕ → Edited
 still_typing line echo = record { line = line; echo = echo; end = None }
 
--- the line is this now, these bytes are put, and it has ended
+-- the line is now this one, these bytes are put, and it has ended
 abbrev pub line_ended : Editing → List ℕ → Edited
 line_ended line echo = record { line = line; echo = echo; end = Some Line }
 
--- a byte of a line as the screen has it: a dot for a control character
+-- a byte of a line as the screen shows it: a dot for a control character
 abbrev pub screen_byte : ℕ → ℕ
 screen_byte byte = if nat_lt byte SPACE || (byte == DELETE) then DOT else byte
 
--- what takes the bytes of a line away on the screen
+-- the bytes that erase a line on the screen
 abbrev pub rubouts : List ℕ → List ℕ
 rubouts bytes = flat_map (λ byte. BACKSPACE ∷ SPACE ∷ BACKSPACE ∷ []) bytes
 
@@ -53,13 +53,13 @@ rubouts bytes = flat_map (λ byte. BACKSPACE ∷ SPACE ∷ BACKSPACE ∷ []) byt
 abbrev pub refused_key : Editing → Edited
 refused_key line = still_typing line (BELL ∷ [])
 
--- 08 takes the last byte away; nothing on an empty line
+-- 08 erases the last byte; on an empty line it has no effect
 abbrev pub backspaced : Editing → Edited
 backspaced line =
     still_typing (with_bytes line (take (length line.bytes - 1) line.bytes))
     (rubouts (take 1 line.bytes))
 
--- 18 takes each byte away
+-- 18 erases each byte
 abbrev pub deleted : Editing → Edited
 deleted line = still_typing (cleared line) (rubouts line.bytes)
 
@@ -67,11 +67,11 @@ deleted line = still_typing (cleared line) (rubouts line.bytes)
 abbrev pub reprinted : Editing → Edited
 reprinted line = still_typing line (RETURN ∷ LINE_FEED ∷ map screen_byte line.bytes)
 
--- as much of the last finished line as there is room for
+-- the part of the last finished line for which there is room
 abbrev pub last_that_fits : ℕ → Editing → List ℕ
 last_that_fits most line = take (most - 1) line.last
 
--- 01 takes each byte away and types the last finished line, as much as fits
+-- 01 erases each byte and types the last finished line, as far as it fits
 abbrev pub duplicated : ℕ → Editing → Edited
 duplicated most line =
     still_typing (with_bytes line (last_that_fits most line))
@@ -86,21 +86,21 @@ returned line =
 abbrev pub file_ended : Editing → Edited
 file_ended line = record { line = line; echo = []; end = Some EndOfFile }
 
--- the line has no byte
+-- the line is empty
 abbrev pub is_empty_line : Editing → Bool
 is_empty_line line = length line.bytes == 0
 
--- 1B is the end of the file on an empty line, else it is not taken
+-- 1B is the end of the file on an empty line; otherwise it is not taken
 abbrev pub escaped : Editing → Edited
 escaped line = if is_empty_line line then file_ended line else refused_key line
 
--- any other key, where the line has room for it and a carriage return
+-- any other key, if the line has room for it and a carriage return
 abbrev pub typed_key : ℕ → Editing → ℕ → Edited
 typed_key most line key =
     if nat_lt (length line.bytes) (most - 1)
     then still_typing (with_bytes line (line.bytes ++ key ∷ [])) (screen_byte key ∷ []) else refused_key line
 
--- a key of I$ReadLn, which asks for at most so many bytes
+-- a key of an I$ReadLn of at most `most` bytes
 unfoldable pub edited : ℕ → Editing → ℕ → Edited
 edited most line key =
     if key == BACKSPACE then backspaced line else (if key == DELETE_LINE then deleted line
@@ -108,11 +108,11 @@ edited most line key =
     else (if key == RETURN then returned line else (if key == END_OF_FILE then escaped line
     else typed_key most line key)))))
 
--- this byte is the last one of an I$Read, which asks for at most so many
+-- this byte is the last one of an I$Read of at most `most` bytes
 abbrev pub is_last_byte : ℕ → Editing → ℕ → Bool
 is_last_byte most line key = (key == RETURN) || (length line.bytes + 1 == most)
 
--- the byte is moved as it is
+-- the byte is moved unchanged
 abbrev pub moved : ℕ → Editing → ℕ → Edited
 moved most line key =
     record {
@@ -121,7 +121,7 @@ moved most line key =
       end = if is_last_byte most line key then Some Line else None;
     }
 
--- a key of I$Read, which asks for at most so many bytes
+-- a key of an I$Read of at most `most` bytes
 unfoldable pub copied : ℕ → Editing → ℕ → Edited
 copied most line key =
     if (key == END_OF_FILE) && is_empty_line line then file_ended line else moved most line key
@@ -131,9 +131,9 @@ pub record Typing : Type 0 where
   pub line : Editing
   pub echo : List ℕ
   pub end : Option LineEnd
-  pub left : List ℕ  -- the keys behind the one that ended it
+  pub left : List ℕ  -- the keys after the one that ended it
 
--- a line that has ended, with this echo, and no key left
+-- an ended line with this echo, and no key left
 abbrev pub line_done : Editing → List ℕ → Typing
 line_done line echo = record { line = line; echo = echo; end = Some Line; left = [] }
 
@@ -141,18 +141,18 @@ line_done line echo = record { line = line; echo = echo; end = Some Line; left =
 abbrev pub after_echo : List ℕ → Typing → Typing
 after_echo echo typed = record typed { echo = echo ++ typed.echo }
 
--- what a key and those behind it make of a line; `rest` is what those behind it make of it after the key
+-- what a key and the keys after it make of a line; `rest` is what the keys after it make of the line
 abbrev pub after_key : Option LineEnd → Edited → List ℕ → Typing → Typing
 after_key None key keys rest = after_echo key.echo rest
 after_key (Some end) key keys rest = record { line = key.line; echo = key.echo; end = Some end; left = keys }
 
--- what a list of keys makes of a line, where `step` is what one key makes of it
+-- what a list of keys makes of a line; `step` is what one key makes of it
 abbrev pub typing : (Editing → ℕ → Edited) → Editing → List ℕ → Typing
 typing step line [] = record { line = line; echo = []; end = None; left = [] }
 typing step line (key ∷ keys) =
     after_key (step line key).end (step line key) keys (typing step (step line key).line keys)
 
--- what was typed goes on with these keys: they are left where it has ended
+-- what was typed goes on with these keys; if the line has ended, they are left
 abbrev pub goes_on : Option LineEnd → (Editing → ℕ → Edited) → Typing → List ℕ → Typing
 goes_on None step typed keys = after_echo typed.echo (typing step typed.line keys)
 goes_on (Some end) step typed keys = record typed { left = typed.left ++ keys }
@@ -161,6 +161,6 @@ goes_on (Some end) step typed keys = record typed { left = typed.left ++ keys }
 abbrev pub after_typing : (Editing → ℕ → Edited) → Typing → List ℕ → Typing
 after_typing step typed keys = goes_on typed.end step typed keys
 
--- these keys make all of it: none of them is left
+-- what was typed, with no key left
 abbrev pub used_up : Typing → Typing
 used_up typed = record typed { left = [] }

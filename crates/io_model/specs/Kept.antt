@@ -1,21 +1,21 @@
--- Calls that wait on a terminal or a pipe. A process has one of them at most: they are a list by number, where place p
--- has that of process p, or nothing.
+-- Pending calls on a terminal or a pipe. A process has at most one: they are a list by number, whose place p has the
+-- call of process p, or nothing.
 use Rattle.std.specs.Prelude.{ℕ, ◌+◌, ◌-◌, ◌==◌, Bool, Option, None, List, slice_index_or, slice_set}
 use Rattle.io_model.specs.declared.kept.Kept.{Kept}
 
--- the call of a process that waits, if it has one
+-- the pending call of a process, if it has one
 abbrev pub kept_of : List (Option Kept) → ℕ → Option Kept
 kept_of calls p = slice_index_or calls p None
 
--- the calls with this one of a process, or with none
+-- the calls with this call for a process, or with none
 abbrev pub with_kept : List (Option Kept) → ℕ → Option Kept → List (Option Kept)
 with_kept calls p kept = slice_set calls p kept
 
--- how many bytes a call still has to move
+-- the number of bytes that a call still has to move
 abbrev pub count_left : Kept → ℕ
 count_left kept = kept.count - kept.moved
 
--- a call after an attempt that moved so many bytes more
+-- a call after an attempt that moved `count` more bytes
 abbrev pub moved_on : Kept → ℕ → Kept
 moved_on kept count = record kept { moved = kept.moved + count }
 

@@ -3,7 +3,7 @@ use Rattle.std.specs.Prelude.{ℕ, ◌+◌, ◌==◌, Bool, Option, is_some, Lis
 use Rattle.std.specs.Option.{option_map_or}
 use Rattle.io_model.specs.declared.keys.TheConstants.{RETURN, LINE_FEED}
 
--- where the first carriage return stands
+-- the place of the first carriage return
 abbrev pub return_place : List ℕ → Option ℕ
 return_place bytes = position (λ byte. byte == RETURN) bytes
 
@@ -11,11 +11,11 @@ return_place bytes = position (λ byte. byte == RETURN) bytes
 abbrev pub has_return : List ℕ → Bool
 has_return bytes = is_some (return_place bytes)
 
--- how many bytes the first line has, its carriage return among them; all of them where there is none
+-- the length of the first line with its carriage return; all bytes if there is no carriage return
 abbrev pub line_length : List ℕ → ℕ
 line_length bytes = option_map_or (λ place. place + 1) (return_place bytes) (length bytes)
 
--- the first line, up to and with its carriage return; all bytes where there is none
+-- the first line, up to and with its carriage return; all bytes if there is no carriage return
 abbrev pub first_line : List ℕ → List ℕ
 first_line bytes = take (line_length bytes) bytes
 

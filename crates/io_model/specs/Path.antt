@@ -1,6 +1,6 @@
 -- Paths (Level Two manual, "Path descriptors"; the numbers of paths are this project's own). A descriptor is found by
 -- the number of its system path, from 1 to 64. Each process has sixteen path numbers, from 0 on, and each is the image
--- of a system path or free. A path goes with its last image.
+-- of a system path or free. A path ends with its last image.
 use Rattle.std.specs.Prelude.{◌≡◌, ℕ, ◌+◌, ◌<◌, ◌==◌, Bool, false, Option, Some, None, IsSome, is_none, option_map, option_and_then, List, [], ◌++◌, length, take, drop, replicate, position, slice_index_or, slice_set, if◌then◌else◌}
 use Rattle.std.specs.List.{list_any}
 use Rattle.std.specs.Option.{option_map_or}
@@ -24,7 +24,7 @@ desc_of paths s = slice_index_or paths.descs s None
 abbrev pub numbers_of : PathTable → ℕ → List (Option SysPath)
 numbers_of paths p = slice_index_or paths.own p []
 
--- the system path that a number of a process is an image of, if it is one
+-- the system path of which a number of a process is an image, if it is one
 abbrev pub slot_of : PathTable → ℕ → ℕ → Option SysPath
 slot_of paths p n = slice_index_or (numbers_of paths p) n None
 
@@ -45,8 +45,8 @@ holds_path paths p s = list_any (is_image s) (numbers_of paths p)
 abbrev pub is_held : PathTable → ℕ → Bool
 is_held paths s = list_any (list_any (is_image s)) paths.own
 
--- what the paths always are: 64 places after the first, sixteen numbers for each of 33 processes, no system path 0, and
--- no image of a path that is not there
+-- the invariant of the paths: 64 places after the first, sixteen numbers for each of 33 processes, no system path 0,
+-- and no image of a path that does not exist
 pub record ArePaths (paths : PathTable) : Type 0 where
   pub places : length paths.descs ≡ 65
   pub processes : length paths.own ≡ 33
@@ -54,23 +54,23 @@ pub record ArePaths (paths : PathTable) : Type 0 where
   pub from_one : desc_of paths 0 ≡ None
   pub there : (p n : ℕ) (s : SysPath) → slot_of paths p n ≡ Some s → IsSome (desc_of paths s.0)
 
--- the paths with this descriptor of a system path, or with none
+-- the paths with this descriptor for a system path, or with none
 abbrev pub with_desc : PathTable → ℕ → Option Desc → PathTable
 with_desc paths s desc = record paths { descs = slice_set paths.descs s desc }
 
--- the paths with these numbers of a process
+-- the paths with these numbers for a process
 abbrev pub with_numbers : PathTable → ℕ → List (Option SysPath) → PathTable
 with_numbers paths p numbers = record paths { own = slice_set paths.own p numbers }
 
--- the paths where one number of a process is an image of this path, or free
+-- the paths in which one number of a process is an image of this path, or free
 abbrev pub with_slot : PathTable → ℕ → ℕ → Option SysPath → PathTable
 with_slot paths p n path = with_numbers paths p (slice_set (numbers_of paths p) n path)
 
--- the least number of a process that is free
+-- the least free number of a process
 abbrev pub free_number : PathTable → ℕ → Option ℕ
 free_number paths p = position is_none (numbers_of paths p)
 
--- the least system path that there is not
+-- the least free system path
 abbrev pub free_path : PathTable → Option ℕ
 free_path paths = option_map (λ k. k + 1) (position is_none (drop 1 paths.descs))
 
@@ -92,19 +92,19 @@ abbrev pub paths_after_dup : PathTable → ℕ → ℕ → PathTable
 paths_after_dup paths p n =
     option_map_or (λ free. with_slot paths p free (slot_of paths p n)) (free_number paths p) paths
 
--- the numbers that a child is given: its parent's first three, and no more
+-- the numbers that a child gets: its parent's first three, and no more
 abbrev pub inherited_numbers : List (Option SysPath) → List (Option SysPath)
 inherited_numbers numbers = take 3 numbers ++ replicate 13 None
 
--- the paths after a process is given images of another's standard paths (F$Fork)
+-- the paths after a process gets images of another's standard paths (F$Fork)
 abbrev pub paths_after_inherit : PathTable → ℕ → ℕ → PathTable
 paths_after_inherit paths parent child = with_numbers paths child (inherited_numbers (numbers_of paths parent))
 
--- the system path that a number of a process is an image of; 0, which is no path, if it is free
+-- the system path of which a number of a process is an image; 0, which is not a path, if the number is free
 abbrev pub path_at : PathTable → ℕ → ℕ → ℕ
 path_at paths p n = option_map_or (λ s. s.0) (slot_of paths p n) 0
 
--- the paths without one that no process holds
+-- the paths without this one, if no process holds it
 abbrev pub without_unheld : PathTable → ℕ → PathTable
 without_unheld paths s = if is_held paths s then paths else with_desc paths s None
 
@@ -112,7 +112,7 @@ without_unheld paths s = if is_held paths s then paths else with_desc paths s No
 abbrev pub paths_after_close : PathTable → ℕ → ℕ → PathTable
 paths_after_close paths p n = without_unheld (with_slot paths p n None) (path_at paths p n)
 
--- the descriptor of the path that goes when a process closes a number, if one goes
+-- the descriptor of the path that ends when a process closes a number, if one ends
 abbrev pub closed_desc : PathTable → ℕ → ℕ → Option Desc
 closed_desc paths p n =
     if is_held (with_slot paths p n None) (path_at paths p n) then None else desc_of paths (path_at paths p n)

@@ -20,7 +20,7 @@ use Rattle.io_model.specs.declared.terminal.ReadKind.TheVariants.{Bytes, WholeLi
 use Rattle.io_model.specs.declared.terminal.Reading.{Reading}
 use Rattle.io_model.specs.declared.terminal.TheConstants.{TYPE_AHEAD}
 
--- what stands at a terminal
+-- a terminal as the kernel keeps it
 pub record Terminal : Type 0 where
   pub ahead : List ℕ  -- the type-ahead: the keys that no read has used yet
   pub line : Editing  -- the line of the unfinished read, and the last finished line
@@ -39,11 +39,11 @@ without_reading t = record t { line = cleared t.line; reading = None }
 abbrev pub used_by : Pid → Terminal → Terminal
 used_by process t = record t { user = Some process }
 
--- the process that reads, where a read is unfinished
+-- the process of the unfinished read, if there is one
 abbrev pub reader : Terminal → Option Pid
 reader t = option_map (λ reading. reading.process) t.reading
 
--- the two are one process
+-- the two are the same process
 abbrev pub is_process : Pid → Pid → Bool
 is_process p q = p.0 == q.0
 
@@ -75,23 +75,23 @@ typed_bytes bytes = filter (λ byte. is_none (signal_of byte)) bytes
 abbrev pub first_signal : List ℕ → Option ℕ
 first_signal bytes = slice_get (filter_map signal_of bytes) 0
 
--- how many of these bytes find the type-ahead full
+-- the number of these bytes that find the type-ahead full
 abbrev pub dropped_count : List ℕ → List ℕ → ℕ
 dropped_count ahead bytes = length ahead + length (typed_bytes bytes) - TYPE_AHEAD
 
--- the count of faults rose at least this often, or stands at its last value
+-- the count of faults rose at least `times` times, or is at its maximum
 pub record RoseTimes (times before now : ℕ) : Type 0 where
   pub rose : min (before + times) (2 ^ 64 - 1) ≤ now
   pub never_falls : before ≤ now
   pub stood : times ≡ 0 → now ≡ before
 
--- The keys of a tick that are due arrive: they go into the type-ahead, as many as fit, and a bell is put for each one
--- that does not. The first key that sends a signal sends it.
+-- The keys that are due in a tick arrive: they go into the type-ahead as far as they fit, and a bell is put for each
+-- key that does not fit. The first key that sends a signal sends it.
 pub record Arrives (tick : ℕ) (old new : Terminal) (before now : TerminalState) (answer : Arrival) : Type 0 where
   pub taken : List Key  -- the keys that arrive
   pub bells : ℕ  -- the bells that are put
   pub mute : ℕ  -- the bells that the driver failed to put
-  pub broken : ℕ  -- 1 where the driver failed to give a key, which ends the poll, else 0
+  pub broken : ℕ  -- 1 if the driver failed to give a key, which ends the poll, else 0
   pub once : broken ≤ 1
   pub in_order : before.keys ≡ taken ++ now.keys
   pub due : All (λ key. key.tick ≤ tick) taken
@@ -102,15 +102,15 @@ pub record Arrives (tick : ℕ) (old new : Terminal) (before now : TerminalState
   pub every_bell : answer.memory ≡ true → bells + mute ≡ dropped_count old.ahead (key_bytes taken)
   pub last_bell : answer.memory ≡ false → bells + mute + 1 ≡ dropped_count old.ahead (key_bytes taken)
   pub all_taken : answer.memory ≡ true → broken ≡ 0 → due_byte now.keys tick ≡ None
-  pub unbroken : answer.memory ≡ false → broken ≡ 0  -- memory was out, and not the driver
+  pub unbroken : answer.memory ≡ false → broken ≡ 0  -- memory was out, the driver did not fail
 
--- what a driver has that holds these keys, has put these bytes and failed so often
+-- the state of a driver with these keys, these put bytes and this count of faults
 abbrev pub driver_with : List Key → List ℕ → ℕ → TerminalState
 driver_with keys put faults = record { keys = keys; put = Some put; faults = faults }
 
 -- Reads.
 
--- what a key makes of a line, by the kind of the read and how many bytes it asks for
+-- what a key makes of a line, by the kind of the read and the number of bytes that it asks for
 abbrev pub effect_by : ReadKind → ℕ → Editing → ℕ → Edited
 effect_by Bytes most = copied most
 effect_by WholeLine most = edited most
@@ -123,27 +123,27 @@ key_effect request = effect_by request.kind request.most
 abbrev pub typed : Reading → Editing → List ℕ → Typing
 typed request line keys = typing (key_effect request) line keys
 
--- the read of another process is unfinished
+-- another process's read is unfinished
 abbrev pub is_taken : Pid → Terminal → Bool
 is_taken process t = option_map_or (λ other. not (is_process process other)) (reader t) false
 
--- a read of a process whose read is unfinished is the same call
+-- if the process has an unfinished read, this read is the same call
 abbrev pub IsSameCall : Reading → Terminal → Type 0
 IsSameCall request t = IfSome t.reading (λ reading. reading.process ≡ request.process → reading ≡ request)
 
--- what an attempt of a read comes to where every byte of its echo is put
+-- the result of an attempt of a read if every byte of its echo is put
 pub record ReadAttempt : Type 0 where
   pub answer : Progress
   pub terminal : Terminal
   pub echo : List ℕ
   pub stored : List ℕ  -- the bytes that are stored into the buffer
 
--- the terminal after a read that typed these keys and is unfinished
+-- the terminal after an unfinished read that typed these keys
 abbrev pub still_reading : Reading → Typing → Terminal
 still_reading request it =
     record { ahead = it.left; line = it.line; reading = Some request; user = Some request.process }
 
--- the terminal after a read that is over, where this is its line and these keys are left
+-- the terminal after a finished read, with this line and these keys left
 abbrev pub after_reading : Reading → Editing → List ℕ → Terminal
 after_reading request line left =
     record { ahead = left; line = cleared line; reading = None; user = Some request.process }
@@ -162,7 +162,7 @@ attempt_by (Some Line) it request =
       stored = it.line.bytes;
     }
 
--- the attempt of a read that no other process's read keeps waiting
+-- the attempt of a read that waits for no other process's read
 abbrev pub typed_attempt : Reading → Terminal → ReadAttempt
 typed_attempt request t =
     attempt_by (typed request t.line t.ahead).end (typed request t.line t.ahead) request
@@ -177,24 +177,24 @@ abbrev pub read_attempt : Reading → Terminal → ReadAttempt
 read_attempt request t =
     if is_taken request.process t then kept_waiting request t else typed_attempt request t
 
--- the attempt came to this
+-- the attempt has this result
 pub record Attempted (attempt : ReadAttempt) (answer : Progress) (new : Terminal) (before now : TerminalState)
     : Type 0 where
   pub answer_is : answer ≡ attempt.answer
   pub terminal : new ≡ attempt.terminal
   pub echo : now.put ≡ stream_with before.put attempt.echo
 
--- what the last of these keys makes of the line of a read, after those before it
+-- what the last of these keys makes of the line of a read, after the keys before it
 abbrev pub last_effect : Reading → Editing → List ℕ → ℕ → Edited
 last_effect request line front key = key_effect request (typed request line front).line key
 
--- A read whose echo was refused: it used the keys up to the one whose echo failed and no others. What the keys before
--- that one echo is out, and a part of what that one echoes. Where that key ended a line, this is the last finished one.
+-- A read whose echo was refused: it used the keys up to the one whose echo failed and no others. The echo of the keys
+-- before that one is out, and a part of its own echo. If that key ended a line, this line is the last finished one.
 pub record BreaksOff (request : Reading) (old new : Terminal) (before now : TerminalState) : Type 0 where
   pub front : List ℕ  -- the keys before the one whose echo failed
   pub key : ℕ  -- the key whose echo failed
   pub rest : List ℕ  -- the keys that are not used
-  pub count : ℕ  -- how many bytes of that key's echo are out
+  pub count : ℕ  -- the number of bytes of that key's echo that are out
   pub keys : old.ahead ≡ front ++ key ∷ rest
   pub unfinished : (typed request old.line front).end ≡ None
   pub part : count < length (last_effect request old.line front key).echo
@@ -218,7 +218,7 @@ is_fault End = false
 is_fault Fault = true
 is_fault NoMemory = false
 
--- what a call leaves of its terminal's driver: its keys, and its count of faults where it did not fail
+-- what a call leaves of its terminal's driver: its keys, and its count of faults if it did not fail
 pub record LeavesDriver (answer : Progress) (before now : TerminalState) : Type 0 where
   pub keys : now.keys ≡ before.keys
   pub never_falls : before.faults ≤ now.faults
@@ -228,7 +228,7 @@ pub record LeavesDriver (answer : Progress) (before now : TerminalState) : Type 
 abbrev pub stored_over : List ℕ → List ℕ → List ℕ
 stored_over bytes buffer = bytes ++ drop (length bytes) buffer
 
--- an attempt of a read came to this answer
+-- an attempt of a read had this answer
 pub record Reads (request : Reading) (answer : Progress) (old new : Terminal) (before now : TerminalState)
     : Type 0 where
   pub outcome : MatchBool (is_refused answer) (BreaksOff request old new before now)
@@ -236,29 +236,29 @@ pub record Reads (request : Reading) (answer : Progress) (old new : Terminal) (b
   pub turn : is_refused answer ≡ true → is_taken request.process old ≡ false
   pub driver : LeavesDriver answer before now
 
--- what a read stores into its buffer: its bytes where it is done, else nothing
+-- what a read stores into its buffer: its bytes if it is done, else nothing
 abbrev pub stored_bytes : Progress → Reading → Terminal → List ℕ
 stored_bytes answer request t = if is_refused answer then [] else (read_attempt request t).stored
 
 -- Writes.
 
--- the terminal was given a part of these bytes: one of them at least was refused
+-- the terminal got a part of these bytes: at least one of them was refused
 abbrev pub PutsPart : List ℕ → TerminalState → TerminalState → Type 0
 PutsPart bytes before now = GainsPart before.put bytes now.put
 
--- a write was done: these bytes are out, and it answers this count
+-- a write was done: these bytes are out, and it returns this count
 pub record IsWritten (process : Pid) (bytes : List ℕ) (count : ℕ) (answer : Progress) (old new : Terminal)
     (before now : TerminalState) : Type 0 where
   pub answer_is : answer ≡ Done count
   pub terminal : new ≡ used_by process old
   pub put : now.put ≡ stream_with before.put bytes
 
--- a byte of a write was refused: a part of the bytes is out, and no read is unfinished
+-- a byte of a write was refused: a part of the bytes is out, and there is no unfinished read
 pub record IsCutShort (process : Pid) (bytes : List ℕ) (old new : Terminal) (before now : TerminalState) : Type 0 where
   pub terminal : new ≡ without_reading (used_by process old)
   pub part : PutsPart bytes before now
 
--- a write of these bytes came to this answer, where a write that is done answers this count
+-- a write of these bytes had this answer; if it was done, it returned this count
 pub record Writes (process : Pid) (bytes : List ℕ) (count : ℕ) (answer : Progress) (old new : Terminal)
     (before now : TerminalState) : Type 0 where
   pub outcome : MatchBool (is_refused answer) (IsCutShort process bytes old new before now)

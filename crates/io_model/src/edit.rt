@@ -6,34 +6,34 @@ ghost use Rattle.io_model.specs.Edit.{Editing, Edited, HasRoom, typing, edited, 
 /// What ends a read of a terminal.
 #[derive(Clone, Copy, Debug, PartialEq, Eq)]
 pub enum LineEnd {
-    /// A carriage return, or the last byte that was asked for.
+    /// A carriage return, or the last byte that the read asks for.
     Line,
     /// The end-of-file key with no byte before it.
     EndOfFile,
 }
 
-/// Keys that come in two parts are as good as all of them at once, for I$ReadLn, I$Read and any
-/// other effect of keys: the second part goes on where the first one left off.
+/// Keys in two parts have the same effect as all of them at once, for I$ReadLn, I$Read and any
+/// other effect of keys: the second part goes on from the end of the first one.
 pub fn typing_can_be_cut()
     ensures { (step : Editing → ℕ → Edited) (line : Editing) (first later : List ℕ) →
         typing step line (first ++ later) ≡ after_typing step (typing step line first) later }
 {}
 
-/// A read uses keys from the front of those that are there, and what it makes of them is what these
-/// keys make alone. So each key is used by one read, in order.
+/// A read uses keys from the front of the list, and its effect is that of these keys alone. So each
+/// key is used by one read, in order.
 pub fn typing_uses_a_front()
     ensures { (step : Editing → ℕ → Edited) (line : Editing) (keys : List ℕ) →
         (used : List ℕ) × (keys ≡ used ++ (typing step line keys).left)
         × (typing step line used ≡ used_up (typing step line keys)) }
 {}
 
-/// A read that goes on has used every key.
+/// A read that has not ended has used every key.
 pub fn unended_typing_uses_all()
     ensures { (step : Editing → ℕ → Edited) (line : Editing) (keys : List ℕ) →
         (typing step line keys).end ≡ None → (typing step line keys).left ≡ [] }
 {}
 
-/// A line that has room for a byte has room after every key that does not end it.
+/// A line with room for a byte still has room after each key that does not end it.
 pub fn typing_keeps_room()
     ensures whole_line { (most : ℕ) (line : Editing) (key : ℕ) → length line.bytes < most →
         HasRoom most (edited most line key).end (edited most line key).line }
@@ -41,8 +41,8 @@ pub fn typing_keeps_room()
         HasRoom most (copied most line key).end (copied most line key).line }
 {}
 
-/// Two lines that are typed one after another: one with a byte taken back, and one that is deleted
-/// and typed again by one key.
+/// Two lines, typed one after another: one with a byte erased, and one that is deleted and typed
+/// again by one key.
 pub fn line_editing()
     ensures first { typing (edited 80) no_line (97 ∷ 98 ∷ 120 ∷ 8 ∷ 99 ∷ 13 ∷ [])
         ≡ line_done (record { bytes = codes "abc" ++ 13 ∷ []; last = codes "abc" })
@@ -53,7 +53,7 @@ pub fn line_editing()
         (122 ∷ 122 ∷ 8 ∷ 32 ∷ 8 ∷ 8 ∷ 32 ∷ 8 ∷ 97 ∷ 98 ∷ 99 ∷ 13 ∷ 10 ∷ []) }
 {}
 
-/// The key of the end of the file, where no byte is before it, ends the read. It keeps the last line.
+/// The end-of-file key ends the read if no byte is before it. It keeps the last line.
 pub fn end_of_file_alone()
     ensures { typing (edited 80) (record { bytes = []; last = codes "abc" }) (27 ∷ [])
         ≡ record {
@@ -64,8 +64,8 @@ pub fn end_of_file_alone()
         } }
 {}
 
-/// The keys of I$ReadLn that take bytes back, on a line of two bytes, the second of which is shown
-/// as a dot, and on an empty line.
+/// The keys of I$ReadLn that erase bytes, on a line of two bytes, the second of which is shown as a
+/// dot, and on an empty line.
 pub fn taking_back_keys()
     ensures backspace { edited 80 (record { bytes = 97 ∷ 2 ∷ []; last = [] }) 8
         ≡ still_typing (record { bytes = 97 ∷ []; last = [] }) (8 ∷ 32 ∷ 8 ∷ []) }
@@ -74,7 +74,7 @@ pub fn taking_back_keys()
         ≡ still_typing no_line (8 ∷ 32 ∷ 8 ∷ 8 ∷ 32 ∷ 8 ∷ []) }
 {}
 
-/// The keys of I$ReadLn that show the line again, or type the last one again as far as it has room.
+/// The keys of I$ReadLn that show the line again, or type the last one again as far as it fits.
 pub fn repeating_keys()
     ensures reprint { edited 80 (record { bytes = 97 ∷ 2 ∷ []; last = [] }) 4
         ≡ still_typing (record { bytes = 97 ∷ 2 ∷ []; last = [] }) (13 ∷ 10 ∷ 97 ∷ 46 ∷ []) }
@@ -85,15 +85,15 @@ pub fn repeating_keys()
         ≡ still_typing (record { bytes = codes "wx"; last = codes "wxyz" }) (codes "wx") }
 {}
 
-/// The key of the end of the file of I$ReadLn ends the read of an empty line, and is refused in a
-/// line that has bytes.
+/// The end-of-file key of I$ReadLn ends the read of an empty line, and is refused in a line with
+/// bytes.
 pub fn end_of_file_key()
     ensures end_of_file { edited 80 no_line 27 ≡ file_ended no_line }
     ensures end_of_file_in_a_line { edited 80 (record { bytes = 97 ∷ []; last = [] }) 27
         ≡ refused_key (record { bytes = 97 ∷ []; last = [] }) }
 {}
 
-/// Any other key of I$ReadLn is typed, and shown as a dot where it is a control key.
+/// Any other key of I$ReadLn is typed. A control key is shown as a dot.
 pub fn typed_keys()
     ensures letter { edited 80 no_line 97
         ≡ still_typing (record { bytes = 97 ∷ []; last = [] }) (97 ∷ []) }
@@ -107,7 +107,7 @@ pub fn typed_keys()
         ≡ still_typing (record { bytes = 128 ∷ []; last = [] }) (128 ∷ []) }
 {}
 
-/// A key of I$ReadLn is typed only while the line has room for it and a carriage return, which
+/// A key of I$ReadLn is typed only while the line has room for it and for the carriage return that
 /// ends the line.
 pub fn typed_up_to_the_room()
     ensures last_place { edited 3 (record { bytes = 97 ∷ []; last = [] }) 98
@@ -118,7 +118,7 @@ pub fn typed_up_to_the_room()
         ≡ line_ended (record { bytes = 13 ∷ []; last = [] }) (13 ∷ 10 ∷ []) }
 {}
 
-/// The keys of I$Read are moved as they are, and the last finished line stays. A carriage return or
+/// The keys of I$Read are moved unchanged, and the last finished line stays. A carriage return or
 /// the last byte ends the read.
 pub fn copied_keys()
     ensures control { copied 80 (record { bytes = []; last = codes "abc" }) 8
@@ -129,8 +129,8 @@ pub fn copied_keys()
         ≡ line_ended (record { bytes = codes "xy"; last = codes "abc" }) (121 ∷ []) }
 {}
 
-/// The key of the end of the file of I$Read ends the read where no byte is before it, and is moved as
-/// any other behind one.
+/// The end-of-file key of I$Read ends the read if no byte is before it. Otherwise it is moved like
+/// any other key.
 pub fn copied_end_of_file()
     ensures end_of_file { copied 80 (record { bytes = []; last = codes "abc" }) 27
         ≡ file_ended (record { bytes = []; last = codes "abc" }) }

@@ -1,20 +1,21 @@
-//! What is kept of a call that waits on a terminal or a pipe.
+//! What is kept of a pending call on a terminal or a pipe.
 
 ghost use Rattle.std.specs.Prelude.{◌≡◌, ◌+◌, ◌≤◌, true};
 ghost use Rattle.io_model.specs.Kept.{count_left, moved_on, is_complete};
 
 use crate::path::SysPath;
 
-/// A call that waits for a terminal or a pipe, as its further attempts find it.
+/// A pending call on a terminal or a pipe, as its further attempts find it.
 #[derive(Clone, Copy, Debug, PartialEq, Eq)]
 pub struct Kept {
     /// The code of the call.
     pub code: u8,
-    /// The path on which it was made.
+    /// The path of the call.
     pub path: SysPath,
-    /// How many bytes its attempts have moved.
+    /// The number of bytes that its attempts have moved.
     pub moved: u16,
-    /// How many bytes it asks for; of a line write, those that its first attempt found.
+    /// The number of bytes that it asks for; for a line write, the number that its first attempt
+    /// found.
     pub count: u16,
 }
 

@@ -1,21 +1,21 @@
 //! The keys and bytes of line editing, by their names in the Level Two manual (SCF, path options).
 
-/// PD.BSP: takes the last byte of the line away. PD.BSE, the byte that moves the cursor back.
+/// PD.BSP: erases the last byte of the line. PD.BSE, the byte that moves the cursor back.
 pub const BACKSPACE: u8 = 0x08;
 
-/// PD.DEL: takes every byte of the line away.
+/// PD.DEL: erases every byte of the line.
 pub const DELETE_LINE: u8 = 0x18;
 
 /// PD.RPR: shows the line again.
 pub const REPRINT: u8 = 0x04;
 
-/// PD.DUP: puts the last finished line in place of the line.
+/// PD.DUP: replaces the line by the last finished line.
 pub const DUPLICATE: u8 = 0x01;
 
 /// PD.EOR: ends the line.
 pub const RETURN: u8 = 0x0D;
 
-/// PD.EOF: the end of the file, where the line is empty.
+/// PD.EOF: the end of the file, if the line is empty.
 pub const END_OF_FILE: u8 = 0x1B;
 
 /// PD.INT: sends signal 3 to the last user.
@@ -24,16 +24,16 @@ pub const INTERRUPT: u8 = 0x03;
 /// PD.QUT: sends signal 2 to the last user.
 pub const QUIT: u8 = 0x05;
 
-/// PD.OVF: is put where a key is dropped.
+/// PD.OVF: put if a key is dropped.
 pub const BELL: u8 = 0x07;
 
-/// The space that covers a byte that was taken away.
+/// The space that covers an erased byte.
 pub const SPACE: u8 = 0x20;
 
-/// Is put after a carriage return.
+/// Put after a carriage return.
 pub const LINE_FEED: u8 = 0x0A;
 
-/// Is put in place of a control character (Level Two manual, SCF).
+/// Put in place of a control character (Level Two manual, SCF).
 pub const DOT: u8 = 0x2E;
 
 /// The control character above the printable ones.

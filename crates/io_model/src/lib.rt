@@ -1,5 +1,5 @@
-//! What terminals, pipes and paths are: the definitions that their calls are measured by, and the
-//! types that the definitions speak of.
+//! Terminals, pipes and paths: the definitions that specify their calls, and the types of these
+//! definitions.
 #![tactic(auto)]
 
 pub mod edit;

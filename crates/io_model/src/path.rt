@@ -1,4 +1,4 @@
-//! What a path is (Level Two manual, path descriptors), and its worked case.
+//! Paths (Level Two manual, path descriptors), with a worked case.
 
 ghost use Rattle.std.specs.Prelude.{◌≡◌, ℕ, Some, None, List, [], ◌∷◌, ◌++◌, replicate};
 ghost use Rattle.io_model.specs.Path.{PathTable, no_paths, slot_of, desc_of, paths_after_begin, paths_after_dup, paths_after_inherit, paths_after_close, closed_desc, is_held};
@@ -7,7 +7,7 @@ ghost use Rattle.io_model.specs.declared.path.Target.TheVariants.{Pipe};
 
 use thiserror::Error;
 
-/// How many paths a process has at most, and how many there are in all (this project's own).
+/// The maximum number of paths of a process, and of all paths (this project's own).
 pub const PROCESS_PATHS: usize = 16;
 
 pub const SYSTEM_PATHS: usize = 64;
@@ -16,7 +16,7 @@ pub const SYSTEM_PATHS: usize = 64;
 #[derive(Clone, Copy, Debug, PartialEq, Eq)]
 pub struct SysPath(pub u8);
 
-/// What a path was opened on.
+/// The target of a path.
 #[derive(Clone, Copy, Debug, PartialEq, Eq)]
 pub enum Target {
     /// A file, by its drive and the sector of its descriptor.
@@ -35,9 +35,9 @@ pub struct Desc {
     pub target: Target,
     /// The mode with which it was opened.
     pub mode: u8,
-    /// The byte of the file that is next.
+    /// The position in the file: the next byte.
     pub at: u32,
-    /// How many ticks a request for a record waits, by SS.Ticks.
+    /// The number of ticks that a request for a record waits, by SS.Ticks.
     pub ticks: u16,
 }
 
@@ -46,7 +46,7 @@ pub struct Desc {
 #[error("all path numbers are in use")]
 pub struct PathsFull;
 
-/// A parent opens a pipe and forks: the child's path is the same one, and it goes when both have
+/// A parent opens a pipe and forks: the child's path is the same one, and it ends when both have
 /// closed it.
 pub fn shared_path(desc: Desc)
     ensures opened { slot_of (paths_after_begin no_paths 3 desc) 3 0 ≡ Some (record { 0 = 1 }) }
@@ -59,7 +59,7 @@ pub fn shared_path(desc: Desc)
         ≡ Some desc }
 {}
 
-/// A path that is duplicated goes when both of its numbers are closed.
+/// A duplicated path ends when both of its numbers are closed.
 pub fn duplicated_path(desc: Desc)
     ensures same { slot_of (paths_after_dup (paths_after_begin no_paths 2 desc) 2 0) 2 1
         ≡ Some (record { 0 = 1 }) }

@@ -1,17 +1,17 @@
-//! What a terminal answers, and its worked cases.
+//! The answers of a terminal, with worked cases.
 
 ghost use Rattle.std.specs.Prelude.{◌≡◌, true, Some, None, [], ◌∷◌, ◌++◌, codes};
 ghost use Rattle.io_model.specs.Terminal.{Arrives, Writes, read_attempt, new_terminal, used_by, driver_with};
 
 use os9_base::registers::Pid;
 
-/// How many keys the type-ahead of a terminal holds (this project's own).
+/// The maximum number of keys in the type-ahead of a terminal (this project's own).
 pub const TYPE_AHEAD: usize = 256;
 
 /// Which call reads a terminal.
 #[derive(Clone, Copy, Debug, PartialEq, Eq)]
 pub enum ReadKind {
-    /// I$Read, which moves keys as they are.
+    /// I$Read, which moves keys unchanged.
     Bytes,
     /// I$ReadLn, which edits a line.
     WholeLine,
@@ -22,16 +22,16 @@ pub enum ReadKind {
 pub struct Reading {
     pub process: Pid,
     pub kind: ReadKind,
-    /// How many bytes it asks for, from 1 to 256.
+    /// The number of bytes that it asks for, from 1 to 256.
     pub most: u16,
 }
 
 /// How an attempt of a read or a write of a terminal ended.
 #[derive(Clone, Copy, Debug, PartialEq, Eq)]
 pub enum Progress {
-    /// It is done, and moved so many bytes.
+    /// It is done, and moved this number of bytes.
     Done(u16),
-    /// It is attempted again once a key is there that it may use.
+    /// It is attempted again after a key that it may use has arrived.
     Wait,
     /// The end of the file.
     End,
@@ -41,7 +41,7 @@ pub enum Progress {
     NoMemory,
 }
 
-/// What came of the keys that arrived in a tick.
+/// The result of the keys that arrived in a tick.
 #[derive(Clone, Copy, Debug, PartialEq, Eq)]
 pub struct Arrival {
     /// The signal to send to the last user, if a key sends one.
@@ -50,7 +50,7 @@ pub struct Arrival {
     pub memory: bool,
 }
 
-/// A line that waits in the type-ahead is read at once, and the keys behind it stay.
+/// A line in the type-ahead is read at once, and the keys after it stay.
 pub fn waiting_line()
     ensures { read_attempt
         (record { process = record { 0 = 2 }; kind = ReadKind.WholeLine; most = 80 })
@@ -73,8 +73,8 @@ pub fn terminal_put_fault()
         (driver_with [] [] 0) (driver_with [] (97 ∷ []) 1) }
 {}
 
-/// A terminal that fails to give a key ends the poll of that tick, and nothing else changes. The key
-/// arrives in the next one.
+/// A terminal that fails to give a key ends the poll of that tick, and nothing else changes. The
+/// key arrives in the next tick.
 pub fn key_fault()
     ensures first { Arrives 1 new_terminal new_terminal
         (driver_with (record { tick = 1; byte = 97 } ∷ []) [] 0)

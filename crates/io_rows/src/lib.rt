@@ -1,5 +1,5 @@
-//! Worked rows of the outside and of what stands over it: hosts, drives, terminals, lines, pipes,
-//! paths and the keys that arrive.
+//! Worked rows of the outside and of the crates over it: hosts, drives, terminals, lines, pipes,
+//! paths and arriving keys.
 #![tactic(auto)]
 
 #[cfg(test)]

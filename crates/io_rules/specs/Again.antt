@@ -1,4 +1,4 @@
--- Further attempts: a call that waits is attempted again with the registers that it was made with.
+-- Further attempts: a pending call is attempted again with the registers of its first attempt.
 use Rattle.std.specs.Prelude.{◌≡◌, ℕ, ◌<◌, ◌≤◌, Some, IfSome, length}
 use Rattle.os9_base.specs.declared.registers.Regs.{Regs}
 use Rattle.io_model.specs.Path.{slot_of}
@@ -10,24 +10,24 @@ use Rattle.io_rules.specs.declared.io_call.IoCall.{IoCall}
 use Rattle.io_rules.specs.declared.io_call.IoCall.TheVariants as Call
 use Rattle.io_rules.specs.declared.modes.TheConstants.{STANDARD_ERROR}
 
--- the number of the path on which a call is made
+-- the path number that a call uses
 abbrev pub path_number : IoCall → Regs → ℕ
 path_number Call.PErr regs = STANDARD_ERROR
 path_number call regs = regs.a
 
--- the count that is kept of a call is the one that it asks for; that of a line write is what its first attempt found
+-- the kept count of a call is the count that it asks for; for a line write, the count that its first attempt found
 abbrev pub KeepsCount : IoCall → Regs → ℕ → Type 0
 KeepsCount Call.WritLn regs count = count ≤ regs.y
 KeepsCount Call.PErr regs count = count ≡ length (error_line regs.b)
 KeepsCount call regs count = count ≡ regs.y
 
--- what is kept of a call of a process is kept of this one
+-- the kept call of a process is this call
 pub record IsKept (call : IoCall) (regs : Regs) (io : Io) (p : ℕ) (kept : Kept) : Type 0 where
   pub code : io_call_of kept.code ≡ Some call
   pub path : slot_of io.paths p (path_number call regs) ≡ Some kept.path
   pub count : KeepsCount call regs kept.count
   pub unfinished : kept.moved < kept.count  -- it has a byte left to move
 
--- where a call of the process waits, it is this one
+-- the pending call of the process, if it has one, is this call
 abbrev pub IsAgain : IoCall → Regs → Io → ℕ → Type 0
 IsAgain call regs io p = IfSome (kept_at io p) (IsKept call regs io p)

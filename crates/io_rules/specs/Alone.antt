@@ -9,7 +9,7 @@ use Rattle.io_rules.specs.Io.{Io, kept_at}
 use Rattle.io_rules.specs.declared.io_call.Direction.{Direction}
 use Rattle.io_rules.specs.declared.io_call.Direction.TheVariants.{Reading, Writing}
 
--- the two directions are one
+-- the two directions are the same
 abbrev pub is_direction : Direction → Option Direction → Bool
 is_direction Reading None = false
 is_direction Reading (Some Reading) = true
@@ -18,16 +18,16 @@ is_direction Writing None = false
 is_direction Writing (Some Reading) = false
 is_direction Writing (Some Writing) = true
 
--- a call that waits is in this wait: it moves bytes in this direction, on this path
+-- a pending call is in this wait: it moves bytes in this direction, on this path
 abbrev pub is_in_wait : ℕ → Direction → Option Kept → Bool
 is_in_wait s direction None = false
 is_in_wait s direction (Some kept) = (kept.path.0 == s) && is_direction direction (direction_of kept.code)
 
--- a process other than p holds a path, and is not itself in this wait on it
+-- a process q other than p holds the path, and is not in this wait on it
 abbrev pub is_outside : Io → ℕ → ℕ → Direction → ℕ → Bool
 is_outside io p s direction q =
     not (q == p) && (holds_path io.paths q s && not (is_in_wait s direction (kept_at io q)))
 
--- a process that waits on a path in this direction would be alone: no other one could end its wait
+-- a process that waits on a path in this direction would be alone: no other process could end its wait
 abbrev pub is_alone : Io → ℕ → ℕ → Direction → Bool
 is_alone io p s direction = not (list_any (is_outside io p s direction) (range_with_len 0 PROCESS_PLACES))

@@ -8,21 +8,21 @@ use Rattle.io_model.specs.Terminal.{Terminal, Arrives}
 use Rattle.io_model.specs.declared.terminal.Arrival.{Arrival}
 use Rattle.io_rules.specs.Io.{Io, terminal_at, with_terminal}
 
--- what keys that arrive may change
+-- what arriving keys may change
 pub record Desk : Type 0 where
   pub inner : Inner
   pub io : Io
   pub terms : List TerminalState  -- TERM, T1, T2, T3
 
--- the superuser, who may send a signal to every process
+-- the superuser, who may signal every process
 abbrev pub every_user : ℕ
 every_user = 0
 
--- the processes after a signal was sent to a process; it is dropped where that one has a signal pending
+-- the processes after a signal was sent to a process; it is dropped if that process has a pending signal
 abbrev pub after_signal_to : Inner → Pid → ℕ → Inner
 after_signal_to inner process signal = with_records inner (after_send inner.records every_user process.0 signal)
 
--- the processes after the signal of a terminal was sent to its last user, if there are both
+-- the processes after the signal of a terminal was sent to its last user, if it has both
 abbrev pub after_key_signal : Inner → Option Pid → Option ℕ → Inner
 after_key_signal inner None signal = inner
 after_key_signal inner (Some process) None = inner
@@ -38,12 +38,12 @@ pub record ArrivesAt (tick n : ℕ) (old new : Desk) : Type 0 where
   pub io : new.io ≡ with_terminal old.io n terminal
   pub signal : new.inner ≡ after_key_signal old.inner terminal.user answer.signal
 
--- the same of so many terminals from this one on, one after another
+-- the same for `count` terminals from terminal n on, one after another
 abbrev pub ArrivesFrom : ℕ → ℕ → ℕ → Desk → Desk → Type 0
 ArrivesFrom tick n zero old new = new ≡ old
 ArrivesFrom tick n (suc count) old new =
     (between : Desk) × ArrivesAt tick n old between × ArrivesFrom tick (n + 1) count between new
 
--- the keys of all terminals that are due in this tick arrive: of TERM, T1, T2 and T3, in this order
+-- the keys that are due in this tick arrive at all terminals: TERM, T1, T2 and T3, in this order
 abbrev pub Arrivals : ℕ → Desk → Desk → Type 0
 Arrivals tick old new = ArrivesFrom tick 0 (length old.terms) old new

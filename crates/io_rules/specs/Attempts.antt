@@ -21,7 +21,7 @@ use Rattle.io_rules.specs.Write.{i_write, i_writln, f_perr}
 use Rattle.io_rules.specs.declared.io_call.IoCall.{IoCall}
 use Rattle.io_rules.specs.declared.io_call.IoCall.TheVariants as Call
 
--- what an attempt of a call does, on a machine with so many drives and terminals
+-- what an attempt of a call does, on a machine with `drives` drives and `terms` terminals
 abbrev pub io_step : IoCall → Caller → Io → ℕ → ℕ → IoStep
 io_step Call.Dup caller io drives terms = i_dup caller io
 io_step Call.Create caller io drives terms = i_create caller io drives terms
@@ -35,14 +35,14 @@ io_step Call.GetStt caller io drives terms = i_getstt caller io
 io_step Call.SetStt caller io drives terms = i_setstt caller io
 io_step Call.PErr caller io drives terms = f_perr caller io
 
--- what an attempt does comes to this effect, and leaves the terminals so
+-- this step has this effect, and leaves the terminals in this way
 abbrev pub Does : IoStep → Caller → Io → IoEffect → List TerminalState → List TerminalState → Type 0
 Does (refused number) caller io effect before after = (effect ≡ leaves (fails number) io) × (after ≡ before)
 Does (comes it) caller io effect before after = (effect ≡ it) × (after ≡ before)
 Does (reads read) caller io effect before after = ReadsTerminal caller io read effect before after
 Does (writes write) caller io effect before after = WritesTerminal caller io write effect before after
 
--- what is kept of a call that ends so
+-- what is kept of a call with this end
 abbrev pub kept_in : IoEnd → Option Kept
 kept_in (answers regs) = None
 kept_in (fails number) = None
@@ -52,7 +52,7 @@ kept_in (keeps kept) = Some kept
 abbrev pub io_after : ℕ → IoEffect → Io
 io_after p effect = with_call effect.io p (kept_in effect.end)
 
--- ---- by the caller's registers and the bytes that it sees
+-- ---- by the caller's registers and cells
 
 -- how an attempt ends
 abbrev pub end_of : IoEnd → CallEnd
@@ -60,7 +60,7 @@ end_of (answers regs) = Done
 end_of (fails number) = Error number
 end_of (keeps kept) = Wait
 
--- the registers of the caller after an attempt that ends so
+-- the registers of the caller after an attempt with this end
 abbrev pub regs_after : IoEnd → Regs → Regs
 regs_after (answers regs) before = regs
 regs_after (fails number) before = before
@@ -76,7 +76,7 @@ caller_of inner p = record { process = record { 0 = p }; regs = regs_at inner p;
 abbrev pub with_stored : Inner → ℕ → IoEffect → Inner
 with_stored inner p effect = with_memory inner (stored inner.memory p effect.at effect.bytes)
 
--- what the call comes to
+-- the result of the call
 abbrev pub result_by : IoEnd → Inner → ℕ → IoEffect → CallResult
 result_by (answers regs) inner p effect = CallResult.done (with_regs_of (with_stored inner p effect) p regs)
 result_by (fails number) inner p effect = CallResult.refused number
@@ -89,8 +89,8 @@ result_of inner p effect = result_by effect.end inner p effect
 abbrev pub step_of : IoCall → Inner → ℕ → Io → ℕ → List TerminalState → IoStep
 step_of call inner p io drives terms = io_step call (caller_of inner p) io drives (length terms)
 
--- an attempt of a call by a process on a machine with so many drives: what it comes to, and the state and the terminals
--- then
+-- an attempt of a call by a process on a machine with `drives` drives: its result, and the state and the terminals
+-- after it
 pub record IoAttempts (call : IoCall) (inner : Inner) (io : Io) (drives p : ℕ) (result : CallResult) (new : Io)
     (before after : List TerminalState) : Type 0 where
   pub effect : IoEffect

@@ -1,5 +1,5 @@
 -- I$Close: closes a path number (System Programmer's Manual, I$Close).
--- Takes the number of the path in A, which is free then. The path goes with its last number, and a pipe with its path.
+-- Takes the number of the path in A, and frees it. A path ends with its last number, and a pipe with its path.
 -- Errors: E$BPNum.
 use Rattle.std.specs.Prelude.{ℕ, Option, Some, None}
 use Rattle.os9_base.specs.declared.errors.TheConstants.{E_BPNUM}
@@ -11,14 +11,14 @@ use Rattle.io_model.specs.declared.path.Target.TheVariants.{File, Folder, Term, 
 use Rattle.io_rules.specs.Io.{Io, with_paths, with_pipes}
 use Rattle.io_rules.specs.Step.{Caller, IoStep, needs, done}
 
--- the state without what a path was opened on: a pipe goes
+-- the state without the target of a path: a pipe ends
 abbrev pub without_target : Io → Target → Io
 without_target io (File drive sector) = io
 without_target io (Folder drive sector) = io
 without_target io (Term terminal) = io
 without_target io (Pipe pipe) = with_pipes io (without_pipe io.pipes pipe)
 
--- the state without the path that went, if one did
+-- the state without the ended path, if one ended
 abbrev pub without_path : Io → Option Desc → Io
 without_path io None = io
 without_path io (Some desc) = without_target io desc.target

@@ -17,7 +17,7 @@ io_codes =
 abbrev pub io_call_of : ℕ → Option IoCall
 io_call_of code = option_map (λ coded. coded.1) (find (λ coded. coded.0 == code) io_codes)
 
--- the way in which a call moves bytes, if it moves any
+-- the direction in which a call moves bytes, if it moves any
 abbrev pub direction_of_call : IoCall → Option Direction
 direction_of_call Call.Dup = None
 direction_of_call Call.Create = None
@@ -31,6 +31,6 @@ direction_of_call Call.GetStt = None
 direction_of_call Call.SetStt = None
 direction_of_call Call.PErr = Some Writing
 
--- the way in which the call of a code moves bytes, if it moves any
+-- the direction in which the call of a code moves bytes, if it moves any
 abbrev pub direction_of : ℕ → Option Direction
 direction_of code = option_and_then direction_of_call (io_call_of code)

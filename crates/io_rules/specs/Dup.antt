@@ -1,5 +1,5 @@
 -- I$Dup: gives a path another number (System Programmer's Manual, I$Dup).
--- Takes the number of the path in A; answers its new number, which is the least free one, in A.
+-- Takes the number of the path in A; returns its new number, the least free one, in A.
 -- Errors: E$BPNum, E$PthFul.
 use Rattle.os9_base.specs.declared.errors.TheConstants.{E_BPNUM, E_PTHFUL}
 use Rattle.io_model.specs.Path.{slot_of, free_number, paths_after_dup}

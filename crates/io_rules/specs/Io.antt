@@ -14,9 +14,9 @@ pub record Io : Type 0 where
   pub paths : PathTable
   pub terminals : List Terminal  -- TERM, T1, T2, T3
   pub pipes : List (Option (List ℕ))  -- by number, from 1 to 16: the bytes that each holds
-  pub calls : List (Option Kept)  -- by process, from 0 to 32: its call that waits on a terminal or a pipe
+  pub calls : List (Option Kept)  -- by process, from 0 to 32: its pending call on a terminal or a pipe
 
--- a descriptor of a new path: it begins at 0, and its requests do not wait
+-- the descriptor of a new path: its position is 0, and its requests do not wait
 abbrev pub new_desc : Target → ℕ → Desc
 new_desc target mode = record { target = target; mode = mode; at = 0; ticks = 0 }
 
@@ -41,11 +41,11 @@ terminal_at io n = slice_index_or io.terminals n new_terminal
 abbrev pub pipe_bytes : Io → ℕ → List ℕ
 pipe_bytes io n = held_bytes io.pipes n
 
--- the call of a process that waits on a terminal or a pipe, if it has one
+-- the pending call of a process on a terminal or a pipe, if it has one
 abbrev pub kept_at : Io → ℕ → Option Kept
 kept_at io p = kept_of io.calls p
 
--- the state with other paths, another terminal, other bytes of a pipe, other pipes or another call that waits
+-- the state with other paths, another terminal, other bytes of a pipe, other pipes or another pending call
 abbrev pub with_paths : Io → PathTable → Io
 with_paths io paths = record io { paths = paths }
 
@@ -72,6 +72,6 @@ open_path io p n =
     option_and_then (λ s. option_map (λ desc. record { path = s; desc = desc }) (desc_of io.paths s.0))
     (slot_of io.paths p n)
 
--- what a system path was opened on, if it is there
+-- the target of a system path, if the path exists
 abbrev pub target_of : Io → SysPath → Option Target
 target_of io s = option_map (λ desc. desc.target) (desc_of io.paths s.0)

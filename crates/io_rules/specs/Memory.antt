@@ -8,7 +8,7 @@ use Rattle.io_rules.specs.Step.{Caller, IoStep, refused, comes, reads, writes}
 use Rattle.io_rules.specs.Terminals.{request_of}
 
 -- A byte that an attempt put on a terminal found no memory: its terminal is as the read or the write left it, and no
--- other one has changed.
+-- other terminal has changed.
 abbrev pub WantsMemory : IoStep → Caller → Io → List TerminalState → List TerminalState → Type 0
 WantsMemory (refused number) caller io before after = ⊥
 WantsMemory (comes effect) caller io before after = ⊥

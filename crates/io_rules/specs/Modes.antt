@@ -2,7 +2,7 @@
 use Rattle.std.specs.Prelude.{ℕ, ◌+◌, ◌==◌, not, Bool, bit_and}
 use Rattle.io_rules.specs.declared.modes.TheConstants.{MODE_READ, MODE_WRITE, MODE_EXECUTE}
 
--- a mode has one of these bits at least
+-- a mode has at least one of these bits
 abbrev pub has_bit_of : ℕ → ℕ → Bool
 has_bit_of bits mode = not (bit_and mode bits == 0)
 

@@ -1,5 +1,5 @@
 -- I$Open and I$Create: open a path (System Programmer's Manual, I$Open and I$Create).
--- Take the mode in A and the path list at X; answer the number of the path in A, and X past the list. I$Create of a
+-- Take the mode in A and the path list at X; return the number of the path in A, and X past the list. I$Create of a
 -- terminal or a pipe opens it.
 -- Errors: E$BPAddr, E$BMode, E$BPNam, E$MNF, E$PNNF, E$PthFul.
 use Rattle.std.specs.Prelude.{ℕ, ◌%◌, not, Bool, Result, Ok, Err}
@@ -17,7 +17,7 @@ use Rattle.io_rules.specs.Modes.{is_mode, can_write}
 use Rattle.io_rules.specs.PathList.{PathList, path_list}
 use Rattle.io_rules.specs.Step.{Caller, IoStep, refused, needs, refuses, done}
 
--- the registers after a path with this number was opened by this list; behind FFFF X is 0
+-- the registers after a path with this number was opened by this list; a list that ends at FFFF sets X to 0
 abbrev pub opened_regs : Regs → PathList → ℕ → Regs
 opened_regs regs list number = record regs { a = number; x = list.next % 65536 }
 
@@ -28,7 +28,7 @@ begins caller io list desc =
     (λ number. done (opened_regs caller.regs list number)
     (with_paths io (paths_after_begin io.paths caller.process.0 desc)))
 
--- the process opens what its path list leads to
+-- the process opens the target of its path list
 abbrev pub opens_lead : Caller → Io → PathList → Lead → IoStep
 opens_lead caller io list (to_terminal terminal) =
     begins caller io list (new_desc (Term terminal) caller.regs.a)
@@ -38,13 +38,14 @@ opens_lead caller io list to_pipe =
     (new_desc (Pipe pipe) caller.regs.a))
 opens_lead caller io list (nowhere number) = refused number
 
--- the call goes on with the path list that was read, or is refused; a list that breaks off comes after the mode
+-- the call goes on with the path list that was read, or is refused; without a name it is refused after the mode is
+-- tested
 abbrev pub reads_list : Result PathList NameFault → Bool → (PathList → IoStep) → IoStep
 reads_list (Ok list) is_allowed next = refuses (not is_allowed) E_BMODE (next list)
 reads_list (Err Unreadable) is_allowed next = refused E_BPADDR
 reads_list (Err NoName) is_allowed next = refuses (not is_allowed) E_BMODE (refused E_BPNAM)
 
--- an attempt on a machine with so many drives and terminals
+-- an attempt on a machine with `drives` drives and `terms` terminals
 abbrev pub opens : Search → Bool → Caller → Io → ℕ → ℕ → IoStep
 opens search is_allowed caller io drives terms =
     reads_list (path_list caller.cells caller.regs.x) is_allowed

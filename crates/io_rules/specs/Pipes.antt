@@ -1,4 +1,4 @@
--- Attempts on a pipe (Level Two manual, "Pipes"; how much a pipe holds is this project's own).
+-- Attempts on a pipe (Level Two manual, "Pipes"; the size of a pipe is this project's own).
 use Rattle.std.specs.Prelude.{ℕ, ◌+◌, ◌==◌, ◌||◌, Bool, List, length, drop, if◌then◌else◌}
 use Rattle.os9_base.specs.declared.errors.TheConstants.{E_EOF, E_WRITE}
 use Rattle.os9_base.specs.declared.registers.Regs.{Regs}
@@ -11,18 +11,18 @@ use Rattle.io_model.specs.declared.pipe.PipeAns.TheVariants.{Done, Wait, End, No
 use Rattle.io_rules.specs.Io.{Io, pipe_bytes, with_pipe_bytes}
 use Rattle.io_rules.specs.Step.{Caller, IoEnd, answers, fails, keeps, IoEffect, leaves, stores}
 
--- the registers of the caller where this count is answered
+-- the registers of the caller if this count is returned
 abbrev pub count_regs : Caller → ℕ → Regs
 count_regs caller count = record caller.regs { y = count }
 
--- the state where bytes were taken out of a pipe, or put into it, as an attempt answers
+-- the state after bytes were taken out of a pipe, or put into it, by an attempt's answer
 abbrev pub after_taking : Io → ℕ → PipeAns → Io
 after_taking io pipe answer = with_pipe_bytes io pipe (left_by answer (pipe_bytes io pipe))
 
 abbrev pub after_adding : Io → ℕ → PipeAns → List ℕ → Io
 after_adding io pipe answer bytes = with_pipe_bytes io pipe (added_to answer bytes (pipe_bytes io pipe))
 
--- I$Read: it is done with what is there
+-- I$Read: it is done with the bytes that are there
 
 -- how an attempt ends
 abbrev pub read_end : Caller → Kept → PipeAns → IoEnd
@@ -41,15 +41,15 @@ abbrev pub reads_pipe : Caller → Io → ℕ → Kept → Bool → IoEffect
 reads_pipe caller io pipe call alone =
     read_leaves caller io pipe call (read_answer (pipe_bytes io pipe) alone call.count)
 
--- I$ReadLn: it goes on until a carriage return, or until all bytes that it asks for were moved; a process that is alone
--- is answered what was moved
+-- I$ReadLn: it goes on until a carriage return, or until all bytes that it asks for were moved; if the process is
+-- alone, it returns what was moved
 
--- how a line read ends that took these bytes, after which the call stands so
+-- how a line read that took these bytes ends; `call` is the call after them
 abbrev pub line_end : Caller → Bool → Kept → List ℕ → IoEnd
 line_end caller alone call taken =
     if has_return taken || (is_complete call || alone) then answers (count_regs caller call.moved) else keeps call
 
--- how a line read ends that finds the pipe empty and the process alone
+-- how a line read ends if it finds the pipe empty and the process alone
 abbrev pub line_ended : Caller → Kept → IoEnd
 line_ended caller call = if call.moved == 0 then fails E_EOF else answers (count_regs caller call.moved)
 
@@ -60,7 +60,7 @@ read_line_end caller alone call taken Wait = keeps call
 read_line_end caller alone call taken End = line_ended caller call
 read_line_end caller alone call taken NoReader = fails E_WRITE
 
--- what an attempt leaves, by its answer: it stores behind what was moved before
+-- what an attempt leaves, by its answer: it stores after the bytes that were moved before
 abbrev pub read_line_leaves : Caller → Io → ℕ → Kept → Bool → PipeAns → IoEffect
 read_line_leaves caller io pipe call alone answer =
     stores (caller.regs.x + call.moved) (bytes_moved answer (pipe_bytes io pipe))
@@ -71,9 +71,9 @@ abbrev pub reads_pipe_line : Caller → Io → ℕ → Kept → Bool → IoEffec
 reads_pipe_line caller io pipe call alone =
     read_line_leaves caller io pipe call alone (read_line_answer (pipe_bytes io pipe) alone (count_left call))
 
--- writes: they go on until all their bytes were moved; a process that is alone with a full pipe is refused
+-- writes: they go on until all their bytes were moved; if the process is alone and the pipe is full, it is refused
 
--- how a write ends that moved bytes, after which the call stands so
+-- how a write that moved bytes ends; `call` is the call after them
 abbrev pub moved_end : Bool → Kept → Regs → IoEnd
 moved_end alone call regs =
     if is_complete call then answers regs else (if alone then fails E_WRITE else keeps call)
@@ -90,7 +90,7 @@ abbrev pub write_leaves : Io → ℕ → Kept → Bool → List ℕ → Regs →
 write_leaves io pipe call alone bytes regs answer =
     leaves (write_end alone call regs answer) (after_adding io pipe answer bytes)
 
--- an attempt to write these bytes, which are what is left of those that the call moves
+-- an attempt to write these bytes, the remaining bytes of the call
 abbrev pub writes_rest : Io → ℕ → Kept → Bool → List ℕ → Regs → IoEffect
 writes_rest io pipe call alone bytes regs =
     write_leaves io pipe call alone bytes regs (write_answer (pipe_bytes io pipe) alone (length bytes))

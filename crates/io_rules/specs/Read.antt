@@ -1,6 +1,6 @@
 -- I$Read and I$ReadLn: read bytes, and a line (System Programmer's Manual, I$Read and I$ReadLn).
--- Take the path in A, the address of the buffer in X and its most bytes in Y; answer the count in Y.
--- Errors: E$BPAddr, E$BPNum, E$BMode, E$EOF; of a terminal that fails E$Write.
+-- Take the path in A, the address of the buffer in X and the maximum count of bytes in Y; return the count in Y.
+-- Errors: E$BPAddr, E$BPNum, E$BMode, E$EOF; E$Write if a terminal fails.
 use Rattle.std.specs.Prelude.{ℕ, is_none}
 use Rattle.os9_base.specs.declared.calls.TheConstants.{I_READ, I_READLN}
 use Rattle.os9_base.specs.declared.errors.TheConstants.{E_BPADDR, E_UNKSVC}
@@ -25,7 +25,7 @@ pipe_read Bytes caller io pipe call =
 pipe_read WholeLine caller io pipe call =
     reads_pipe_line caller io pipe call (is_alone io caller.process.0 call.path.0 Reading)
 
--- an attempt on what the path was opened on; no path is opened on a file or a directory
+-- an attempt on the target of the path; no path is opened on a file or a directory
 abbrev pub reads_target : ReadKind → Caller → Io → Kept → Target → IoStep
 reads_target kind caller io call (File drive sector) = refused E_UNKSVC
 reads_target kind caller io call (Folder drive sector) = refused E_UNKSVC
@@ -33,7 +33,7 @@ reads_target kind caller io call (Term terminal) =
     reads (record { terminal = terminal; kind = kind; call = call })
 reads_target kind caller io call (Pipe pipe) = comes (pipe_read kind caller io pipe call)
 
--- an attempt of a read of this kind and code: its whole buffer must be there
+-- an attempt of a read of this kind and code: its whole buffer must be in named slots
 abbrev pub reads_path : ReadKind → ℕ → Caller → Io → IoStep
 reads_path kind code caller io =
     refuses (is_none (user_bytes caller.cells caller.regs.x caller.regs.y)) E_BPADDR

@@ -1,6 +1,6 @@
 -- I$GetStt and I$SetStt: ask for the status of a path, and set it (System Programmer's Manual, I$GetStt and I$SetStt).
--- Take the path in A and the code in B. SS.Opt stores 32 bytes at X, SS.Ready answers in B how many bytes may be read
--- at once, SS.EOF answers B 0 where the path is not at its end.
+-- Take the path in A and the code in B. SS.Opt stores 32 bytes at X, SS.Ready returns in B the number of bytes that may
+-- be read at once, SS.EOF returns 0 in B if the path is not at its end.
 -- Errors: E$BPNum, E$UnkSvc, E$BPAddr, E$NotRdy.
 use Rattle.std.specs.Prelude.{ℕ, ◌-◌, ◌==◌, is_none, min, List, ◌∷◌, length, replicate, if◌then◌else◌}
 use Rattle.os9_base.specs.declared.errors.TheConstants.{E_BPNUM, E_BPADDR, E_UNKSVC, E_NOTRDY}
@@ -11,7 +11,7 @@ use Rattle.io_rules.specs.Io.{Io, open_path, terminal_at, pipe_bytes}
 use Rattle.io_rules.specs.Step.{Caller, IoStep, refused, comes, needs, refuses, done, answers, stores}
 use Rattle.io_rules.specs.declared.status.TheConstants.{SS_OPT, SS_READY, SS_EOF, OPTION_BYTES}
 
--- the first byte of the options of a path: what it was opened on
+-- the first byte of the options of a path: its kind of target
 abbrev pub option_kind : Target → ℕ
 option_kind (File drive sector) = 1
 option_kind (Folder drive sector) = 1
@@ -22,7 +22,7 @@ option_kind (Pipe pipe) = 2
 abbrev pub options : Target → List ℕ
 options target = option_kind target ∷ replicate (OPTION_BYTES - 1) 0
 
--- how many bytes a terminal or a pipe has for a read
+-- the number of bytes that a terminal or a pipe has for a read
 abbrev pub ready_count : Io → Target → ℕ
 ready_count io (File drive sector) = 0
 ready_count io (Folder drive sector) = 0

@@ -1,4 +1,4 @@
--- What an attempt of a call on a path comes to.
+-- The result of an attempt of a call on a path.
 use Rattle.std.specs.Prelude.{ℕ, Bool, true, false, Option, Some, None, List, []}
 use Rattle.os9_base.specs.Cells.{Cells}
 use Rattle.os9_base.specs.declared.registers.Pid.{Pid}
@@ -7,7 +7,7 @@ use Rattle.io_model.specs.declared.kept.Kept.{Kept}
 use Rattle.io_model.specs.declared.terminal.ReadKind.{ReadKind}
 use Rattle.io_rules.specs.Io.{Io}
 
--- the process that calls: its registers, and the bytes that it sees
+-- the calling process: its registers, and its cells
 pub record Caller : Type 0 where
   pub process : Pid
   pub regs : Regs
@@ -22,7 +22,7 @@ pub data IoEnd : Type 0 where
   -- it waits, and this is kept of it
   keeps : Kept → IoEnd
 
--- what an attempt leaves: how it ends, the bytes that it stores from an address on, and the state but for what is kept
+-- what an attempt leaves: how it ends, the bytes that it stores from an address on, and the state except what is kept
 -- of the call
 pub record IoEffect : Type 0 where
   pub end : IoEnd
@@ -30,7 +30,7 @@ pub record IoEffect : Type 0 where
   pub bytes : List ℕ
   pub io : Io
 
--- a read of a terminal: nothing of it was moved before
+-- a read of a terminal: no bytes of it were moved before
 pub record TerminalRead : Type 0 where
   pub terminal : ℕ
   pub kind : ReadKind
@@ -40,21 +40,21 @@ pub record TerminalRead : Type 0 where
 pub record TerminalWrite : Type 0 where
   pub terminal : ℕ
   pub put : List ℕ  -- the bytes that are put
-  pub count : ℕ  -- the count that the terminal answers
-  pub regs : Regs  -- the registers of the caller where it is done
+  pub count : ℕ  -- the count that the terminal returns
+  pub regs : Regs  -- the registers of the caller if it is done
 
 -- what an attempt does
 pub data IoStep : Type 0 where
   -- it is refused with this number, and changes nothing
   refused : ℕ → IoStep
-  -- it comes to this, and reaches no device
+  -- it has this effect, and reaches no device
   comes : IoEffect → IoStep
   -- it reads a terminal
   reads : TerminalRead → IoStep
   -- it writes to a terminal
   writes : TerminalWrite → IoStep
 
--- the call goes on with what there is, or is refused with this number if there is nothing
+-- the call goes on with this value, or is refused with this number if there is none
 abbrev pub needs : {A : Type 0} → Option A → ℕ → (A → IoStep) → IoStep
 needs None number next = refused number
 needs (Some a) number next = next a
@@ -64,11 +64,11 @@ abbrev pub refuses : Bool → ℕ → IoStep → IoStep
 refuses true number next = refused number
 refuses false number next = next
 
--- an attempt that stores nothing, and ends so
+-- an attempt that stores nothing, and has this end
 abbrev pub leaves : IoEnd → Io → IoEffect
 leaves end io = record { end = end; at = 0; bytes = []; io = io }
 
--- an attempt that stores these bytes from an address on, and ends so
+-- an attempt that stores these bytes from an address on, and has this end
 abbrev pub stores : ℕ → List ℕ → IoEnd → Io → IoEffect
 stores at bytes end io = record { end = end; at = at; bytes = bytes; io = io }
 

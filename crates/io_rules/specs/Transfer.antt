@@ -8,7 +8,7 @@ use Rattle.io_model.specs.declared.kept.Kept.{Kept}
 use Rattle.io_rules.specs.Io.{Io, OpenPath, open_path, kept_at}
 use Rattle.io_rules.specs.Step.{Caller, IoStep, needs, refuses, done}
 
--- the call goes on with the path of a number, or is refused where it names none or its mode does not allow the call
+-- the call goes on with the path of a number, or is refused if it names none or its mode does not allow the call
 abbrev pub on_path : Caller → Io → ℕ → (ℕ → Bool) → (OpenPath → IoStep) → IoStep
 on_path caller io number is_allowed next =
     needs (open_path io caller.process.0 number) E_BPNUM
@@ -22,7 +22,7 @@ unless_nothing caller io next = if caller.regs.y == 0 then done caller.regs io e
 abbrev pub first_call : ℕ → OpenPath → ℕ → Kept
 first_call code opened count = record { code = code; path = opened.path; moved = 0; count = count }
 
--- the call as an attempt finds it: what is kept of it, or at the first attempt the call for this code, path and count
+-- the call as an attempt finds it: the kept call, or at the first attempt the call for this code, path and count
 abbrev pub call_now : Caller → Io → ℕ → OpenPath → ℕ → Kept
 call_now caller io code opened count = unwrap_or (kept_at io caller.process.0) (first_call code opened count)
 
@@ -31,8 +31,8 @@ line_with rest at None = None
 line_with rest at (Some byte) =
     if byte == RETURN then Some (byte ∷ []) else option_map (λ line. byte ∷ line) (rest (at + 1))
 
--- the bytes from an address on, up to and with the first carriage return, but at most so many; nothing if one of them
--- is in no named slot or past FFFF
+-- the bytes from an address on, up to and with the first carriage return, at most this count; None if one of them is in
+-- no named slot or past FFFF
 abbrev pub line_at : Cells → ℕ → ℕ → Option (List ℕ)
 line_at cells at zero = Some []
 line_at cells at (suc most) = line_with (λ next. line_at cells next most) at (user_cell cells at)

@@ -1,4 +1,4 @@
--- Calls that wait on a terminal or a pipe: when they may go on, what they wait for, and how they are broken off (Level
+-- Pending calls on a terminal or a pipe: when they may go on, what they wait for, and how they are broken off (Level
 -- Two manual, process scheduling; System Programmer's Manual, F$Icpt).
 use Rattle.std.specs.Prelude.{ℕ, ◌==◌, ◌&&◌, ◌||◌, not, Bool, false, Option, Some, None, option_and_then, length, if◌then◌else◌}
 use Rattle.std.specs.Option.{option_map_or}
@@ -20,7 +20,7 @@ use Rattle.io_rules.specs.declared.io_call.Direction.TheVariants.{Reading, Writi
 abbrev pub pid : ℕ → Pid
 pid p = record { 0 = p }
 
--- what the call of a process waits on, if one of it waits
+-- the target of a process's pending call, if it has one
 abbrev pub wait_target : Io → ℕ → Option Target
 wait_target io p = option_and_then (λ kept. target_of io kept.path) (kept_at io p)
 
@@ -30,7 +30,7 @@ wait_target io p = option_and_then (λ kept. target_of io kept.path) (kept_at io
 abbrev pub may_read_terminal : ℕ → Terminal → Bool
 may_read_terminal p t = not (length t.ahead == 0) && not (is_taken (pid p) t)
 
--- a pipe has bytes to read, or room for more
+-- a pipe has bytes to read, or room to write
 abbrev pub can_move : Io → ℕ → Option Direction → Bool
 can_move io pipe None = false
 can_move io pipe (Some Reading) = not (length (pipe_bytes io pipe) == 0)
@@ -40,7 +40,7 @@ can_move io pipe (Some Writing) = not (pipe_room (pipe_bytes io pipe) == 0)
 abbrev pub would_be_alone : Io → ℕ → Kept → Bool
 would_be_alone io p kept = option_map_or (is_alone io p kept.path.0) (direction_of kept.code) false
 
--- a call that waits on this may go on
+-- a pending call on this target may go on
 abbrev pub may_go_by : Io → ℕ → Kept → Option Target → Bool
 may_go_by io p kept None = false
 may_go_by io p kept (Some (File drive sector)) = false
@@ -48,26 +48,26 @@ may_go_by io p kept (Some (Folder drive sector)) = false
 may_go_by io p kept (Some (Term terminal)) = may_read_terminal p (terminal_at io terminal)
 may_go_by io p kept (Some (Pipe pipe)) = can_move io pipe (direction_of kept.code) || would_be_alone io p kept
 
--- the call of a process that waits on a terminal or a pipe may go on
+-- the pending call of a process on a terminal or a pipe may go on
 abbrev pub io_may_go : Io → ℕ → Bool
 io_may_go io p = option_map_or (λ kept. may_go_by io p kept (target_of io kept.path)) (kept_at io p) false
 
 -- What they wait for.
 
--- the cause of a wait on this
+-- the cause of a wait on this target
 abbrev pub cause_by : Target → Option Cause
 cause_by (File drive sector) = None
 cause_by (Folder drive sector) = None
 cause_by (Term terminal) = Some (Cause.Term terminal)
 cause_by (Pipe pipe) = Some (Cause.Pipe pipe)
 
--- what a process waits for, if a call of it waits on a terminal or a pipe
+-- what a process waits for, if it has a pending call on a terminal or a pipe
 abbrev pub io_waits_for : Io → ℕ → Option Cause
 io_waits_for io p = option_and_then cause_by (wait_target io p)
 
 -- How they are broken off.
 
--- the state without the unfinished read of a process of what it waits on
+-- the state without the unfinished read of a process, by the target on which it waits
 abbrev pub without_unfinished : Io → ℕ → Option Target → Io
 without_unfinished io p None = io
 without_unfinished io p (Some (File drive sector)) = io
@@ -75,11 +75,11 @@ without_unfinished io p (Some (Folder drive sector)) = io
 without_unfinished io p (Some (Term terminal)) = with_terminal io terminal (released (pid p) (terminal_at io terminal))
 without_unfinished io p (Some (Pipe pipe)) = io
 
--- the state after the call of a process was broken off, if one of it waits
+-- the state after the pending call of a process was broken off, if it has one
 abbrev pub io_interrupted : Io → ℕ → Io
 io_interrupted io p = with_call (without_unfinished io p (wait_target io p)) p None
 
--- the count that a call which is broken off answers: what a write or a line read of a pipe has moved
+-- the count that a broken-off call returns: the bytes that a write or a line read of a pipe has moved
 abbrev pub count_by : Kept → Option Target → Option ℕ
 count_by kept None = None
 count_by kept (Some (File drive sector)) = None
@@ -87,6 +87,6 @@ count_by kept (Some (Folder drive sector)) = None
 count_by kept (Some (Term terminal)) = None
 count_by kept (Some (Pipe pipe)) = if kept.code == I_READ then None else Some kept.moved
 
--- the count that the call of a process answers in Y where it is broken off, if it answers one
+-- the count in Y of the broken-off call of a process, if it returns one
 abbrev pub interrupted_count : Io → ℕ → Option ℕ
 interrupted_count io p = option_and_then (λ kept. count_by kept (target_of io kept.path)) (kept_at io p)

@@ -1,7 +1,7 @@
 -- I$Write, I$WritLn and F$PErr: write bytes, a line, and the number of an error (System Programmer's Manual, I$Write,
 -- I$WritLn and F$PErr).
--- I$Write and I$WritLn take the path in A, the address of the bytes in X and their count, or the most bytes of the
--- line, in Y; they answer the count in Y. F$PErr takes the number in B, and writes it as a line to standard error.
+-- I$Write and I$WritLn take the path in A, the address of the bytes in X and their count, or the maximum count of the
+-- line, in Y; they return the count in Y. F$PErr takes the number in B, and writes it as a line to standard error.
 -- Errors: E$BPAddr, E$BPNum, E$BMode, E$Write.
 use Rattle.std.specs.Prelude.{ℕ, ◌+◌, ◌/◌, ◌%◌, Option, Some, None, List, [], ◌∷◌, ◌++◌, codes, length}
 use Rattle.os9_base.specs.declared.calls.TheConstants.{I_WRITE, I_WRITLN, F_PERR}
@@ -22,13 +22,13 @@ use Rattle.io_rules.specs.Transfer.{on_path, unless_nothing, call_now, line_at}
 use Rattle.io_rules.specs.declared.io_call.Direction.TheVariants.{Writing}
 use Rattle.io_rules.specs.declared.modes.TheConstants.{STANDARD_ERROR}
 
--- a write: the bytes that the call moves, what a terminal puts of them, and the caller's registers where it is done
+-- a write: the bytes that the call moves, what a terminal puts of them, and the caller's registers if it is done
 pub record Sending : Type 0 where
   pub bytes : List ℕ
   pub put : List ℕ
   pub regs : Regs
 
--- an attempt on what the path was opened on; no path is opened on a file or a directory
+-- an attempt on the target of the path; no path is opened on a file or a directory
 abbrev pub writes_target : Sending → Caller → Io → Kept → Target → IoStep
 writes_target sending caller io call (File drive sector) = refused E_UNKSVC
 writes_target sending caller io call (Folder drive sector) = refused E_UNKSVC
@@ -37,12 +37,12 @@ writes_target sending caller io call (Term terminal) =
 writes_target sending caller io call (Pipe pipe) =
     comes (writes_pipe io pipe call (is_alone io caller.process.0 call.path.0 Writing) sending.bytes sending.regs)
 
--- an attempt of a write of this code on a path that it may write
+-- an attempt of a write of this code on a path that may be written
 abbrev pub sends_on : Sending → ℕ → Caller → Io → OpenPath → IoStep
 sends_on sending code caller io opened =
     writes_target sending caller io (call_now caller io code opened (length sending.bytes)) opened.desc.target
 
--- bytes as they are, and a line, behind whose carriage return a terminal puts a line feed; the count is answered
+-- bytes as they are, and a line, after whose carriage return a terminal puts a line feed; the count is returned
 abbrev pub sent_bytes : Caller → List ℕ → Sending
 sent_bytes caller bytes = record { bytes = bytes; put = bytes; regs = count_regs caller (length bytes) }
 
@@ -55,7 +55,7 @@ i_write caller io =
     (λ bytes. on_path caller io caller.regs.a can_write
     (λ opened. unless_nothing caller io (sends_on (sent_bytes caller bytes) I_WRITE caller io opened)))
 
--- the line that the call moves: a further attempt moves as many bytes as the first one found
+-- the line that the call moves: a further attempt moves the number of bytes that the first one found
 abbrev pub line_bytes : Caller → Option Kept → Option (List ℕ)
 line_bytes caller None = line_at caller.cells caller.regs.x caller.regs.y
 line_bytes caller (Some kept) = user_bytes caller.cells caller.regs.x kept.count
@@ -74,11 +74,11 @@ digit value = value + 48
 abbrev pub three_digits : ℕ → List ℕ
 three_digits number = digit (number / 100) ∷ digit (number / 10 % 10) ∷ digit (number % 10) ∷ []
 
--- the line of the number of an error
+-- the line that F$PErr writes for an error number
 abbrev pub error_line : ℕ → List ℕ
 error_line number = codes "ERROR #" ++ (three_digits number ++ (RETURN ∷ []))
 
--- the line of an error; the registers stay
+-- the line of an error; the registers do not change
 abbrev pub sent_error : Caller → Sending
 sent_error caller = record {
   bytes = error_line caller.regs.b;

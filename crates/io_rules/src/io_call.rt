@@ -33,7 +33,7 @@ pub enum IoCall {
     PErr,
 }
 
-/// The call on paths that has this code; None if it is no such call's.
+/// The call on paths that has this code; None if no such call has it.
 pub fn io_call(code: u8) -> Option<IoCall>
     ensures { result ≡ io_call_of code }
 {
@@ -53,7 +53,7 @@ pub fn io_call(code: u8) -> Option<IoCall>
     }
 }
 
-/// Which way a call moves bytes.
+/// The direction in which a call moves bytes.
 #[derive(Clone, Copy, Debug, PartialEq, Eq)]
 pub enum Direction {
     /// It reads them.
@@ -63,7 +63,7 @@ pub enum Direction {
 }
 
 impl IoCall {
-    /// The way in which the call moves bytes; None if it moves none.
+    /// The direction in which the call moves bytes; None if it moves none.
     pub fn direction(self) -> Option<Direction>
         ensures { result ≡ direction_of_call self }
     {

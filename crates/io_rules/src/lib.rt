@@ -1,4 +1,4 @@
-//! What each call on terminals and pipes answers and leaves: the definitions that the bodies of the
+//! What each call on terminals and pipes returns and leaves: the definitions that the bodies of the
 //! calls cite, and the codes of these calls.
 #![tactic(auto)]
 

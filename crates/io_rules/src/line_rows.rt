@@ -9,7 +9,7 @@ ghost use Rattle.io_rules.specs.Terminals.{WritesTerminal};
 ghost use Rattle.io_rules.specs.Write.{f_perr, i_write};
 ghost use Rattle.io_rules.specs.declared.io_call.IoCall.TheVariants as Call;
 
-/// F$PErr writes the number of an error, and is refused where standard error is closed.
+/// F$PErr writes the number of an error, and is refused if standard error is closed.
 pub fn errors_are_written()
     ensures line { f_perr (calling 2 (record zero_regs { b = E_PNNF }) []) first_io
         ≡ writes (record {

@@ -5,8 +5,8 @@ ghost use Rattle.io_rules.specs.PathList.{PathList, path_list};
 ghost use Rattle.io_rules.specs.Rows.{cells_with, opening, creating};
 ghost use Rattle.io_rules.specs.Step.{refused};
 
-/// A path list ends before the first byte that goes on no name, or behind a character with bit 7. A
-/// slash goes on only where a character of a name is behind it.
+/// A path list ends before the first byte that does not continue a name, or after a character with
+/// bit 7. A slash continues the list only if a character of a name follows it.
 pub fn path_lists_are_read()
     ensures device { path_list (cells_with (codes "/TERM" ++ 13 ∷ [])) 0
         ≡ Ok (record { device = Some (codes "TERM"); names = []; slash = false; next = 5 }) }
@@ -21,15 +21,15 @@ pub fn path_lists_are_read()
         }) }
 {}
 
-/// A list without a slash before its first name has no device. A slash that no name follows does not
-/// belong to it.
+/// A list without a slash before its first name has no device. A slash without a name after it does
+/// not belong to the list.
 pub fn relative_lists_are_read()
     ensures relative { path_list (cells_with (codes "..//")) 0
         ≡ Ok (record { device = None; names = codes ".." ∷ []; slash = true; next = 2 }) }
 {}
 
-/// Nothing is opened by a path list that breaks off, or whose device is not there; nothing is found
-/// without a directory.
+/// A path list that breaks off, or whose device does not exist, opens nothing. Without a directory
+/// nothing is found.
 pub fn path_lists_are_refused()
     ensures unreadable { opening 0 1 (codes "/TERM/") ≡ refused E_BPADDR }
     ensures no_byte { opening 0 0 [] ≡ refused E_BPADDR }
@@ -42,8 +42,8 @@ pub fn path_lists_are_refused()
     ensures no_directory { opening 0 1 (codes "File ") ≡ refused E_PNNF }
 {}
 
-/// Nothing is made without a mode that can write, at a root, or by the name of a directory itself or
-/// of the one above it; a terminal is opened.
+/// Nothing is made without a mode that can write, at a root, or by the name of a directory itself
+/// or of its parent. A terminal is opened.
 pub fn places_are_refused()
     ensures mode { creating 0 1 (codes "/TERM ") ≡ refused E_BMODE }
     ensures root { creating 1 2 (codes "/D0 ") ≡ refused E_BPNAM }

@@ -8,8 +8,8 @@ ghost use Rattle.io_rules.specs.Rows.{attempt, moving, ones, piped, filled, shar
 ghost use Rattle.io_rules.specs.Step.{answers, fails, keeps};
 ghost use Rattle.io_rules.specs.declared.io_call.IoCall.TheVariants as Call;
 
-/// A writer writes 300 bytes to a pipe that a reader holds too, and exits: its first attempt moves
-/// 256 of them and waits, and the reader is given 256, then 44, and then the end of the file.
+/// A writer writes 300 bytes to a pipe that a reader holds too, and exits. Its first attempt moves
+/// 256 of them and waits; the reader gets 256, then 44, and then the end of the file.
 pub fn bytes_go_through_a_pipe()
     ensures first { (writing 300 shared).end
         ≡ keeps (record { code = I_WRITE; path = record { 0 = 2 }; moved = 256; count = 300 }) }
@@ -20,8 +20,8 @@ pub fn bytes_go_through_a_pipe()
     ensures end_of_file { (reading 512 (io_ended rest_read 2)).end ≡ fails E_EOF }
 {}
 
-/// A process that alone holds a pipe reads it empty: the end of the file. It fills it, and writes
-/// one byte more: refused, and the bytes are still there.
+/// A process alone holds a pipe. It reads the empty pipe: the end of the file. It fills the pipe,
+/// and writes one more byte: the write is refused, and the bytes are still there.
 pub fn a_pipe_is_held_alone()
     ensures empty { (attempt Call.Read 2 (moving 1) (ones 1) piped).end ≡ fails E_EOF }
     ensures filled { (writing 256 piped).end ≡ answers (moving 256) }

@@ -4,11 +4,11 @@
 /// SS.Opt: the options of the path.
 pub const SS_OPT: u8 = 0x00;
 
-/// SS.Ready: how many bytes may be read at once.
+/// SS.Ready: the number of bytes that may be read at once.
 pub const SS_READY: u8 = 0x01;
 
 /// SS.EOF: whether the path is at its end.
 pub const SS_EOF: u8 = 0x06;
 
-/// How many bytes SS.Opt stores.
+/// The number of bytes that SS.Opt stores.
 pub const OPTION_BYTES: usize = 32;

@@ -1,4 +1,4 @@
--- What an attempt of a call on paths comes to, of the kernel's processes and its state of input and output.
+-- The result of an attempt of a call on paths for the kernel's processes and its state of input and output.
 use Rattle.std.specs.Prelude.{ℕ, List}
 use Rattle.os9_base.specs.declared.call.CallEnd.{CallEnd}
 use Rattle.os9_outer.specs.TerminalState.{TerminalState}
@@ -10,8 +10,8 @@ use Rattle.io_rules.specs.declared.io_call.IoCall.{IoCall}
 use Rattle.proc_state.specs.Tie.{Comes}
 use Rattle.proc_state.specs.declared.state.ProcState.{ProcState}
 
--- an attempt of a call by a process on a machine with so many drives: how it ends, and the processes, the state and the
--- terminals then; its process is not told yet
+-- an attempt of a call by a process on a machine with `drives` drives: its end, and the processes, the state and the
+-- terminals after it; the process does not have its result yet
 pub record Attempts (call : IoCall) (m : Inner) (io : Io) (drives p : ℕ) (end : CallEnd) (processes : ProcState)
     (new : Io) (before after : List TerminalState) : Type 0 where
   pub result : CallResult

@@ -13,18 +13,18 @@ IsOnDisk (Folder drive number) = ⊤
 IsOnDisk (Term terminal) = ⊥
 IsOnDisk (Pipe pipe) = ⊥
 
--- what a path was opened on is the file or directory of this number of a drive
+-- the target of a path is the file or directory of this number of a drive
 abbrev pub is_of_file : ℕ → ℕ → Target → Bool
 is_of_file drive number (File on file) = (drive == on) && (number == file)
 is_of_file drive number (Folder on file) = (drive == on) && (number == file)
 is_of_file drive number (Term terminal) = false
 is_of_file drive number (Pipe pipe) = false
 
--- a path, by its descriptor, is on it, and passes a test
+-- a path, by its descriptor, is on that file or directory, and passes a test
 abbrev pub is_path_on : ℕ → ℕ → (Desc → Bool) → Option Desc → Bool
 is_path_on drive number test None = false
 is_path_on drive number test (Some desc) = is_of_file drive number desc.target && test desc
 
--- some path on it passes a test
+-- some path on that file or directory passes a test
 abbrev pub some_path_on : Io → ℕ → ℕ → (Desc → Bool) → Bool
 some_path_on io drive number test = list_any (is_path_on drive number test) io.paths.descs

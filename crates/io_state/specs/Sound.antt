@@ -1,4 +1,4 @@
--- What holds of the state of input and output at all times.
+-- The invariant of the state of input and output.
 use Rattle.std.specs.Prelude.{◌≡◌, ℕ, ◌<◌, min, true, ⊤, Option, Some, None, IsSome, List, option_map, option_and_then, length}
 use Rattle.std.specs.Option.{option_map_or}
 use Rattle.io_model.specs.Kept.{kept_of}
@@ -17,17 +17,17 @@ use Rattle.io_rules.specs.declared.io_call.Direction.TheVariants as Way
 use Rattle.io_rules.specs.declared.io_call.IoCall.{IoCall}
 use Rattle.io_rules.specs.declared.io_call.IoCall.TheVariants as Call
 
--- what a system path was opened on, if it is there
+-- the target of a system path, if the path exists
 abbrev pub target_at : PathTable → ℕ → Option Target
 target_at paths s = option_map (λ desc. desc.target) (desc_of paths s)
 
--- each pipe that a path was opened on is there, and no other path was opened on it; each terminal is one of four
+-- each pipe with a path exists, and no other path is open on it; each terminal is one of four
 pub record AreTargets (io : Io) : Type 0 where
   pub pipes : (s n : ℕ) → target_at io.paths s ≡ Some (Pipe n) → IsPipe io.pipes n
   pub one_path : (s t n : ℕ) → target_at io.paths s ≡ Some (Pipe n) → target_at io.paths t ≡ Some (Pipe n) → s ≡ t
   pub terminals : (s n : ℕ) → target_at io.paths s ≡ Some (Term n) → n < 4
 
--- ---- calls that wait, and unfinished reads
+-- ---- pending calls, and unfinished reads
 
 -- how a call reads a terminal, if it reads
 abbrev pub read_kind_of : IoCall → Option ReadKind
@@ -47,7 +47,7 @@ read_kind_of Call.PErr = None
 abbrev pub read_kind : ℕ → Option ReadKind
 read_kind code = option_and_then read_kind_of (io_call_of code)
 
--- how many bytes a call asks a terminal for
+-- the number of bytes that a call asks a terminal for
 abbrev pub most_of : Kept → ℕ
 most_of call = min call.count TYPE_AHEAD
 
@@ -59,32 +59,32 @@ pub record MayWait (paths : PathTable) (p : ℕ) (call : Kept) : Type 0 where
   pub held : holds_path paths p call.path.0 ≡ true
   pub reads : (n : ℕ) → target_at paths call.path.0 ≡ Some (Term n) → direction_of call.code ≡ Some Way.Reading
 
--- a call reads a terminal so
+-- this call makes this read of a terminal
 pub record IsReadOf (paths : PathTable) (n : ℕ) (reading : Reading) (call : Kept) : Type 0 where
   pub on : target_at paths call.path.0 ≡ Some (Term n)
   pub kind : read_kind call.code ≡ Some reading.kind
   pub most : most_of call ≡ reading.most
 
--- the process of an unfinished read of a terminal waits in the call that reads so
+-- the process of an unfinished read of a terminal waits in the call that makes it
 pub record IsWaitedFor (paths : PathTable) (calls : List (Option Kept)) (n : ℕ) (reading : Reading) : Type 0 where
   pub call : Kept
   pub kept : kept_of calls reading.process.0 ≡ Some call
   pub read : IsReadOf paths n reading call
 
--- what holds of the calls that wait and of the unfinished reads
+-- the invariant of the pending calls and of the unfinished reads
 pub record AreWaits (io : Io) : Type 0 where
   pub calls : (p : ℕ) (call : Kept) → kept_at io p ≡ Some call → MayWait io.paths p call
   pub reads : (n : ℕ) (reading : Reading) → (terminal_at io n).reading ≡ Some reading
       → IsWaitedFor io.paths io.calls n reading
 
--- a call is no unfinished read: it writes, or its path is on no terminal
+-- a call is not an unfinished read: it writes, or its path is on no terminal
 abbrev pub IsNoRead : Io → Kept → Type 0
 IsNoRead io call =
     (n : ℕ) → target_at io.paths call.path.0 ≡ Some (Term n) → direction_of call.code ≡ Some Way.Reading → ⊥
 
 -- ---- the state
 
--- what holds of the state at all times
+-- the invariant of the state
 pub record IsIo (io : Io) : Type 0 where
   pub paths : ArePaths io.paths
   pub terminals : length io.terminals ≡ 4
@@ -92,7 +92,7 @@ pub record IsIo (io : Io) : Type 0 where
   pub targets : AreTargets io
   pub waits : AreWaits io
 
--- what a path is opened on is there: a pipe that lives, or one of the four terminals
+-- the target of a path exists: an open pipe, or one of the four terminals
 abbrev pub IsThere : Io → Target → Type 0
 IsThere io (File drive sector) = ⊤
 IsThere io (Folder drive sector) = ⊤
@@ -103,11 +103,11 @@ IsThere io (Pipe pipe) = IsPipe io.pipes pipe
 abbrev pub pipe_number : Io → ℕ → Option ℕ
 pipe_number io p = option_and_then (λ pipe. new_number io.paths p) (free_pipe io.pipes)
 
--- the state where a process opened a path on a new pipe of this number
+-- the state after a process opened a path on a new pipe of this number
 abbrev pub opened_on : Io → ℕ → ℕ → ℕ → Io
 opened_on io p mode pipe =
     with_paths (with_pipes io (pipes_after_begin io.pipes)) (paths_after_begin io.paths p (new_desc (Pipe pipe) mode))
 
--- the state where a process opened a path on a new pipe, if it could
+-- the state after a process opened a path on a new pipe, if it could
 abbrev pub pipe_opened : Io → ℕ → ℕ → Io
 pipe_opened io p mode = option_map_or (opened_on io p mode) (free_pipe io.pipes) io

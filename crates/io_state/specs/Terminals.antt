@@ -1,4 +1,4 @@
--- Attempts on the terminals, as the calls that wait take part in them.
+-- Attempts on the terminals, and the pending calls in them.
 use Rattle.std.specs.Prelude.{◌≡◌, ℕ, ◌<◌, ◌≤◌, Option, Some, None, IfSome, List, slice_index_or, slice_set}
 use Rattle.std.specs.declared.alloc.Global.{Global}
 use Rattle.std.specs.declared.dyn_box.DynBox.{DynBox}
@@ -14,7 +14,7 @@ use Rattle.io_model.specs.declared.terminal.Reading.{Reading}
 use Rattle.io_rules.specs.Io.{Io, kept_at, terminal_at, with_call, with_terminal}
 use Rattle.io_state.specs.Sound.{MayWait, target_at, read_kind}
 
--- what is kept of a call after an attempt that came to this answer
+-- what is kept of a call after an attempt with this answer
 abbrev pub kept_after : Progress → Kept → Option Kept
 kept_after (Done count) call = None
 kept_after Wait call = Some call
@@ -22,7 +22,7 @@ kept_after End call = None
 kept_after Fault call = None
 kept_after NoMemory call = None
 
--- how many bytes an attempt moved
+-- the number of bytes that an attempt moved
 abbrev pub count_of : Progress → ℕ
 count_of (Done count) = count
 count_of Wait = 0
@@ -30,15 +30,15 @@ count_of End = 0
 count_of Fault = 0
 count_of NoMemory = 0
 
--- a process may attempt a read of this terminal in this call: it may wait in it, and it is the one that is kept, where
--- one is
+-- a process may attempt a read of this terminal in this call: it may wait in it, and it is the kept call, if there is
+-- one
 pub record MayRead (io : Io) (p n : ℕ) (kind : ReadKind) (call : Kept) : Type 0 where
   pub may : MayWait io.paths p call
   pub on : target_at io.paths call.path.0 ≡ Some (Term n)
   pub kind_is : read_kind call.code ≡ Some kind
   pub same : IfSome (kept_at io p) (λ kept. kept ≡ call)
 
--- a terminal may be asked for a read: of 1 to 256 bytes, and of none but the call that its process began there
+-- a terminal may be asked for a read: of 1 to 256 bytes, and only in the call that its process began there
 pub record MayBeAsked (request : Reading) (terminal : Terminal) : Type 0 where
   pub some : 0 < request.most
   pub most : request.most ≤ 256
@@ -46,7 +46,7 @@ pub record MayBeAsked (request : Reading) (terminal : Terminal) : Type 0 where
 
 -- ---- what an attempt changes
 
--- the terminal of this number and its driver, which is in the box of this number, changed so together, and no other
+-- the terminal of this number and its driver, in the box of this number, changed together in this way, and no other
 -- driver changed; as `ChangesWithDriver ⟦<dyn CharDriver as CharDriver>⟧ n (Reads request result) self.old
 -- devices.old.terms.items self.new devices.new.terms.items`
 abbrev pub ChangesWithDriver : {Table : Type 0} {Driver : Table → Type 0} → ((table : Table) → Ghosts (Driver table))
@@ -60,6 +60,6 @@ ChangesWithDriver members n change terms drivers terms_after drivers_after =
 abbrev pub ChangesAlone : ℕ → List Terminal → List Terminal → Type 0
 ChangesAlone n before after = after ≡ slice_set before n (slice_index_or after n new_terminal)
 
--- in a call of a process this terminal changed, and this is kept of the call; all else is as it was
+-- in a call of a process this terminal changed, and this is kept of the call; all else is unchanged
 abbrev pub ChangesInCall : ℕ → ℕ → Option Kept → Io → Io → Type 0
 ChangesInCall n p kept before after = after ≡ with_call (with_terminal before n (terminal_at after n)) p kept

@@ -21,13 +21,13 @@ impl IoState {
         self.paths.next_number(p)
     }
 
-    /// Opens a path of a process on a file or a directory. It gets the least number of the process
-    /// that is free.
+    /// Opens a path of a process on a file or a directory. It gets the least free number of the
+    /// process.
     ///
     /// # Errors
     ///
-    /// `PathsFull` if the process's sixteen numbers or the 64 system paths are in use. Nothing changes
-    /// then.
+    /// `PathsFull` if the process's sixteen numbers or the 64 system paths are in use. A refused
+    /// call changes nothing.
     pub fn begin_on_disk(&mut self, p: Pid, target: Target, mode: u8) -> Result<u8, PathsFull>
         requires process { p.0 < 33 }
         requires disk { IsOnDisk target }
@@ -58,7 +58,8 @@ impl IoState {
             .any(|desc| is_path_on(drive, number, desc))
     }
 
-    /// Has some path on the file or directory of this number of a drive a mode with one of these bits?
+    /// Has some path on the file or directory of this number of a drive a mode with one of these
+    /// bits?
     pub fn is_on_path_of_mode(&self, drive: u8, number: u32, bits: u8) -> bool
         ensures { result
             ≡ some_path_on self.now drive number (λ desc. has_bit_of_lem bits desc.mode) }
@@ -87,7 +88,7 @@ fn is_path_on(drive: u8, number: u32, desc: &Option<Desc>) -> bool
     }
 }
 
-/// Is it on it, and has its mode one of these bits?
+/// Is a path on this file or directory, and has its mode one of these bits?
 fn is_path_of_mode_on(drive: u8, number: u32, bits: u8, desc: &Option<Desc>) -> bool
     ensures { result
         ≡ is_path_on_lem drive number (λ desc. has_bit_of_lem bits desc.mode) desc.now }
@@ -98,7 +99,7 @@ fn is_path_of_mode_on(drive: u8, number: u32, bits: u8, desc: &Option<Desc>) -> 
     }
 }
 
-/// Is a path that was opened on this one on the file or directory of this number of a drive?
+/// Is this target the file or directory of this number of a drive?
 fn is_of_file(drive: u8, number: u32, target: Target) -> bool
     ensures { result ≡ is_of_file_lem drive number target }
 {

@@ -1,4 +1,4 @@
-//! Input and output: the paths, the terminals, the pipes and the calls that wait on them, as the
+//! Input and output: the paths, the terminals, the pipes and the pending calls on them, as the
 //! kernel keeps them.
 #![tactic(auto)]
 

@@ -1,4 +1,4 @@
-//! What processes that begin and end make of input and output.
+//! The beginning and the end of processes in the state of input and output.
 
 ghost use Rattle.std.specs.Prelude.{◌≡◌, ◌<◌, None};
 ghost use Rattle.io_model.specs.Path.{slot_of};
@@ -10,7 +10,7 @@ use io_model::path::PROCESS_PATHS;
 use os9_base::registers::Pid;
 
 impl IoState {
-    /// A new process is given images of its parent's standard paths (System Programmer's Manual,
+    /// Gives a new process images of its parent's standard paths (System Programmer's Manual,
     /// F$Fork). No call of it is kept.
     pub fn start(&mut self, parent: Pid, child: Pid)
         requires parent { parent.0 < 33 }
@@ -21,8 +21,8 @@ impl IoState {
         self.paths.inherit(parent, child);
     }
 
-    /// A process ends (System Programmer's Manual, F$Exit): its paths are closed, its unfinished reads
-    /// and its call that waits are dropped, and it is no terminal's last user.
+    /// Ends a process (System Programmer's Manual, F$Exit): its paths are closed, its unfinished
+    /// reads and its pending call are dropped, and no terminal has it as its last user.
     pub fn end(&mut self, p: Pid)
         requires { p.0 < 33 }
         ensures { self.new ≡ io_ended self.old p.0 }
@@ -31,7 +31,7 @@ impl IoState {
         self.close_all(p);
     }
 
-    /// Leaves no trace of a process on the terminals, and keeps no call of it.
+    /// Removes every trace of a process from the terminals, and keeps no call of it.
     fn forget(&mut self, p: Pid)
         requires { p.0 < 33 }
         ensures io { self.new ≡ with_call (without_user self.old p.0) p.0 None }
@@ -41,7 +41,7 @@ impl IoState {
         self.calls[p.0 as usize] = None;
     }
 
-    /// Closes the numbers of a process of which no call is kept.
+    /// Closes the numbers of a process without a kept call.
     fn close_all(&mut self, p: Pid)
         requires { kept_at self.old p.0 ≡ None }
         ensures { self.new ≡ closed_below self.old p.0 16 }
@@ -51,7 +51,7 @@ impl IoState {
         }
     }
 
-    /// Closes a number of it, if that names a path.
+    /// Closes a number of the process, if it names a path.
     fn close_if_open(&mut self, p: Pid, n: u8)
         requires { kept_at self.old p.0 ≡ None }
         ensures io { self.new ≡ closed_if_open self.old p.0 n (slot_of self.old.paths p.0 n) }

@@ -24,8 +24,8 @@ use std::marker::Model;
 /// Processes, by number from 0 to 32.
 const PROCESSES: usize = 33;
 
-/// The paths, the terminals, the pipes, and of each process its call that waits on one of them
-/// (Level Two manual, "I/O system").
+/// The paths, the terminals, the pipes, and each process's pending call on one of them (Level Two
+/// manual, "I/O system").
 #[derive(Drop)]
 pub struct IoState {
     pub(crate) paths: Paths,
@@ -77,7 +77,7 @@ impl IoState {
         Some((path, desc))
     }
 
-    /// How many bytes a terminal or a pipe that is there has for a read.
+    /// The number of bytes that an existing terminal or pipe has for a read.
     pub fn ready_count(&self, target: Target) -> u16
         requires { IsThere self.now target }
         ensures { result ≡ ready_count_lem self.now target }
@@ -89,12 +89,12 @@ impl IoState {
         }
     }
 
-    /// Opens a path of a process on a terminal. It gets the least number of the process that is free.
+    /// Opens a path of a process on a terminal. It gets the least free number of the process.
     ///
     /// # Errors
     ///
-    /// `PathsFull` if the process's sixteen numbers or the 64 system paths are in use. Nothing changes
-    /// then.
+    /// `PathsFull` if the process's sixteen numbers or the 64 system paths are in use. A refused
+    /// call changes nothing.
     pub fn begin_terminal(&mut self, p: Pid, terminal: u8, mode: u8) -> Result<u8, PathsFull>
         requires process { p.0 < 33 }
         requires terminal { terminal < 4 }
@@ -105,13 +105,13 @@ impl IoState {
         self.paths.begin(p, new_desc(Target::Term(terminal), mode))
     }
 
-    /// Makes a pipe, and opens a path of a process on it, which gets the least number of the process
-    /// that is free.
+    /// Makes a pipe, and opens a path of a process on it. The path gets the least free number of
+    /// the process.
     ///
     /// # Errors
     ///
-    /// `PathsFull` if the process's sixteen numbers, the 64 system paths or the sixteen pipes are in
-    /// use. Nothing changes then.
+    /// `PathsFull` if the process's sixteen numbers, the 64 system paths or the sixteen pipes are
+    /// in use. A refused call changes nothing.
     pub fn begin_pipe(&mut self, p: Pid, mode: u8) -> Result<u8, PathsFull>
         requires { p.0 < 33 }
         ensures number { result_ok result ≡ pipe_number self.old p.0 }
@@ -131,7 +131,7 @@ impl IoState {
     ///
     /// # Errors
     ///
-    /// `PathsFull` if the process's sixteen numbers are in use. Nothing changes then.
+    /// `PathsFull` if the process's sixteen numbers are in use. A refused call changes nothing.
     pub fn dup(&mut self, p: Pid, n: u8) -> Result<u8, PathsFull>
         requires { IsOpen self.old.paths p.0 n }
         ensures number { result_ok result ≡ free_number self.old.paths p.0 }
@@ -141,7 +141,7 @@ impl IoState {
         self.paths.dup(p, n)
     }
 
-    /// Closes a number of a process that waits in no call. The path goes with its last number, and a
+    /// Closes a number of a process that waits in no call. A path ends with its last number, and a
     /// pipe with its path.
     pub fn close(&mut self, p: Pid, n: u8)
         requires open { IsOpen self.old.paths p.0 n }
@@ -156,8 +156,8 @@ impl IoState {
         }
     }
 
-    /// Keeps a call of a process that waits, or none, in place of what was kept, which must be no read
-    /// of a terminal.
+    /// Keeps a pending call of a process, or none, in place of the kept one, which must not be a
+    /// read of a terminal.
     pub fn keep(&mut self, p: Pid, kept: Option<Kept>)
         requires process { p.0 < 33 }
         requires may { IfSome kept (MayWait self.old.paths p.0) }
@@ -183,7 +183,7 @@ fn first_paths(alloc: Global) -> Result<Paths, OutOfMemory>
     Ok(paths)
 }
 
-/// The descriptor of a new path: it begins at 0, and its requests do not wait.
+/// The descriptor of a new path: its position is 0, and its requests do not wait.
 pub fn new_desc(target: Target, mode: u8) -> Desc
     ensures { result ≡ new_desc_lem target mode }
 {

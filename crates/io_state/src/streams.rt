@@ -1,4 +1,4 @@
-//! Calls that wait, and the bytes of pipes.
+//! Pending calls, and the bytes of pipes.
 
 ghost use Rattle.std.specs.Prelude.{◌≡◌, ◌<◌, ◌≤◌, length, take};
 ghost use Rattle.io_model.specs.Pipe.{IsPipe, bytes_moved, moved_count, read_answer, read_line_answer, write_answer};
@@ -17,7 +17,7 @@ use os9_base::limits::PROCESS_PLACES;
 use os9_base::registers::Pid;
 
 impl IoState {
-    /// The call of a process that waits on a terminal or a pipe; None if none does.
+    /// The pending call of a process on a terminal or a pipe; None if there is none.
     pub fn kept(&self, p: Pid) -> Option<Kept>
         requires { p.0 < 33 }
         ensures kept { result ≡ kept_at self.now p.0 }
@@ -26,8 +26,8 @@ impl IoState {
         self.calls[p.0 as usize]
     }
 
-    /// Would a process that waits on a path in this direction be alone: does whoever else holds the
-    /// path wait on it in this direction too?
+    /// Would a process that waits on a path in this direction be alone: does every other process
+    /// with the path wait on it in this direction too?
     pub fn is_alone(&self, p: Pid, path: SysPath, direction: Direction) -> bool
         ensures { result ≡ is_alone_lem self.now p.0 path.0 direction }
     {
@@ -39,7 +39,7 @@ impl IoState {
         true
     }
 
-    /// Does a process other than `p` hold the path, and is it not itself in this wait on it?
+    /// Does a process `q` other than `p` hold the path, without being in this wait on it?
     fn is_outside(&self, p: Pid, path: SysPath, direction: Direction, q: Pid) -> bool
         requires { q.0 < 33 }
         ensures { result ≡ is_outside_lem self.now p.0 path.0 direction q.0 }
@@ -49,8 +49,8 @@ impl IoState {
             && !is_in_wait(path, direction, self.calls[q.0 as usize])
     }
 
-    /// An attempt of I$Read of at most so many bytes, at least one, of a pipe. What it moves stands at
-    /// the front of `into` then.
+    /// An attempt of I$Read of at most this many bytes, at least one, of a pipe. It moves them to
+    /// the front of `into`.
     pub fn read_pipe(
         &mut self,
         pipe: u8,
@@ -72,8 +72,8 @@ impl IoState {
         self.pipes.read(id, alone, &mut into[..room as usize])
     }
 
-    /// An attempt of I$ReadLn of at most so many bytes, at least one, of a pipe. What it moves stands
-    /// at the front of `into` then.
+    /// An attempt of I$ReadLn of at most this many bytes, at least one, of a pipe. It moves them to
+    /// the front of `into`.
     pub fn read_pipe_line(
         &mut self,
         pipe: u8,
@@ -108,7 +108,7 @@ impl IoState {
     }
 }
 
-/// Is a call that waits in this wait: does it move bytes in this direction, on this path?
+/// Is a pending call in this wait: does it move bytes in this direction, on this path?
 fn is_in_wait(path: SysPath, direction: Direction, kept: Option<Kept>) -> bool
     ensures { result ≡ is_in_wait_lem path.0 direction kept }
 {
@@ -129,7 +129,7 @@ fn is_direction(direction: Direction, other: Option<Direction>) -> bool
     )
 }
 
-/// The way in which the call of a code moves bytes; None if it moves none.
+/// The direction in which the call of a code moves bytes; None if it moves none.
 pub(crate) fn direction_of(code: u8) -> Option<Direction>
     ensures { result ≡ direction_of_lem code }
 {

@@ -16,9 +16,9 @@ use os9_base::registers::Pid;
 use os9_outer::terminal::CharDriver;
 
 impl IoState {
-    /// An attempt of a read of a terminal in this call (Level Two manual, SCF). It asks for as many
-    /// bytes as the call, but for 256 at most. What it moves stands at the front of `into` then. The
-    /// call is kept where it waits, and no call of the process is kept where the read is over.
+    /// An attempt of a read of a terminal in this call (Level Two manual, SCF). It asks for the
+    /// bytes of the call, but at most 256, and moves them to the front of `into`. If it waits, the
+    /// call is kept; if the read is over, no call of the process is kept.
     pub fn read_terminal(
         &mut self,
         p: Pid,
@@ -51,8 +51,8 @@ impl IoState {
         answer
     }
 
-    /// An attempt of a write of these bytes to a terminal (Level Two manual, SCF). It never waits, and
-    /// no call of the process is kept then.
+    /// An attempt of a write of these bytes to a terminal (Level Two manual, SCF). It never waits,
+    /// and no call of the process is kept after it.
     pub fn write_terminal(
         &mut self,
         p: Pid,
@@ -77,9 +77,9 @@ impl IoState {
         answer
     }
 
-    /// An attempt of a write of a line to a terminal, up to and with the first carriage return, and a
-    /// line feed behind it (Level Two manual, SCF). It never waits, and no call of the process is kept
-    /// then.
+    /// An attempt of a write of a line to a terminal, up to and with the first carriage return, and
+    /// a line feed after it (Level Two manual, SCF). It never waits, and no call of the process is
+    /// kept after it.
     pub fn write_terminal_line(
         &mut self,
         p: Pid,
@@ -104,8 +104,8 @@ impl IoState {
         answer
     }
 
-    /// The keys of a terminal that are due at a tick arrive (Level Two manual, SCF). The answer has the
-    /// signal that is to be sent to its last user.
+    /// The keys of a terminal that are due at a tick arrive (Level Two manual, SCF). The result has
+    /// the signal for its last user, which the caller sends.
     pub fn arrive(&mut self, terminal: u8, tick: u32, devices: &mut Devices) -> Arrival
         requires terminal { terminal < 4 }
         requires there { terminal < vec_len devices.old.terms }
@@ -119,8 +119,8 @@ impl IoState {
         self.terminals.arrive(terminal, tick, devices)
     }
 
-    /// The process that last attempted a read or a write of a terminal; None if there is none, or if
-    /// it has ended.
+    /// The process that last attempted a read or a write of a terminal; None if there is none, or
+    /// if it has ended.
     pub fn last_user(&self, terminal: u8) -> Option<Pid>
         requires { terminal < 4 }
         ensures { result ≡ (terminal_at self.now terminal).user }
@@ -129,7 +129,7 @@ impl IoState {
     }
 }
 
-/// What is kept of a call after an attempt that came to this answer.
+/// What is kept of a call after an attempt with this answer.
 fn kept_after(answer: Progress, call: Kept) -> Option<Kept>
     ensures { result ≡ kept_after_lem answer call }
 {

@@ -17,7 +17,7 @@ use std::alloc::Global;
 use std::marker::Model;
 use terminal_mgr::term::Term;
 
-/// How many terminals a machine has at most: TERM and T1 to T3.
+/// The maximum number of terminals of a machine: TERM and T1 to T3.
 const TERMINALS: usize = 4;
 
 /// TERM, T1, T2 and T3.
@@ -47,7 +47,7 @@ impl Terminals {
         })
     }
 
-    /// How many keys the type-ahead of a terminal holds.
+    /// The number of keys that the type-ahead of a terminal holds.
     pub fn waiting(&self, n: u8) -> u16
         requires { n < 4 }
         ensures { result ≡ length (slice_index_or self.now n new_terminal).ahead }
@@ -81,14 +81,14 @@ impl Terminals {
         self.terms[n as usize].release(p);
     }
 
-    /// Leaves no trace of a process on the terminals.
+    /// Removes every trace of a process from the terminals.
     pub fn forget(&mut self, p: Pid)
         ensures { self.new ≡ map (forgotten p) self.old }
     {
         forget(&mut self.terms, p);
     }
 
-    /// An attempt of a read of a terminal. What it moves stands at the front of `into` then.
+    /// An attempt of a read of a terminal. It moves the bytes to the front of `into`.
     pub fn read(
         &mut self,
         n: u8,
@@ -136,7 +136,7 @@ impl Terminals {
         )
     }
 
-    /// An attempt of a write of a line to a terminal, with a line feed behind its carriage return.
+    /// An attempt of a write of a line to a terminal, with a line feed after its carriage return.
     pub fn write_line(&mut self, n: u8, p: Pid, bytes: &[u8], devices: &mut Devices) -> Progress
         requires terminal { n < 4 }
         requires there { n < vec_len devices.old.terms }
@@ -195,7 +195,7 @@ fn read_in_box(
     }
 }
 
-/// An attempt of a write of bytes to it.
+/// An attempt of a write of bytes to the terminal.
 fn write_in_box(term: &mut Term, p: Pid, bytes: &[u8], driver: &mut Box<dyn CharDriver>) -> Progress
     requires { length bytes.now ≤ 65535 }
     ensures { Writes p bytes.now (length bytes.now) result term.old term.new
@@ -205,7 +205,7 @@ fn write_in_box(term: &mut Term, p: Pid, bytes: &[u8], driver: &mut Box<dyn Char
     term.write(p, bytes, &mut **driver)
 }
 
-/// An attempt of a write of a line to it.
+/// An attempt of a write of a line to the terminal.
 fn write_line_in_box(
     term: &mut Term,
     p: Pid,
@@ -220,7 +220,7 @@ fn write_line_in_box(
     term.write_line(p, bytes, &mut **driver)
 }
 
-/// Its keys that are due at a tick arrive.
+/// The terminal's keys that are due at a tick arrive.
 fn arrive_in_box(term: &mut Term, tick: u32, driver: &mut Box<dyn CharDriver>) -> Arrival
     ensures { Arrives tick term.old term.new
         (boxed_terminal_state ⟦<dyn CharDriver as CharDriver>⟧ driver.old)
@@ -229,7 +229,7 @@ fn arrive_in_box(term: &mut Term, tick: u32, driver: &mut Box<dyn CharDriver>) -
     term.arrive(tick, &mut **driver)
 }
 
-/// Is a read of another process unfinished, where this one's is, if any?
+/// Does another process than `p` have the unfinished read, if there is one?
 fn is_taken(p: Pid, reader: Option<Pid>) -> bool
     ensures { result ≡ option_map_or (λ other. not (is_process p other)) reader false }
 {
@@ -239,7 +239,7 @@ fn is_taken(p: Pid, reader: Option<Pid>) -> bool
     }
 }
 
-/// Leaves no trace of a process on these terminals.
+/// Removes every trace of a process from these terminals.
 fn forget(terms: &mut [Term], p: Pid)
     ensures { terms.new ≡ map (forgotten p) terms.old }
 {

@@ -1,4 +1,4 @@
-//! Calls that wait: when they may go on, what they wait for, and how they are broken off.
+//! Pending calls: when they may go on, what they wait for, and how they are broken off.
 
 ghost use Rattle.std.specs.Prelude.{◌≡◌, ◌<◌, ℕ, Some, IfSome, IsSome};
 ghost use Rattle.call_rules.specs.IoReady.{has_io};
@@ -21,7 +21,7 @@ use os9_base::registers::Pid;
 use os9_sched::Cause;
 
 impl IoState {
-    /// The processes whose calls that wait on a terminal or a pipe may go on.
+    /// The processes whose pending calls on a terminal or a pipe may go on.
     pub fn ready_set(&self) -> IoReady
         ensures { (p : ℕ) → p < 33 → has_io result p ≡ io_may_go self.now p }
     {
@@ -34,7 +34,7 @@ impl IoState {
         ready
     }
 
-    /// May the call of a process that waits on a terminal or a pipe go on?
+    /// May the pending call of a process on a terminal or a pipe go on?
     pub fn may_go(&self, p: Pid) -> bool
         requires { p.0 < 33 }
         ensures { result ≡ io_may_go self.now p.0 }
@@ -59,7 +59,7 @@ impl IoState {
         }
     }
 
-    /// Has a pipe bytes to read, or room for more?
+    /// Has a pipe bytes to read, or room to write?
     fn can_move(&self, pipe: u8, direction: Option<Direction>) -> bool
         requires { IsPipe self.now.pipes pipe }
         ensures { result ≡ can_move_lem self.now pipe direction }
@@ -82,7 +82,7 @@ impl IoState {
         }
     }
 
-    /// What a process waits for, if a call of it waits on a terminal or a pipe.
+    /// What a process waits for, if it has a pending call on a terminal or a pipe.
     pub fn waits_for(&self, p: Pid) -> Option<Cause>
         requires { p.0 < 33 }
         ensures { result ≡ io_waits_for self.now p.0 }
@@ -93,7 +93,7 @@ impl IoState {
         }
     }
 
-    /// What the call of a process waits on, if one of it waits.
+    /// The target of a process's pending call, if it has one.
     fn wait_target(&self, p: Pid) -> Option<Target>
         requires { p.0 < 33 }
         ensures target { result ≡ wait_target_lem self.now p.0 }
@@ -105,9 +105,9 @@ impl IoState {
         }
     }
 
-    /// The call of a process that waits is broken off, if one does: it is kept no longer, nor is its
-    /// unfinished read. The answer is the count in Y: what a write or a line read of a pipe has moved;
-    /// None for any other call (System Programmer's Manual, F$Icpt).
+    /// Breaks off the pending call of a process, if there is one: neither the call nor its
+    /// unfinished read is kept. Returns the count for Y: the bytes that a write or a line read of a
+    /// pipe has moved; None for any other call (System Programmer's Manual, F$Icpt).
     pub fn interrupt(&mut self, p: Pid) -> Option<u16>
         requires { p.0 < 33 }
         ensures count { result ≡ interrupted_count self.old p.0 }
@@ -118,7 +118,7 @@ impl IoState {
         count
     }
 
-    /// The count that the call of a process answers where it is broken off.
+    /// The count that the call of a process returns if it is broken off.
     fn moved_count(&self, p: Pid) -> Option<u16>
         requires { p.0 < 33 }
         ensures { result ≡ interrupted_count self.now p.0 }
@@ -129,7 +129,7 @@ impl IoState {
         }
     }
 
-    /// The call of a process is kept no longer, nor is its unfinished read.
+    /// Drops the call of a process, and its unfinished read.
     fn break_off(&mut self, p: Pid)
         requires { p.0 < 33 }
         ensures { self.new ≡ io_interrupted self.old p.0 }
@@ -140,7 +140,7 @@ impl IoState {
         }
     }
 
-    /// The same of a call that waits on this.
+    /// As `break_off`, for a pending call on this target.
     fn break_off_from(&mut self, p: Pid, target: Target)
         requires process { p.0 < 33 }
         requires on { wait_target_lem self.old p.0 ≡ Some target }
@@ -157,7 +157,7 @@ impl IoState {
     }
 }
 
-/// The cause of a wait on this.
+/// The cause of a wait on this target.
 fn cause(target: Target) -> Option<Cause>
     ensures { result ≡ cause_by target }
 {
@@ -168,7 +168,7 @@ fn cause(target: Target) -> Option<Cause>
     }
 }
 
-/// The count that a call which waits on this answers where it is broken off.
+/// The count that a pending call on this target returns if it is broken off.
 fn moved_on(call: Kept, target: Target) -> Option<u16>
     ensures { result ≡ count_by call (Some target) }
 {

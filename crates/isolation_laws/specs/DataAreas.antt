@@ -6,7 +6,7 @@ use Rattle.call_rules.specs.Program.{Program, parameters_at}
 abbrev pub area_bytes : Program → List ℕ
 area_bytes program = replicate (parameters_at program) 0 ++ program.parameters
 
--- an object of 8,192 bytes holds these bytes from a place on, and zeros behind their end
+-- an object of 8,192 bytes holds these bytes from a place on, and zeros after their end
 abbrev pub HoldsFrom : List ℕ → ℕ → List ℕ → Type 0
 HoldsFrom held place bytes =
     (length bytes ≤ 8192)

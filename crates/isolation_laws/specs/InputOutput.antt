@@ -1,5 +1,5 @@
--- What an event of a process leaves of the input and output of the others (Level Two manual, "I/O system"; System
--- Programmer's Manual, F$Fork).
+-- What an event of a process leaves unchanged of the input and output of the others (Level Two manual, "I/O system";
+-- System Programmer's Manual, F$Fork).
 use Rattle.std.specs.Prelude.{◌≡◌, ◌≢◌, ◌⊎◌, ℕ, true, Option, Some, List}
 use Rattle.os9_base.specs.Count.{Rose}
 use Rattle.os9_outer.specs.TerminalState.{ChangesOneTerminal}
@@ -35,11 +35,11 @@ pub record FailsInWrite (s : State) (p n : ℕ) (t : State) : Type 0 where
   pub writes : (code : ℕ) × (act_of s.inner p ≡ attempts code) × (direction_of code ≡ Some Writing)
   pub failed : ChangesOneTerminal (λ before now. Rose before.faults now.faults) n s.terms t.terms
 
--- the number of a path that a call of a process takes; the time is not asked for
+-- the path number of a call of a process; it does not depend on the time
 abbrev pub number_of_call : State → ℕ → PathCall → ℕ
 number_of_call s p call = number_in call (asker_of s.inner p s.clock.from)
 
--- a process attempts a call that moves the position of the path on a file which its number names: this path
+-- a process attempts a call that moves the position of a path on a file, by the number of this path
 pub record MovesPath (s : State) (p : ℕ) (opened : OpenPath) : Type 0 where
   pub call : PathCall
   pub attempted : AttemptsService s p (on_paths call)
@@ -48,8 +48,8 @@ pub record MovesPath (s : State) (p : ℕ) (opened : OpenPath) : Type 0 where
   pub named : open_file s.files p (number_of_call s p call) ≡ Some found
   pub same : found.opened ≡ opened
 
--- a path of another process stays: the same path, opened on the same with the same mode. Nothing of it changes but its
--- position on a file, by a call on the same path, which F$Fork and I$Dup give to several numbers
+-- a path of another process stays: the same path, opened on the same file or device with the same mode. Only its
+-- position on a file may change, by a call on the same path, which F$Fork and I$Dup give to several numbers
 pub record StaysOpen (s : State) (p : ℕ) (t : State) (q n : ℕ) (opened : OpenPath) : Type 0 where
   pub now : OpenPath
   pub is : open_path t.files.io q n ≡ Some now
@@ -57,17 +57,17 @@ pub record StaysOpen (s : State) (p : ℕ) (t : State) (q n : ℕ) (opened : Ope
   pub position : (now ≡ opened) ⊎ MovesPath s p opened
   pub device : IsDevice opened.desc.target → now ≡ opened
 
--- an event of a process leaves the input and output of the others
+-- an event of a process leaves the input and output of the others unchanged
 pub record LeavesIo (s : State) (p : ℕ) (t : State) : Type 0 where
-  -- the sixteen numbers of another process stay, but those of a child that F$Fork makes
+  -- the sixteen numbers of another process stay, except those of a child that F$Fork makes
   pub numbers : (q : ℕ) → q ≢ p → (numbers_of t.files.io.paths q ≡ numbers_of s.files.io.paths q)
       ⊎ IsGivenPaths s p q (numbers_of t.files.io.paths q)
-  -- a path of another process that lives stays
+  -- a path of another living process stays
   pub paths : (q n : ℕ) (opened : OpenPath) → q ≢ p → IsLiving s.inner.records q
       → open_path s.files.io q n ≡ Some opened → StaysOpen s p t q n opened
-  -- the call of another process that waits stays
+  -- the pending call of another process stays
   pub calls : (q : ℕ) → q ≢ p → kept_at t.files.io q ≡ kept_at s.files.io q
-  -- a terminal stays while a read of another process is unfinished there, but where a write fails, which drops it
+  -- a terminal stays while a read of another process is unfinished there, unless a write fails, which drops the read
   pub readings : (n q : ℕ) → q ≢ p → reader (terminal_at s.files.io n) ≡ Some (pid q)
       → KeepsReading (terminal_at s.files.io n) (terminal_at t.files.io n)
       ⊎ FailsInWrite s p n t

@@ -1,4 +1,4 @@
--- Isolation: an event of a process leaves what is not its own.
+-- Isolation: an event of a process leaves unchanged what is not its own.
 use Rattle.std.specs.Prelude.{◌≡◌, ◌≢◌, ℕ}
 use Rattle.proc_rules.specs.Records.{record_of}
 use Rattle.call_laws.specs.Objects.{KeepsSizes, KeepsObjects, KeepsToItself}
@@ -9,7 +9,7 @@ use Rattle.isolation_laws.specs.Modules.{KeepsModules}
 use Rattle.isolation_laws.specs.NewObjects.{HoldNothingElse}
 use Rattle.machine_model.specs.State.{State}
 
--- an event of a process, which ends so, leaves what is not its own of memory and of the processes
+-- an event of a process with this end leaves unchanged what is not its own of memory and of the processes
 pub record LeavesOthers (s : State) (p : ℕ) (end : EventEnd) (t : State) : Type 0 where
   pub sizes : KeepsSizes s.inner.memory t.inner.memory
   pub objects : KeepsObjects s.inner.memory p t.inner.memory
@@ -18,5 +18,5 @@ pub record LeavesOthers (s : State) (p : ℕ) (end : EventEnd) (t : State) : Typ
   pub others : (q : ℕ) → q ≢ p
       → ComesOf s.inner p end t.inner q (record_of s.inner.records q) (record_of t.inner.records q)
   pub turns : turns_of_others s.inner p t.inner.order ≡ turns_of_others s.inner p s.inner.order
-  pub modules : KeepsModules s p t.inner.memory  -- what comes of each
+  pub modules : KeepsModules s p t.inner.memory  -- the change of each
   pub links : ChangesLinks s p end t.inner.memory  -- which of their links change

@@ -21,13 +21,13 @@ use Rattle.machine_model.specs.State.{State}
 
 -- ---- modules that are entered
 
--- a process names this module: the name is at X, its type and language are in A
+-- a process names this module: the name is at X, and its type and language are in A
 pub record NamesModule (m : Inner) (p : ℕ) (found : Entered) : Type 0 where
   pub name : List ℕ
   pub read : name_at (cells_at m p) (regs_at m p).x ≡ Ok name
   pub is : found_entry m.memory.modules name (regs_at m p).a ≡ Some found
 
--- F$Link or F$Fork: the module that the call names has a link more
+-- F$Link or F$Fork: the module that the call names has one more link
 pub record GainsLink (m : Inner) (p : ℕ) (n : MemoryState) : Type 0 where
   pub found : Entered
   pub call : AttemptsCall m p Call.Link × NamesModule m p found
@@ -38,14 +38,14 @@ pub record GainsLink (m : Inner) (p : ℕ) (n : MemoryState) : Type 0 where
 abbrev pub HasModuleAtU : Inner → ℕ → Entered → Type 0
 HasModuleAtU m p found = module_at m.memory.modules (map_at m.memory p) (regs_at m p).u ≡ Some found
 
--- F$UnLink or F$UnLoad: the module that the call names has a link less; its group leaves if it has no link then
+-- F$UnLink or F$UnLoad: the module that the call names has one link less; its group leaves if it has no link then
 pub record LosesLink (m : Inner) (p : ℕ) (n : MemoryState) : Type 0 where
   pub found : Entered
   pub call : AttemptsCall m p Call.UnLink × HasModuleAtU m p found
       ⊎ AttemptsCall m p Call.UnLoad × NamesModule m p found
   pub less : n.modules ≡ (unlinked m.memory found.number).modules
 
--- F$Chain: the module that the call names has a link more, and then the old primary module has one less
+-- F$Chain: the module that the call names has one more link, and then the old primary module has one less
 pub record ChangesPrimary (m : Inner) (p : ℕ) (n : MemoryState) : Type 0 where
   pub call : AttemptsCall m p Call.Chain
   pub found : Entered
@@ -58,7 +58,7 @@ ChangesEntered m p end n =
     (n.modules ≡ m.memory.modules) ⊎ GainsLink m p n ⊎ LosesLink m p n ⊎ ChangesPrimary m p n
     ⊎ LosesPrimary m p end n
 
--- ---- a file that is loaded
+-- ---- a loaded file
 
 -- F$Load or F$Fork of a file: its first module has a link then
 pub record LinksLoaded (s : State) (p : ℕ) (n : MemoryState) : Type 0 where

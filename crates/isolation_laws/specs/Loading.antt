@@ -12,12 +12,12 @@ use Rattle.file_rules.specs.ProgramFile.{ProgramFile, program_file, reading_of}
 use Rattle.call_laws.specs.Others.{AttemptsCall}
 use Rattle.machine_model.specs.State.{State}
 
--- the file of modules to which the path list at X leads a process; the time is not asked for
+-- the file of modules to which the path list at X leads a process; it does not depend on the time
 abbrev pub file_at_x : State → ℕ → Result ProgramFile ℕ
 file_at_x s p =
     reading_of (program_file (asker_of s.inner p s.clock.from) s.files (length s.terms) (λ step. step))
 
--- a process starts a program of a file by this call: the bytes at X are the name of no entered module
+-- a process starts a program of a file by this call: the bytes at X are not the name of an entered module
 pub record StartsFileBy (m : Inner) (p : ℕ) (call : ProcCall) : Type 0 where
   pub attempted : AttemptsCall m p call
   pub unnamed : named_program m p ≡ None

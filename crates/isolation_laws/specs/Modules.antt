@@ -1,5 +1,5 @@
--- What an event of a process leaves of the module directory (Level Two manual, "Module directory"; System Programmer's
--- Manual, F$Load).
+-- The changes of the module directory in an event of a process (Level Two manual, "Module directory"; System
+-- Programmer's Manual, F$Load).
 use Rattle.std.specs.Prelude.{◌≡◌, ◌⊎◌, ℕ, ◌≤◌, Option, Some, None, length, slice_get}
 use Rattle.proc_model.specs.Memory.{MemoryState}
 use Rattle.proc_model.specs.MemoryChanges.{new_numbers}
@@ -13,7 +13,7 @@ use Rattle.call_laws.specs.Others.{AttemptsCall}
 use Rattle.isolation_laws.specs.Loading.{LoadsFile}
 use Rattle.machine_model.specs.State.{State}
 
--- a module of this number is entered that was not: it is of the file that a process loads, and has one link at most
+-- a module of this number is newly entered: it is of the file that a process loads, and has one link at most
 pub record IsEntered (s : State) (p number : ℕ) (new : ModuleEntry) : Type 0 where
   pub file : ProgramFile
   pub loaded : Loaded
@@ -23,8 +23,8 @@ pub record IsEntered (s : State) (p number : ℕ) (new : ModuleEntry) : Type 0 w
   pub same : new ≡ record entry { links = new.links }
   pub links : new.links ≤ 1
 
--- F$Chain of a file: an entered module leaves that has the group of the file. There is none where groups are of objects
--- that have appeared
+-- F$Chain of a file: an entered module with the group of the file leaves. There is none if groups are of objects that
+-- have appeared
 pub record LeavesWithFile (s : State) (p : ℕ) (old : ModuleEntry) : Type 0 where
   pub file : ProgramFile
   pub loaded : Loaded
@@ -37,14 +37,14 @@ pub record LeavesWithFile (s : State) (p : ℕ) (old : ModuleEntry) : Type 0 whe
   pub absent : length s.inner.memory.objects ≤ object
   pub last_link : old.links ≤ 1
 
--- what comes of an entered module: it stays or leaves; and which one appears
+-- the change of an entry of the module directory: an entered module stays or leaves, or a new one appears
 abbrev pub ModuleComesOf : State → ℕ → ℕ → Option ModuleEntry → Option ModuleEntry → Type 0
 ModuleComesOf s p number (Some old) (Some new) = StaysEntered old new
 ModuleComesOf s p number (Some old) None = LeavesMemory s.inner.memory.modules old ⊎ LeavesWithFile s p old
 ModuleComesOf s p number None (Some new) = IsEntered s p number new
 ModuleComesOf s p number None None = Unit {0}
 
--- the module directory changes by the rules of links and loads alone
+-- the module directory changes only by the rules of links and loads
 abbrev pub KeepsModules : State → ℕ → MemoryState → Type 0
 KeepsModules s p n =
     (number : ℕ)

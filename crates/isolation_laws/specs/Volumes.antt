@@ -15,7 +15,7 @@ use Rattle.isolation_laws.specs.Drives.{Reaches}
 use Rattle.machine_model.specs.Services.{Service, on_paths}
 use Rattle.machine_model.specs.State.{State}
 
--- the volume of one drive may change, by a call that changes volumes and reaches that drive; no other one does
+-- the volume of one drive may change, by a call that changes volumes and reaches that drive; no other volume changes
 pub record ChangesOneVolume (s : State) (p : ℕ) (t : State) : Type 0 where
   pub call : PathCall
   pub changing : may_change_volume call ≡ true
@@ -23,7 +23,7 @@ pub record ChangesOneVolume (s : State) (p : ℕ) (t : State) : Type 0 where
   pub reaches : Reaches s p (on_paths call) drive
   pub others : (other : ℕ) → other ≢ drive → volume_at t.files other ≡ volume_at s.files other
 
--- a drive has failed, and no other one: the one that the process reaches in an attempt of its call
+-- a drive has failed, and no other one: the drive that the process reaches in an attempt of its call
 pub record FailsOneDrive (s : State) (p : ℕ) (drives : List DriveState) : Type 0 where
   pub service : Service
   pub drive : ℕ
@@ -37,12 +37,12 @@ pub record IsGivenDirectories (s : State) (p q : ℕ) (directories : Directories
   pub number : free_process s.inner.records ≡ Some q
   pub given : directories ≡ directories_at s.files p
 
--- F$STime alone sets the clock
+-- only F$STime sets the clock
 abbrev pub SetsClock : State → ℕ → Type 0
 SetsClock s p = (code : ℕ) × (act_of s.inner p ≡ attempts code) × (time_call_of code ≡ Some Time.STime)
 
--- an event of a process leaves the directories of the others, the volumes, the counts of faults and the clock, but for
--- these
+-- an event of a process leaves unchanged the directories of the others, the volumes, the counts of faults and the
+-- clock, except for these changes
 pub record LeavesVolumes (s : State) (p : ℕ) (t : State) : Type 0 where
   pub volumes : (t.files.volumes ≡ s.files.volumes) ⊎ ChangesOneVolume s p t
   pub drives : NoneFailed s.files.drives t.files.drives ⊎ FailsOneDrive s p t.files.drives

@@ -7,7 +7,7 @@ ghost use Rattle.proc_model.specs.Memory.{MemoryState};
 ghost use Rattle.proc_model.specs.MemoryChanges.{linked, started};
 
 /// The objects that appear when a program begins are its data area: zeros, the parameters that end
-/// where the area ends, and zeros behind it.
+/// where the area ends, and zeros after it.
 pub fn a_program_begins_with_zeros_and_its_parameters()
     ensures area { (m n : MemoryState) (c : ℕ) (program : Program) → c < length m.maps
         → length program.parameters ≤ area_size program

@@ -1,4 +1,5 @@
-//! What the events of a process leave of memory, of the other processes and of what they share.
+//! What the events of a process leave unchanged of memory, of the other processes and of what they
+//! share.
 #![tactic(auto)]
 
 pub mod areas;

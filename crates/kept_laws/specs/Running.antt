@@ -1,4 +1,4 @@
--- What holds of every state of a run.
+-- Facts of every state of a run.
 use Rattle.std.specs.Prelude.{◌<◌, ◌≤◌, List, length}
 use Rattle.std.specs.List.{AllByRecursion}
 use Rattle.file_laws.specs.Kinds.{AreKinds}
@@ -7,7 +7,7 @@ use Rattle.io_laws.specs.Terminals.{AreOnTerminals}
 use Rattle.time_rules.specs.Clock.{IsClock}
 use Rattle.machine_model.specs.State.{State}
 
--- what holds of a state of a run
+-- the facts of a state of a run
 pub record IsRunning (s : State) : Type 0 where
   pub kept : AreKept s.inner s.files.io
   pub in_calls : AreInCalls s.inner s.files.io
@@ -19,7 +19,7 @@ pub record IsRunning (s : State) : Type 0 where
   pub kinds : AreKinds s.files  -- paths and directories of processes are on what is there
   pub clock : IsClock s.clock s.inner.tick
 
--- it holds of these states, and of the last one
+-- they hold in these states, and in the last one
 pub record AllRunning (states : List State) (t : State) : Type 0 where
   pub through : AllByRecursion IsRunning states
   pub last : IsRunning t

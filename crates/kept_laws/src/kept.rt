@@ -1,4 +1,4 @@
-//! What holds of every state of a run, as laws over its steps.
+//! Facts of every state of a run, as laws over its steps.
 
 ghost use Rattle.std.specs.Prelude.{◌≡◌, ℕ, ◌<◌, ◌≤◌, true, List, length};
 ghost use Rattle.civil_time.specs.CivilTime.{is_time_packet};
@@ -10,13 +10,13 @@ ghost use Rattle.machine_model.specs.Start.{Boot, Starts};
 ghost use Rattle.machine_model.specs.State.{State};
 ghost use Rattle.kept_laws.specs.Running.{AllRunning, IsRunning};
 
-/// What is kept of a call that waits is of the call that its process waits in, made with the registers
-/// that the process has, and a read among them is not refused where it is attempted again: its buffer
-/// is named, and its path may be read. Something is kept of each call on a terminal or a pipe in which
-/// a process waits. Each terminal that a path was opened on is there, and so is each file and
-/// directory that a path or a process is on; the clock was set to a civil time, and not after the
-/// tick. All that holds at the start of a machine with one to four terminals, and each event, each
-/// tick and each choice keeps it. So it holds of every state of a run.
+/// The saved state of a pending call belongs to the call its process is waiting in, which was made
+/// with the registers of the process. A pending read is not refused if it is attempted again: its
+/// buffer is named, and its path may be read. Something is kept of each call on a terminal or a
+/// pipe in which a process waits. Each terminal that a path was opened on exists, and so does each
+/// file and directory that a path or a process is on; the clock was set to a civil time, and not
+/// after the tick. All this holds at the start of a machine with one to four terminals, and each
+/// event, each tick and each choice keeps it. So it holds in every state of a run.
 pub fn calls_that_wait_are_kept()
     ensures start { (boot : Boot) (s : State) → Starts boot s → 0 < length boot.terms
         → length boot.terms ≤ 4 → is_time_packet boot.time ≡ true → IsRunning s }

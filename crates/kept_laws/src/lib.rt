@@ -1,5 +1,5 @@
-//! Laws of calls that wait: what the machine keeps of each is of the call that its process waits in,
-//! and something is kept of each call on paths that waits, in every state of a run.
+//! Laws of pending calls: the saved state of each belongs to the call its process is waiting in,
+//! and something is kept of each pending call on paths, in every state of a run.
 #![tactic(auto)]
 
 pub mod kept;

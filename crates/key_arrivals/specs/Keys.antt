@@ -1,4 +1,4 @@
--- Keys that arrive, as the kernel's processes and its state of input and output take part in it.
+-- Keys that arrive: the part of the kernel's processes and of its state of input and output.
 use Rattle.std.specs.Prelude.{◌≡◌, ℕ, ◌+◌, false, List}
 use Rattle.os9_outer.specs.TerminalState.{TerminalState, ChangesOneTerminal}
 use Rattle.call_rules.specs.Inner.{Inner}
@@ -9,23 +9,23 @@ use Rattle.io_rules.specs.Io.{Io, terminal_at, with_terminal}
 use Rattle.proc_state.specs.Tie.{Represents}
 use Rattle.proc_state.specs.declared.state.ProcState.{ProcState}
 
--- what keys that arrive may change
+-- what arriving keys may change
 abbrev pub desk : Inner → Io → List TerminalState → Desk
 desk inner io terms = record { inner = inner; io = io; terms = terms }
 
--- the keys of all terminals arrived: from each state that the processes represented, to one that they represent then
+-- the keys of all terminals arrived: from each state that the processes represented, to a state that they now represent
 abbrev pub KeysArrive : ProcState → Io → List TerminalState → ProcState → Io → List TerminalState → Type 0
 KeysArrive s io terms new now after =
     (m : Inner) → Represents s m →
     (next : Inner) × Arrivals s.tick (desk m io terms) (desk next now after) × Represents new next
 
--- those of so many terminals from this one on arrived
+-- the keys of `count` terminals from this one on arrived
 abbrev pub KeysArriveFrom : ProcState → Io → List TerminalState → ProcState → Io → List TerminalState → ℕ → ℕ → Type 0
 KeysArriveFrom s io terms new now after n count =
     (m : Inner) → Represents s m →
     (next : Inner) × ArrivesFrom s.tick n count (desk m io terms) (desk next now after) × Represents new next
 
--- those of this one terminal arrived
+-- the keys of this one terminal arrived
 abbrev pub KeysArriveAt : ProcState → Io → List TerminalState → ProcState → Io → List TerminalState → ℕ → Type 0
 KeysArriveAt s io terms new now after n =
     (m : Inner) → Represents s m →

@@ -14,17 +14,17 @@ use os9_base::registers::Pid;
 use os9_outer::terminal::CharDriver;
 use proc_state::state::ProcState;
 
-/// The superuser, who may send a signal to every process.
+/// The superuser, who may signal every process.
 const SUPERUSER: u16 = 0;
 
-/// The keys that are due at the tick of these processes arrive, at TERM, T1, T2 and T3 in this order
-/// (Level Two manual, SCF). The signal of the first key of a terminal that sends one is sent to its
-/// last user, when its poll is over. A driver that fails to give a key ends the poll of its terminal
-/// and no other, and the key is not lost.
+/// The keys that are due at the tick of these processes arrive, at TERM, T1, T2 and T3 in this
+/// order (Level Two manual, SCF). After the poll of a terminal, the signal of its first key that
+/// sends one is sent to its last user. A driver that fails to give a key ends the poll of its
+/// terminal alone, and the key is not lost.
 ///
 /// # Errors
 ///
-/// `OutOfMemory` if a bell found no memory: the poll ends there, and no terminal behind it is polled.
+/// `OutOfMemory` if a bell found no memory: the poll ends there, and no later terminal is polled.
 pub fn arrive_keys(
     s: &mut ProcState,
     io: &mut IoState,
@@ -44,7 +44,7 @@ pub fn arrive_keys(
     arrive_from(s, io, 0, devices)
 }
 
-/// The same from a terminal on.
+/// As `arrive_keys`, from a terminal on.
 fn arrive_from(
     s: &mut ProcState,
     io: &mut IoState,
@@ -72,7 +72,7 @@ fn arrive_from(
     }
 }
 
-/// The same at one terminal.
+/// As `arrive_keys`, at one terminal.
 fn arrive_on(
     s: &mut ProcState,
     io: &mut IoState,
@@ -99,7 +99,7 @@ fn arrive_on(
     Ok(())
 }
 
-/// The signal of a terminal is sent to its last user, if there are both.
+/// Sends the signal of a terminal to its last user, if it has both.
 fn send_to_user(s: &mut ProcState, user: Option<Pid>, signal: Option<u8>)
     ensures sent { (m : Inner) → Represents s.old m
         → Represents s.new (after_key_signal m user signal) }
@@ -111,7 +111,7 @@ fn send_to_user(s: &mut ProcState, user: Option<Pid>, signal: Option<u8>)
     }
 }
 
-/// A signal is sent to a process; it is dropped where that one has a signal pending.
+/// Sends a signal to a process. It is dropped if the process has a pending signal.
 fn send(s: &mut ProcState, to: Pid, signal: u8)
     ensures sent { (m : Inner) → Represents s.old m
         → Represents s.new (after_signal_to m to signal) }

@@ -11,7 +11,7 @@ use Rattle.key_dropping.specs.declared.keys.KeysFault.{KeysFault}
 abbrev pub CanBeTaken : Key → Type 0
 CanBeTaken key = key.tick < 2 ^ 32
 
--- the terminal has no keys any more, if they could be taken
+-- the terminal has no keys left, if they could be taken
 pub record LosesKeys (old new : TerminalState) : Type 0 where
   pub none : All CanBeTaken old.keys → new.keys ≡ []
   pub put : new.put ≡ old.put
@@ -30,7 +30,7 @@ pub record FailsAt (n : ℕ) (before after : List TerminalState) : Type 0 where
   pub rose : Rose old new
   pub counts : fault_counts after ≡ slice_set (fault_counts before) n new
 
--- all have no keys any more, or this one failed
+-- no terminal has keys left, or this one failed
 abbrev pub DropsAll : {Value : Type 0} → Result Value KeysFault → List TerminalState → List TerminalState → Type 0
 DropsAll (Ok value) before after = AllZip LosesKeys before after
 DropsAll (Err fault) before after = FailsAt fault.0 before after

@@ -8,7 +8,8 @@ use device_table::devices::Devices;
 use os9_outer::terminal::{CharDriver, TermFault};
 use thiserror::Error;
 
-/// The terminal of this number failed when its keys were taken: 0 for TERM, and 1 to 3 for T1 to T3.
+/// The terminal of this number failed when its keys were taken: 0 for TERM, and 1 to 3 for T1 to
+/// T3.
 #[derive(Clone, Copy, Debug, PartialEq, Eq, Error)]
 #[error("terminal {0}")]
 pub struct KeysFault(pub u8);
@@ -43,7 +44,7 @@ fn drop_keys_of(term: &mut dyn CharDriver) -> Result<(), TermFault>
     }
 }
 
-// The same of the terminal in a box.
+// As `drop_keys_of`, for the terminal in a box.
 fn drop_keys_in(term: &mut Box<dyn CharDriver>) -> Result<(), TermFault>
     ensures dropped { OnOk result (All CanBeTaken (keys_left term.old) → keys_left term.new ≡ []) }
     ensures faults_kept { OnOk result (term_faults term.new ≡ term_faults term.old) }
@@ -53,7 +54,7 @@ fn drop_keys_in(term: &mut Box<dyn CharDriver>) -> Result<(), TermFault>
     drop_keys_of(&mut **term)
 }
 
-// The same of the terminal of this number.
+// As `drop_keys_of`, for the terminal of this number.
 fn drop_keys_at(devices: &mut Devices, n: usize) -> Result<(), TermFault>
     requires { n < vec_len devices.old.terms }
     ensures terminal { ChangesOneTerminal (DropsKeys result) n
@@ -65,7 +66,7 @@ fn drop_keys_at(devices: &mut Devices, n: usize) -> Result<(), TermFault>
     drop_keys_in(&mut devices.terms[n])
 }
 
-/// Takes the keys that are to come of TERM, then of T1, T2 and T3.
+/// Takes the remaining keys of TERM, then of T1, T2 and T3.
 ///
 /// # Errors
 ///

@@ -1,4 +1,4 @@
-//! The keys that are to come of the terminals of a machine are taken from them.
+//! Takes the remaining keys of the terminals of a machine.
 #![tactic(auto)]
 
 mod keys;

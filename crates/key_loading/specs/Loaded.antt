@@ -9,11 +9,11 @@ abbrev pub keys_for : ℕ → List ScriptKey → List Key
 keys_for number keys =
     map (λ key. record { tick = key.tick; byte = key.byte }) (filter (λ key. key.term == number) keys)
 
--- a terminal with these keys to come
+-- a terminal with these keys left
 abbrev pub with_keys : List Key → TerminalState → TerminalState
 with_keys keys terminal = record terminal { keys = keys }
 
--- no key is to come
+-- no key is left
 abbrev pub HasNoKeys : TerminalState → Type 0
 HasNoKeys terminal = terminal.keys ≡ []
 
@@ -21,7 +21,7 @@ HasNoKeys terminal = terminal.keys ≡ []
 abbrev pub IsLoaded : List Key → TerminalState → TerminalState → Type 0
 IsLoaded keys old new = new ≡ with_keys keys old
 
--- terminals, of which the first has this number, each with the keys of its number
+-- terminals from this number on, each with the keys of its number
 abbrev pub loaded_from : ℕ → List ScriptKey → List TerminalState → List TerminalState
 loaded_from number keys [] = []
 loaded_from number keys (terminal ∷ terminals) =
@@ -36,7 +36,7 @@ abbrev pub LoadsFrom : ℕ → List ScriptKey → List TerminalState → List Te
 LoadsFrom number keys before now =
     now ≡ take number before ++ loaded_from number keys (drop number before)
 
--- the terminals of a machine that is to run: one to four, and none has keys
+-- the terminals of a machine before its run: one to four, without keys
 pub record AreUnloaded (terminals : List TerminalState) : Type 0 where
   pub some : 0 < length terminals
   pub few : length terminals ≤ 4

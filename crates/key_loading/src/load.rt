@@ -12,7 +12,7 @@ use std::alloc::{AllocError, Global};
 ///
 /// # Errors
 ///
-/// Out of memory. No terminal has changed then.
+/// Out of memory. No terminal changes then.
 pub fn load_keys(alloc: Global, devices: &mut Devices, keys: &[ScriptKey]) -> Result<(), AllocError>
     requires { All HasNoKeys
         (terminal_states ⟦<dyn CharDriver as CharDriver>⟧ devices.old.terms.items) }
@@ -87,7 +87,7 @@ fn load_on(devices: &mut Devices, n: usize, keys: Vec<Key>)
     load_in_box(&mut devices.terms[n], keys);
 }
 
-// `load_terminal` of the terminal in a box.
+// `load_terminal` for the terminal in a box.
 fn load_in_box(term: &mut Box<dyn CharDriver>, keys: Vec<Key>)
     requires { keys_left term.old ≡ [] }
     ensures loaded { keys_left term.new ≡ keys.items }
@@ -97,7 +97,7 @@ fn load_in_box(term: &mut Box<dyn CharDriver>, keys: Vec<Key>)
     load_terminal(&mut **term, keys);
 }
 
-// `CharDriver::load` of a terminal without keys, which takes them.
+// `CharDriver::load` for a terminal without keys, which takes them.
 fn load_terminal(term: &mut dyn CharDriver, keys: Vec<Key>)
     requires { keys_left term.old ≡ [] }
     ensures loaded { keys_left term.new ≡ keys.items }

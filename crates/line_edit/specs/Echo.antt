@@ -1,4 +1,4 @@
--- What a key does, as `EditOut` tells it.
+-- What a key does, as an `EditOut` has it.
 use Rattle.std.specs.Prelude.{◌≡◌, ℕ, ◌≤◌, List, take}
 use Rattle.io_model.specs.Edit.{Editing, Edited}
 use Rattle.line_edit.specs.declared.edit_out.EditOut.{EditOut}
@@ -7,7 +7,7 @@ use Rattle.line_edit.specs.declared.edit_out.EditOut.{EditOut}
 abbrev pub echoed : EditOut → List ℕ
 echoed out = take out.echo_len out.echo
 
--- the line and what was answered are what the key makes of it
+-- the line and the result are what the key makes of a line
 pub record Makes (key : Edited) (line : Editing) (out : EditOut) : Type 0 where
   pub line_is : line ≡ key.line
   pub echo_is : echoed out ≡ key.echo

@@ -7,9 +7,9 @@ use crate::line::Line;
 use io_model::edit::LineEnd;
 use io_model::keys::{END_OF_FILE, RETURN};
 
-/// A key of I$Read (Level Two manual, SCF): moves it to the line as it is, and answers what is put
-/// on the terminal and whether the read has ended. `most` is how many bytes the read asks for, from
-/// 1 to 256, and the line has room for one of them at least.
+/// A key of I$Read (Level Two manual, SCF): moves it to the line unchanged, and returns what is put
+/// on the terminal and whether the read has ended. `most` is the number of bytes that the read asks
+/// for, from 1 to 256. The line must have room for at least one of them.
 #[tactic(auto, using(io_model::proofs::RoomLemmas::copied_room), unfolding(io_model::specs::Edit::copied))]
 pub fn copy(line: &mut Line, most: u16, key: u8) -> EditOut
     requires most { most ≤ 256 }

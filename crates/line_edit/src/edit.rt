@@ -8,9 +8,9 @@ use crate::line::Line;
 use io_model::edit::LineEnd;
 use io_model::keys::{BACKSPACE, DELETE_LINE, DUPLICATE, END_OF_FILE, REPRINT, RETURN};
 
-/// A key of I$ReadLn (Level Two manual, SCF): changes the line, and answers what is put on the
-/// terminal and whether the read has ended. `most` is how many bytes the read asks for, from 1 to
-/// 256, and the line has room for one of them at least.
+/// A key of I$ReadLn (Level Two manual, SCF): changes the line, and returns what is put on the
+/// terminal and whether the read has ended. `most` is the number of bytes that the read asks for,
+/// from 1 to 256. The line must have room for at least one of them.
 #[tactic(auto, using(io_model::proofs::RoomLemmas::edited_room), unfolding(io_model::specs::Edit::edited))]
 pub fn edit(line: &mut Line, most: u16, key: u8) -> EditOut
     requires most { most ≤ 256 }

@@ -5,7 +5,7 @@ ghost use Rattle.line_edit.specs.Echo.{echoed};
 use io_model::edit::LineEnd;
 use io_model::keys::{BACKSPACE, BELL, DELETE, DOT, LINE_FEED, RETURN, SPACE};
 
-/// What a key does beside changing the line.
+/// What a key does in addition to changing the line.
 #[derive(Clone, Copy, Debug)]
 pub struct EditOut {
     /// The bytes to put on the terminal are the first `echo_len` of these.
@@ -69,7 +69,7 @@ impl EditOut {
         self.put(LINE_FEED);
     }
 
-    // Takes these bytes away on the screen.
+    // Erases these bytes on the screen.
     pub(crate) fn rub_out(&mut self, bytes: &[u8])
         requires { self.old.echo_len + 3 * length bytes.now ≤ 1024 }
         ensures put { echoed self.new ≡ echoed self.old ++ rubouts bytes.now }
@@ -96,7 +96,7 @@ impl EditOut {
     }
 }
 
-// A byte of a line as the screen has it: a dot for a control character.
+// A byte of a line as the screen shows it: a dot for a control character.
 pub(crate) fn shown_byte(byte: u8) -> u8
     ensures { result ≡ screen_byte byte }
 {

@@ -5,7 +5,7 @@ use arrayvec::ArrayVec;
 use io_model::keys::RETURN;
 use std::marker::Model;
 
-/// The most bytes that a line has, its carriage return among them.
+/// The maximum length of a line in bytes, with its carriage return.
 pub const MAX_LINE: usize = 256;
 
 /// The line of a terminal's read, and the last finished line (Level Two manual, SCF). It takes no
@@ -38,7 +38,7 @@ impl Line {
         }
     }
 
-    /// How many bytes the line has, at most 256.
+    /// The number of bytes in the line, at most 256.
     pub fn len(&self) -> u16
         ensures len { result ≡ length self.now.bytes }
         ensures within { result ≤ 256 }
@@ -62,7 +62,7 @@ impl Line {
         self.bytes.as_slice()
     }
 
-    /// Takes every byte away. The last finished line stays.
+    /// Removes every byte. The last finished line stays.
     pub fn clear(&mut self)
         ensures { self.new ≡ cleared self.old }
     {
@@ -84,14 +84,14 @@ impl Line {
         self.bytes.push(byte);
     }
 
-    // Takes the last byte away, if there is one.
+    // Removes the last byte, if there is one.
     pub(crate) fn pop(&mut self)
         ensures { self.new ≡ with_bytes self.old (take (length self.old.bytes - 1) self.old.bytes) }
     {
         let _ = self.bytes.pop();
     }
 
-    // Begins again with the first bytes of the last finished line, at most so many.
+    // Begins again with the first bytes of the last finished line, at most `most`.
     pub(crate) fn recall(&mut self, most: u16)
         ensures { self.new ≡ with_bytes self.old (take most self.old.last) }
     {

@@ -1,5 +1,5 @@
--- What attempts of F$Load, F$Fork and F$Chain come to that may read a file of modules, of the kernel's processes and
--- its files (System Programmer's Manual, F$Load, F$Fork and F$Chain).
+-- What attempts of F$Load, F$Fork and F$Chain that may read a file of modules do to the kernel's processes and its
+-- files (System Programmer's Manual, F$Load, F$Fork and F$Chain).
 use Rattle.std.specs.Prelude.{◌≡◌, ℕ}
 use Rattle.std.specs.Option.{option_map_or}
 use Rattle.os9_base.specs.declared.call.CallEnd.{CallEnd}
@@ -20,7 +20,7 @@ use Rattle.file_state.specs.Counted.{CalledAtMost, calls_of}
 use Rattle.file_state.specs.Tie.{StandsFor}
 use Rattle.program_files.specs.Calls.{list_calls}
 
--- an attempt of a process came to this, the drives were called at most so often, and all media are as they were
+-- an attempt of a process had this end, called the drives at most this number of times, and left all media unchanged
 pub record AttemptsBy (attempt : CallResult → Files → Type 0) (m : Inner) (p : ℕ) (end : CallEnd) (most : ℕ)
     (before after : Standing) : Type 0 where
   pub result : CallResult
@@ -31,17 +31,17 @@ pub record AttemptsBy (attempt : CallResult → Files → Type 0) (m : Inner) (p
   pub calls : CalledAtMost most before.views after.views
   pub media_kept : media_of after.views ≡ media_of before.views
 
--- how often a drive is called at most for the file of the path list at X, of a call with this test
+-- the greatest number of drive calls for the file of the path list at X, for a call with this test
 abbrev pub file_calls : Asker → Files → ℕ → (Step ProgramFile → Step ProgramFile) → ℕ
 file_calls asker files terms test =
     calls_of (program_file asker files terms test) (list_calls asker files terms (list_of asker))
 
--- and not at all where an entered module is named
+-- the same for F$Fork and F$Chain: 0 if an entered module is named
 abbrev pub start_calls : Inner → ℕ → TimePacket → Files → ℕ → ℕ
 start_calls m p now files terms =
     option_map_or (λ named. 0) (named_program m p) (file_calls (asker_of m p now) files terms (tests_program m p))
 
--- attempts of F$Load, F$Fork and F$Chain, at a time, on a machine with so many terminals
+-- attempts of F$Load, F$Fork and F$Chain, at a time, on a machine with this number of terminals
 abbrev pub LoadsFrom : TimePacket → ℕ → CallEnd → ℕ → Standing → Standing → Type 0
 LoadsFrom now p end terms before after =
     OnEach before

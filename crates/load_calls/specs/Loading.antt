@@ -1,4 +1,4 @@
--- A file of modules that was read, and is loaded (System Programmer's Manual, F$Load).
+-- A file of modules that was read, and its loading (System Programmer's Manual, F$Load).
 use Rattle.std.specs.Prelude.{◌≡◌, ℕ, nat_lt, Bool, false, Result, Ok, List}
 use Rattle.std.specs.Option.{option_map_or}
 use Rattle.proc_model.specs.declared.memory.TheConstants.{MOST_LINKS}
@@ -20,19 +20,20 @@ use Rattle.proc_state.specs.declared.state.ProcState.{ProcState}
 abbrev pub HasFirst : List ℕ → ModuleInfo → Type 0
 HasFirst file info = step_from file 0 ≡ Module info
 
--- the memory of the processes has the file, and this is the number of its first module
+-- the memory of the processes has the file, and the number is that of its first module
 pub record IsEnteredIn (m : Inner) (loaded : Loaded) (id : ModId) (new : ProcState) : Type 0 where
   pub number_is : id.0 ≡ loaded.first.number
   pub stands : Represents new (with_memory m loaded.memory)
 
--- a call of a process whose file was read goes on, and came to this
+-- a call whose file was read goes on, and has this outcome
 pub record GoesOn (m : Inner) (file : ProgramFile) (next : ProgramFile → Loaded → CallResult)
     (outcome : Result (Unit {0}) ℕ) (new : ProcState) : Type 0 where
   pub result : CallResult
   pub goes : GoesOnLoaded m (Ok file) next result
   pub answers : Answers m result outcome new
 
--- the map of a process has a run of so many free slots, and the process may have a link more where the highest begins
+-- the map of a process has this number of free slots in a row, and the process may have one link more at the highest
+-- such run
 abbrev pub has_place : Inner → ℕ → ℕ → Bool
 has_place m p blocks =
     option_map_or (λ slot. nat_lt (links_at (own_at m p) slot) MOST_LINKS)

@@ -1,4 +1,4 @@
--- A program in a file, and the room that it needs (System Programmer's Manual, F$Fork and F$Chain).
+-- A program in a file, and the room it needs (System Programmer's Manual, F$Fork and F$Chain).
 use Rattle.std.specs.Prelude.{◌≡◌, ℕ, ◌+◌, nat_lt, Option, Some, None, take, if◌then◌else◌}
 use Rattle.os9_base.specs.declared.errors.TheConstants.{E_MEMFUL, E_NORAM}
 use Rattle.proc_model.specs.Memory.{MemoryState, free_blocks, map_at}
@@ -12,8 +12,8 @@ use Rattle.fork_calls.specs.declared.program.NamedProgram.{NamedProgram}
 use Rattle.proc_state.specs.Tie.{Represents}
 use Rattle.proc_state.specs.declared.state.ProcState.{ProcState}
 
--- the number with which a process is refused that starts a program of so many pages, where a file of so many blocks is
--- loaded before
+-- the number with which a start of a program with a data area of `pages` pages is refused, whose file is first loaded
+-- into `group` blocks
 abbrev pub start_refusal : MemoryState → ℕ → ℕ → ℕ → Option ℕ
 start_refusal m process group pages =
     if nat_lt most_pages pages then Some E_MEMFUL
@@ -21,8 +21,8 @@ start_refusal m process group pages =
     else if nat_lt (free_blocks m + (map_at m process).low) (blocks_of_pages pages + group) then Some E_NORAM
     else None
 
--- the memory of the processes has the file, and this is the program that it is, with its parameters at the front of the
--- buffer
+-- the memory of the processes has the file, and the program is its first module, with its parameters at the front of
+-- the buffer
 pub record IsProgramIn (m : Inner) (p : ℕ) (file : ProgramFile) (loaded : Loaded) (program : NamedProgram)
     (new : ProcState) : Type 0 where
   pub number_is : program.id.0 ≡ loaded.first.number

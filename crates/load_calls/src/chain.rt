@@ -42,8 +42,8 @@ use program_files::refusal::program_refusal;
 ///
 /// # Errors
 ///
-/// Where an entered module is named, those of `chain_named`. Else those of `read_program`, with
-/// those of `program_refusal` where the list was read, and the number of the fault, if the drive
+/// If an entered module is named, those of `chain_named`. Else those of `read_program`, including
+/// those of `program_refusal` if the list was read, and the number of the drive's fault if it
 /// fails; else those of `chain_read`. Nothing has changed then.
 pub fn f_chain(s: &mut ProcState, files: &mut FileState, p: Pid, devices: &mut Devices) -> CallEnd
     requires lives { IsLiving s.old.table p.0 }
@@ -67,12 +67,12 @@ pub fn f_chain(s: &mut ProcState, files: &mut FileState, p: Pid, devices: &mut D
     }
 }
 
-/// A process begins anew with the program of the file that stands at the front of the buffer.
+/// A process begins anew with the program of the file at the front of the buffer.
 ///
 /// # Errors
 ///
-/// Those of `try_front`; else E$NEMod exactly if the first module is no program in 6809 code, else
-/// those of `start_refusal`. Nothing has changed then.
+/// Those of `try_front`; else E$NEMod exactly if the first module is not a program in 6809 code,
+/// else those of `start_refusal`. Nothing has changed then.
 pub(crate) fn chain_read(s: &mut ProcState, p: Pid, read: ProgramRead) -> Result<(), u8>
     requires lives { IsLiving s.old.table p.0 }
     requires short { read.size ≤ MOST }
@@ -87,11 +87,11 @@ pub(crate) fn chain_read(s: &mut ProcState, p: Pid, read: ProgramRead) -> Result
     }
 }
 
-/// The same of a file that was tried, and whose first module this is.
+/// The same for a tried file with this first module.
 ///
 /// # Errors
 ///
-/// As `chain_read` behind the trial.
+/// As `chain_read` after the trial.
 fn chain_tried(s: &mut ProcState, p: Pid, read: ProgramRead, first: ModuleInfo) -> Result<(), u8>
     requires lives { IsLiving s.old.table p.0 }
     requires short { read.size ≤ MOST }

@@ -35,16 +35,17 @@ use proc_state::outcome::call_end;
 use proc_state::state::ProcState;
 use program_files::reading::{ProgramRead, read_program};
 use program_files::refusal::program_refusal;
-/// F$Fork: starts a process (System Programmer's Manual, F$Fork). Takes the type and language of the
-/// program in A, the pages of its data area in B, its name or its file's path list at X, and the
-/// size and the address of its parameters in Y and U; answers the number of the new process in A,
-/// and X past the name or the list. The paths and directories of the child are given to it beside.
+/// F$Fork: starts a process (System Programmer's Manual, F$Fork). Takes the type and language of
+/// the program in A, the pages of its data area in B, its name or its file's path list at X, and
+/// the size and the address of its parameters in Y and U. Returns the number of the new process in
+/// A, and X past the name or the list. The child's paths and directories are given to it
+/// separately.
 ///
 /// # Errors
 ///
-/// Where an entered module is named, those of `fork_named`. Else those of `read_program`, with those
-/// of `program_refusal` where the list was read, and the number of the fault, if the drive fails;
-/// else those of `fork_read`. Nothing has changed then.
+/// If an entered module is named, those of `fork_named`. Else those of `read_program`, including
+/// those of `program_refusal` if the list was read, and the number of the drive's fault if it
+/// fails; else those of `fork_read`. Nothing has changed then.
 pub fn f_fork(s: &mut ProcState, files: &mut FileState, p: Pid, devices: &mut Devices) -> CallEnd
     requires lives { IsLiving s.old.table p.0 }
     requires sound { IsSound files.old
@@ -67,14 +68,13 @@ pub fn f_fork(s: &mut ProcState, files: &mut FileState, p: Pid, devices: &mut De
     }
 }
 
-/// A process gets a child, which starts the program of the file that stands at the front of the
-/// buffer.
+/// A process gets a child, which starts the program of the file at the front of the buffer.
 ///
 /// # Errors
 ///
-/// Those of `try_front`; else E$NEMod exactly if the first module is no program in 6809 code, else
-/// E$PrcFul exactly if there are 31 records, else those of `start_refusal`. Nothing has changed
-/// then.
+/// Those of `try_front`; else E$NEMod exactly if the first module is not a program in 6809 code,
+/// else E$PrcFul exactly if there are 31 records, else those of `start_refusal`. Nothing has
+/// changed then.
 pub(crate) fn fork_read(s: &mut ProcState, p: Pid, read: ProgramRead) -> Result<(), u8>
     requires lives { IsLiving s.old.table p.0 }
     requires short { read.size ≤ MOST }
@@ -89,11 +89,11 @@ pub(crate) fn fork_read(s: &mut ProcState, p: Pid, read: ProgramRead) -> Result<
     }
 }
 
-/// The same of a file that was tried, and whose first module this is.
+/// The same for a tried file with this first module.
 ///
 /// # Errors
 ///
-/// As `fork_read` behind the trial.
+/// As `fork_read` after the trial.
 fn fork_tried(s: &mut ProcState, p: Pid, read: ProgramRead, first: ModuleInfo) -> Result<(), u8>
     requires lives { IsLiving s.old.table p.0 }
     requires short { read.size ≤ MOST }

@@ -1,4 +1,4 @@
-//! The file of modules that stands at the front of the buffer.
+//! The file of modules at the front of the buffer.
 
 ghost use Rattle.std.specs.Prelude.{◌≡◌, ℕ, ◌≤◌, IfOk, IsSome, Ok, take};
 ghost use Rattle.call_rules.specs.Inner.{Inner, with_memory};
@@ -16,8 +16,8 @@ use file_loading::trial::try_file;
 use proc_model::module::{ModId, ModuleInfo};
 use proc_state::state::ProcState;
 
-/// What the header of the first module says of the file of so many bytes at the front of the
-/// buffer, if it can be loaded and its modules entered (System Programmer's Manual, F$Load).
+/// The header of the first module of the file of `size` bytes at the front of the buffer, if the
+/// file can be loaded and its modules entered (System Programmer's Manual, F$Load).
 ///
 /// # Errors
 ///
@@ -31,8 +31,8 @@ pub(crate) fn try_front(s: &ProcState, size: u16) -> Result<ModuleInfo, u8>
     try_file(&s.memory, &s.buffer[..size as usize])
 }
 
-/// Loads the file of so many bytes at the front of the buffer, which was tried and whose first
-/// module this is, and enters its modules. Answers the number of the first.
+/// Loads the file of `size` bytes at the front of the buffer, which was tried and has this first
+/// module, and enters its modules. Returns the number of the first.
 pub(crate) fn enter_front(s: &mut ProcState, size: u16, first: ModuleInfo) -> ModId
     requires short { size ≤ MOST }
     requires tried { (m : MemoryState) → RepresentsMemory s.old.memory m

@@ -34,15 +34,15 @@ use proc_state::state::ProcState;
 use program_files::reading::{ProgramRead, read_program};
 
 /// F$Load: loads a file of modules (System Programmer's Manual, F$Load). Takes the path list at X;
-/// answers the first module's type and language in A, its attributes and revision in B, X past the
+/// returns the first module's type and language in A, its attributes and revision in B, X past the
 /// list, its entry in Y and its header's address in U. All modules of the file are entered as one
-/// group, and the first has a link of the process.
+/// group, and the process gets a link to the first.
 ///
 /// # Errors
 ///
-/// Those of `read_program`, and the number of the fault, if the drive fails; else those of
-/// `try_front`; else E$MemFul exactly if too few slots are left in the map, or no links. Nothing
-/// has changed then.
+/// Those of `read_program`, and the number of the drive's fault if it fails; else those of
+/// `try_front`; else E$MemFul exactly if the map has too few slots left or no links are left.
+/// Nothing has changed then.
 pub fn f_load(s: &mut ProcState, files: &mut FileState, p: Pid, devices: &mut Devices) -> CallEnd
     requires lives { IsLiving s.old.table p.0 }
     requires sound { IsSound files.old
@@ -61,12 +61,12 @@ pub fn f_load(s: &mut ProcState, files: &mut FileState, p: Pid, devices: &mut De
     }
 }
 
-/// A process loads the file that stands at the front of the buffer, and links its first module.
+/// A process loads the file at the front of the buffer, and links its first module.
 ///
 /// # Errors
 ///
-/// Those of `try_front`, else E$MemFul exactly if too few slots are left in its map, or no links.
-/// Nothing has changed then.
+/// Those of `try_front`, else E$MemFul exactly if its map has too few slots left or no links are
+/// left. Nothing has changed then.
 pub(crate) fn load_read(s: &mut ProcState, p: Pid, read: ProgramRead) -> Result<(), u8>
     requires lives { IsLiving s.old.table p.0 }
     requires short { read.size ≤ MOST }
@@ -80,11 +80,12 @@ pub(crate) fn load_read(s: &mut ProcState, p: Pid, read: ProgramRead) -> Result<
     }
 }
 
-/// The same of a file that was tried, and whose first module this is.
+/// The same for a tried file with this first module.
 ///
 /// # Errors
 ///
-/// E$MemFul exactly if too few slots are left in its map, or no links. Nothing has changed then.
+/// E$MemFul exactly if its map has too few slots left or no links are left. Nothing has changed
+/// then.
 fn load_tried(s: &mut ProcState, p: Pid, read: ProgramRead, first: ModuleInfo) -> Result<(), u8>
     requires lives { IsLiving s.old.table p.0 }
     requires short { read.size ≤ MOST }
@@ -103,8 +104,8 @@ fn load_tried(s: &mut ProcState, p: Pid, read: ProgramRead, first: ModuleInfo) -
     link_module(s, p, id, read.next.saturating_sub(u32::from(x)))
 }
 
-/// Has the map of a process as many free slots in a row as a group of so many blocks needs, and may
-/// the process have a link more where it would be mapped?
+/// Does the map of a process have `blocks` free slots in a row, and may the process have one link
+/// more at the slot where the group would be mapped?
 fn has_place(s: &ProcState, p: Pid, blocks: u8) -> bool
     requires process { p.0 < 33 }
     requires some { 1 ≤ blocks }

@@ -15,8 +15,8 @@ use os9_base::name::Name;
 use os9_base::registers::Pid;
 use proc_state::state::ProcState;
 
-/// Are the bytes at X one name, and is a module of that name entered that has the type and language
-/// in A (System Programmer's Manual, F$Fork and F$Chain)? Else X is a path list.
+/// Are the bytes at X one name, and is a module with that name and the type and language in A
+/// entered (System Programmer's Manual, F$Fork and F$Chain)? If not, X is a path list.
 pub(crate) fn names_program(s: &mut ProcState, p: Pid) -> bool
     requires lives { IsLiving s.old.table p.0 }
     ensures named { (m : Inner) → Represents s.old m → result ≡ is_some (named_program m p.0) }
@@ -27,7 +27,7 @@ pub(crate) fn names_program(s: &mut ProcState, p: Pid) -> bool
     is_entered(&s.memory, name.module_name(), regs.a)
 }
 
-/// Is there a name, and is a module of that name entered that has this type and language?
+/// Is there a name, and is a module with that name and this type and language entered?
 fn is_entered(memory: &Memory, name: Option<Name>, kind: u8) -> bool
     ensures { (m : MemoryState) → RepresentsMemory memory.now m
         → result ≡ is_some (option_and_then (λ name. found_entry m.modules name kind) name) }

@@ -1,4 +1,4 @@
-//! A program in a file, and the room that it needs.
+//! A program in a file, and the room it needs.
 
 ghost use Rattle.std.specs.Prelude.{◌≡◌, ◌≤◌, ◌<◌, IsSome, Ok, take};
 ghost use Rattle.call_rules.specs.Inner.{Inner};
@@ -31,11 +31,11 @@ use program_files::reading::ProgramRead;
 /// The type and language of a program in 6809 code (Level Two manual, "Memory modules").
 pub(crate) const PROGRAM: u8 = 0x11;
 
-/// The number with which a process is refused that would start a program with a data area of so
-/// many pages, whose file is loaded into so many blocks before (System Programmer's Manual, F$Fork
-/// and F$Chain): E$MemFul exactly if the data area has more than 57,344 bytes or the slots are too
-/// few, else E$NoRAM exactly if too few blocks are free, where those of its own data area count as
-/// free. None if it has room.
+/// The number with which a start of a program with a data area of `pages` pages is refused, whose
+/// file is first loaded into `group` blocks (System Programmer's Manual, F$Fork and F$Chain):
+/// E$MemFul exactly if the data area has more than 57,344 bytes or there are too few slots, else
+/// E$NoRAM exactly if too few blocks are free, counting those of the process's own data area as
+/// free. None if there is room.
 pub(crate) fn start_refusal(memory: &Memory, p: Pid, group: u8, pages: u16) -> Option<u8>
     requires process { p.0 < 33 }
     requires few { group ≤ 7 }
@@ -55,9 +55,9 @@ pub(crate) fn start_refusal(memory: &Memory, p: Pid, group: u8, pages: u16) -> O
     None
 }
 
-/// The file at the front of the buffer, which was tried and whose first module this is, is loaded
-/// and its modules entered. Answers the program that it is, by the registers of the process that
-/// starts it, whose parameters stand at the front of the buffer then.
+/// Loads the file at the front of the buffer, which was tried and has this first module, and enters
+/// its modules. Returns the program that it is, by the registers of the process that starts it. The
+/// program's parameters are at the front of the buffer then.
 pub(crate) fn enter_program(
     s: &mut ProcState,
     p: Pid,

@@ -9,8 +9,8 @@ use Rattle.lock_model.specs.Locks.{request_of}
 use Rattle.lock_model.specs.Records.{Records, ends_locks_below, holding, with_waiting, without_lock, written_by}
 use Rattle.lock_model.specs.Waits.{closes}
 
--- a change by the rules: a lock is granted to a path, a range is written on it, its lock ends, or so do those of the
--- paths below one that pass a test; a process begins to wait in a request that closes no cycle, or waits no longer
+-- a change by the rules: a lock is granted to a path, a range is written on it, its lock ends, or the locks of the
+-- paths below one end if they pass a test; a process begins to wait in a request that closes no cycle, or stops waiting
 pub data ChangesByRule (records now : Records) : Type 0 where
   granted : (path : ℕ) (lock : Held) (bytes : List ℕ) → path < PATH_PLACES → MayHold records.locks lock
       → now ≡ holding records path lock bytes → ChangesByRule records now

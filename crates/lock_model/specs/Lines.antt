@@ -10,7 +10,7 @@ use Rattle.lock_model.specs.declared.lock.EntryKind.TheVariants.{Get, Put, Drop}
 abbrev pub hex_digit : ℕ → ℕ
 hex_digit value = if nat_lt value 10 then 48 + value else 87 + value
 
--- the last digits of a number in hexadecimal, as many as the count, with leading zeros
+-- the last `count` digits of a number in hexadecimal, with leading zeros
 abbrev pub hex_digits : ℕ → ℕ → List ℕ
 hex_digits zero number = []
 hex_digits (suc count) number = hex_digits count (number / 16) ++ hex_digit (number % 16) ∷ []

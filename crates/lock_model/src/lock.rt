@@ -29,7 +29,7 @@ pub struct Request {
     pub path: u8,
     pub count: u16,
     pub lock: Held,
-    /// How many ticks the call waits at most; 0 without a limit, 1 not at all (SS.Ticks).
+    /// The maximum number of ticks that the call waits; 0 for no limit, 1 for no wait (SS.Ticks).
     pub ticks: u16,
     /// The tick of the call's first attempt.
     pub since: u32,
@@ -40,7 +40,7 @@ pub struct Request {
 pub enum Grant {
     /// No lock of another process conflicts.
     Granted,
-    /// A lock of another process conflicts, and the call waits no longer: error 252.
+    /// A lock of another process conflicts, and the call does not wait any longer: error 252.
     Locked,
     /// A lock of another process conflicts, and its owner waits for the requesting process,
     /// directly or through others: error 254.

@@ -6,8 +6,8 @@ use Rattle.machine_model.specs.Event.{Event}
 use Rattle.machine_model.specs.Run.{Choose, Tick}
 use Rattle.machine_model.specs.State.{State}
 
--- what holds from one state to another, through the states after the events between them, holds of each state and
--- itself, and with one more event in front
+-- what holds between two states, through the states after the events between them, holds between each state and itself,
+-- and with one more event in front
 pub record IsCarriedByEvents (P : State → List State → State → Type 0) : Type 0 where
   pub none : (s : State) → P s [] s
   pub event : (s m t : State) (end : EventEnd) (states : List State) → Event s end m → P m states t

@@ -4,7 +4,7 @@ use Rattle.file_rules.specs.Files.{DriveState, drive_at}
 use Rattle.event_rules.specs.Terminals.{TerminalsOnlyGain}
 use Rattle.machine_model.specs.State.{State}
 
--- there are as many drives, and no count of faults fell
+-- the number of drives is the same, and no count of faults fell
 pub record DrivesOnlyGain (before now : List DriveState) : Type 0 where
   pub as_many : length now ≡ length before
   pub faults : (drive : ℕ) → (drive_at before drive).faults ≤ (drive_at now drive).faults

@@ -16,17 +16,17 @@ use Rattle.event_rules.specs.declared.ends.EventEnd.{EventEnd}
 use Rattle.machine_model.specs.Services.{Attempts}
 use Rattle.machine_model.specs.State.{State, Rest, with_rest}
 
--- files after an instruction of a process: what it had is closed where it ends
+-- files after an instruction of a process: what it had is closed if it ends
 abbrev pub files_after_instruction : Files → ℕ → Outcome → Files
 files_after_instruction files p (Done effect) = files
 files_after_instruction files p (Calls code regs) = files
 files_after_instruction files p (Aborts status) = files_ended files p
 
--- the processes that a signal finds
+-- the processes before the delivery of a signal
 abbrev pub before_delivery : State → ℕ → Inner
 before_delivery s p = broken_off s.inner p (interrupted_count s.files.io p)
 
--- files after a delivery: the call that waits, if one does, is broken off; or the process has ended
+-- files after a delivery: the pending call, if any, is broken off; or the process has ended
 abbrev pub files_after_delivery : Files → ℕ → Result Inner ℕ → Files
 files_after_delivery files p (Ok t) = with_io files (io_interrupted files.io p)
 files_after_delivery files p (Err status) = files_ended files p

@@ -28,8 +28,8 @@ Tick s t =
     (desk : Desk) × Arrivals (s.inner.tick + 1) (desk_of s) desk
     × (t ≡ record s { inner = desk.inner; files = with_io s.files desk.io; terms = desk.terms })
 
--- A tick that is broken off for want of memory: the keys of so many terminals have arrived, and then a bell of the next
--- one found no memory. These are the terminals then.
+-- A tick that is broken off because memory is out: the keys of a number of terminals have arrived, and then a bell of
+-- the next one found no memory. `terms` are the terminals then.
 pub record BreaksTick (s : State) (terms : List TerminalState) : Type 0 where
   pub count : ℕ
   pub desk : Desk
@@ -41,7 +41,7 @@ pub record BreaksTick (s : State) (terms : List TerminalState) : Type 0 where
       (λ before now. Arrives (s.inner.tick + 1) (terminal_at desk.io count) terminal before now answer) count
       desk.terms terms
 
--- a process that is Ready is chosen, if there is one; input and output let calls that wait go on
+-- a Ready process is chosen, if there is one; input and output let pending calls go on
 abbrev pub Choose : State → State → Type 0
 Choose s t =
     t
@@ -50,35 +50,35 @@ Choose s t =
       chosen = option_map (λ (p : Pid). p.0) (choice_of (io_may_go s.files.io) s.inner).chosen;
     }
 
--- a slice goes on after an event that ends so: the process neither waits nor has ended
+-- a slice goes on after an event with this end: the process neither waits nor has ended
 abbrev pub is_going : EventEnd → Bool
 is_going EventEnd.Ran = true
 is_going EventEnd.Waits = false
 is_going EventEnd.Ended = false
 is_going EventEnd.NoMemory = false
 
--- The events of a slice, of which so many instructions are left: from s through these states. It is over when they are
--- executed, or with an event after which it does not go on.
+-- The events of a slice with a number of instructions left: from a state through these states. It is over when those
+-- are executed, or after an event with which it does not go on.
 abbrev pub Steps : ℕ → State → List State → State → Type 0
 Steps left s [] t = (left ≡ 0) × (t ≡ s)
 Steps left s (m ∷ ms) t =
     (0 < left) × (end : EventEnd) × Event s end m
     × MatchBool (is_going end) (Steps (left - cost s) m ms t) ((ms ≡ []) × (t ≡ m))
 
--- one slice of so many instructions: the states after its events, how it ends, and the state then; nobody is Ready
--- where no process was chosen
+-- one slice of a number of instructions: the states after its events, how it ends, and the state then; no process is
+-- Ready if none was chosen
 abbrev pub Slice : ℕ → State → List State → SliceEnd → State → Type 0
 Slice n s states end t =
     (ticked : State) × (chosen : State) × Tick s ticked × Choose ticked chosen
     × MatchOption chosen.chosen ((end ≡ Idle) × (states ≡ []) × (t ≡ chosen))
     (λ p. (end ≡ Ran) × Steps n chosen states t)
 
--- the first events of a slice that is not over then
+-- the first events of a slice that is not over after them
 abbrev pub FirstSteps : ℕ → State → List State → State → Type 0
 FirstSteps left s [] t = (0 < left) × (t ≡ s)
 FirstSteps left s (m ∷ ms) t = (0 < left) × Event s EventEnd.Ran m × FirstSteps (left - cost s) m ms t
 
--- a slice of so many instructions was begun, had its first events, and is not over
+-- a slice of a number of instructions was begun, had its first events, and is not over
 abbrev pub BeginsSlice : ℕ → State → List State → State → Type 0
 BeginsSlice n s states t =
     (ticked : State) × (chosen : State) × Tick s ticked × Choose ticked chosen × FirstSteps n chosen states t
@@ -86,7 +86,7 @@ BeginsSlice n s states t =
 -- ---- a run
 
 -- A whole run over these slices: the states after all its events, the bytes that it writes, and the state at its end.
--- It stops where no process lives, or where the slices are used up.
+-- It stops if no process lives, or when the slices are used up.
 abbrev pub Run : List ℕ → State → List State → List ℕ → State → Type 0
 Run [] s states written t = (states ≡ []) × (written ≡ []) × (t ≡ s)
 Run (n ∷ ns) s states written t =
@@ -96,6 +96,6 @@ Run (n ∷ ns) s states written t =
     × Run ns (record m { terms = terminals_emptied m.terms }) later rest t)
     ((states ≡ []) × (written ≡ []) × (t ≡ s))
 
--- the status of a run that ended so: 0 where no process lives, else 5
+-- the status of a run that ended in this state: 0 if no process lives, else 5
 abbrev pub status_of : State → ℕ
 status_of s = if has_living s then 5 else 0

@@ -1,4 +1,4 @@
--- What the code of a call asks for, and what an attempt of it comes to (System Programmer's Manual, "System calls").
+-- What the code of a call asks for, and the outcome of an attempt of it (System Programmer's Manual, "System calls").
 use Rattle.std.specs.Prelude.{◌≡◌, ℕ, ◌==◌, length, if◌then◌else◌}
 use Rattle.std.specs.Option.{option_map_or}
 use Rattle.os9_base.specs.declared.calls.TheConstants.{F_LOAD}
@@ -29,7 +29,7 @@ pub data Service : Type 0 where
   on_processes : ProcCall → Service
   on_time : TimeCall → Service
   on_paths : PathCall → Service
-  no_call : Service  -- the code is no call's
+  no_call : Service  -- an unknown code
 
 -- what a code asks for
 abbrev pub service_of : ℕ → Service
@@ -38,9 +38,9 @@ service_of code =
     else option_map_or on_processes (call_of code)
     (option_map_or on_time (time_call_of code) (option_map_or on_paths (path_call_of code) no_call))
 
--- ---- files beside a call on processes
+-- ---- the files after a call on processes
 
--- the files after a call on processes and modules that came to this: what a process had that ends is closed
+-- the files after a call on processes and modules with this result: what an ended process had is closed
 abbrev pub files_after_call : Files → ℕ → CallResult → Files
 files_after_call files p (done t) = files
 files_after_call files p (refused number) = files
@@ -56,11 +56,11 @@ files_after_fork files p (ends status) = files
 
 -- ---- attempts
 
--- the rest of a state, where its files are these
+-- the rest of a state, with these files
 abbrev pub with_files : State → Files → Rest
 with_files s files = record (rest_of s) { files = files }
 
--- an attempt of a process at a time: what it comes to, and the rest of the state then
+-- an attempt of a process at a time: its result, and the rest of the state then
 abbrev pub Serves : Service → State → TimePacket → ℕ → CallResult → Rest → Type 0
 Serves loads s now p result rest =
     (files : Files) × LoadAttempts s.inner (asker_of s.inner p now) s.files (length s.terms) p result files
@@ -80,7 +80,7 @@ Serves (on_paths call) s now p result rest =
     FileAttempts call s.inner s.files now p result rest.files s.terms rest.terms × (rest.clock ≡ s.clock)
 Serves no_call s now p result rest = (result ≡ refused E_UNKSVC) × (rest ≡ rest_of s)
 
--- an attempt of a call by its code, at the time that it is
+-- an attempt of a call by its code, at the current time
 abbrev pub Attempts : ℕ → State → ℕ → CallResult → Rest → Type 0
 Attempts code s p result rest =
     (now : TimePacket) × IsNow s.clock s.inner.tick now × Serves (service_of code) s now p result rest

@@ -14,7 +14,7 @@ pub record State : Type 0 where
   pub chosen : Option ℕ  -- the process that was chosen last
   pub terms : List TerminalState  -- TERM, T1, T2, T3
 
--- what an attempt of a call may change beside the processes
+-- what an attempt of a call may change in addition to the processes
 pub record Rest : Type 0 where
   pub files : Files
   pub clock : Clock
@@ -23,7 +23,7 @@ pub record Rest : Type 0 where
 abbrev pub rest_of : State → Rest
 rest_of s = record { files = s.files; clock = s.clock; terms = s.terms }
 
--- the state with these processes, and this beside them
+-- the state with these processes, and this rest
 abbrev pub with_rest : State → Inner → Rest → State
 with_rest s inner rest =
     record s { inner = inner; files = rest.files; clock = rest.clock; terms = rest.terms }

@@ -1,4 +1,4 @@
-//! What codes of calls ask for, as laws that the check computes.
+//! The calls that codes ask for, as laws that the check computes.
 
 ghost use Rattle.std.specs.Prelude.{◌≡◌};
 ghost use Rattle.os9_base.specs.declared.calls.TheConstants.{F_FORK, F_LOAD, F_STIME, F_TIME, I_DUP, I_READ, F_PERR};
@@ -7,8 +7,8 @@ ghost use Rattle.file_rules.specs.declared.path_call.PathCall.TheVariants as Pat
 ghost use Rattle.time_rules.specs.declared.time_call.TimeCall.TheVariants as TimeCall;
 ghost use Rattle.machine_model.specs.Services.{loads, no_call, on_paths, on_processes, on_time, service_of};
 
-/// Each code is that of one call (System Programmer's Manual, "System calls"); what `7F` would ask
-/// for, and `FF`, is no call.
+/// Each code is that of one call (System Programmer's Manual, "System calls"); `7F` and `FF` ask
+/// for none.
 pub fn codes_of_calls()
     ensures load { service_of F_LOAD ≡ loads }
     ensures fork { service_of F_FORK ≡ on_processes ProcCall.Fork }

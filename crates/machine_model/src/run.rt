@@ -10,8 +10,8 @@ ghost use Rattle.machine_model.specs.Event.{Event};
 ghost use Rattle.machine_model.specs.Run.{BeginsSlice, BreaksTick, Run, Slice, Tick};
 ghost use Rattle.machine_model.specs.State.{State};
 
-/// The devices of a machine only gain: along its events no key of a terminal comes back, no count of
-/// faults of a terminal or a drive falls, and what is observed stays observed.
+/// The devices of a machine only gain: along its events no used key of a terminal returns, no count
+/// of faults of a terminal or a drive falls, and what is observed stays observed.
 pub fn devices_only_gain()
     ensures tick { (s t : State) → Tick s t → OnlyGain s t }
     ensures broken_tick { (s : State) (terms : List TerminalState) → BreaksTick s terms

@@ -8,8 +8,8 @@ ghost use Rattle.rbf_model.specs.Volume.{DiskVolume, Vol};
 ghost use Rattle.machine_model.specs.Start.{Boot, Starts};
 ghost use Rattle.machine_model.specs.State.{State};
 
-/// A boot file on well-formed images comes to an end, and to one only: it starts the machine in one
-/// state, or it is refused for one cause, and never both.
+/// A boot file on well-formed images has one outcome: it starts the machine in one state, or it is
+/// refused for one cause, and never both.
 pub fn a_boot_comes_to_one_end()
     ensures one_start { (boot : Boot) (s t : State) → Starts boot s → Starts boot t → s ≡ t }
     ensures never_both { (boot : Boot) (s : State) (fault : BootFault)

@@ -7,7 +7,7 @@ use Rattle.proc_model.specs.ModuleList.{ModuleEntry}
 use Rattle.proc_model.specs.Slots.{Slots}
 use Rattle.memory_laws.specs.Renaming.{RepresentObjects, renamed_map, renamed_modules}
 
--- the memory whose objects are these, where blocks represent objects by these numbers
+-- the memory with these objects; blocks represent objects by these numbers
 abbrev pub memory_of : (ℕ → ℕ) → Blocks → List (Slots BlockId) → List (Option ModuleEntry) → List (List ℕ) → MemoryState
 memory_of number pool maps entries objects = record {
   blocks = length pool.counts;
@@ -16,8 +16,8 @@ memory_of number pool maps entries objects = record {
   modules = renamed_modules number entries;
 }
 
--- Blocks, maps and entries represent a memory: the live blocks represent objects, and all else is equal but for their
--- numbers.
+-- Blocks, maps and entries represent a memory: the live blocks represent objects, and all else is equal except for
+-- their numbers.
 pub record RepresentMemory (pool : Blocks) (maps : List (Slots BlockId)) (entries : List (Option ModuleEntry))
     (m : MemoryState) : Type 0 where
   pub number : ℕ → ℕ

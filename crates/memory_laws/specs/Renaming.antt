@@ -1,4 +1,4 @@
--- Maps and groups of blocks as maps and groups of the objects that the blocks stand for.
+-- Maps and groups of blocks as maps and groups of the objects that the blocks represent.
 use Rattle.std.specs.Prelude.{◌≡◌, ℕ, Option, Some, option_map, List, map, slice_get}
 use Rattle.block_pool.specs.Blocks.{Blocks, IsLive, block_bytes}
 use Rattle.proc_model.specs.declared.group.BlockId.{BlockId}
@@ -21,7 +21,7 @@ renamed_map number slots =
       groups = slots.groups;
     }
 
--- an entry whose group is one of objects
+-- an entry with a group of objects
 abbrev pub renamed_entry : (ℕ → ℕ) → ModuleEntry → ModuleEntry
 renamed_entry number entry = record entry { group = map number entry.group }
 

@@ -1,4 +1,4 @@
--- What holds of memory at all times: who names which blocks, and where (Level Two manual, "Memory management").
+-- What always holds of memory: what names which blocks, and where (Level Two manual, "Memory management").
 use Rattle.std.specs.Prelude.{◌≡◌, ◌≢◌, ℕ, ◌+◌, ◌-◌, ◌*◌, ◌<◌, ◌≤◌, Option, Some, IsSome, List, length, All, slice_index}
 use Rattle.block_pool.specs.Blocks.{Blocks, IsPool, reference_count}
 use Rattle.proc_model.specs.declared.group.BlockId.{BlockId}
@@ -15,7 +15,7 @@ pub record IsHeld (pool : Blocks) (entries : List (Option ModuleEntry)) (slots :
   -- nothing else names a block of the data area
   pub alone : (slot : ℕ) (id : BlockId) → slot < slots.low → block_at slots slot ≡ Some id
       → reference_count pool id.0 ≡ 1
-  -- where a slot names a block of an entered group, the whole group stands around it
+  -- if a slot names a block of an entered group, the whole group is in the slots around it
   pub grouped : (number : ℕ) (entry : ModuleEntry) → module_entry_at entries number ≡ Some entry
       → (slot k : ℕ) (id : BlockId) → block_at slots slot ≡ Some id → k < length entry.group
       → id.0 ≡ slice_index entry.group k → (k ≤ slot) × BeginsAt (numbered_map slots) entry.group (slot - k)
@@ -25,12 +25,12 @@ pub record IsGrouped (entry : ModuleEntry) : Type 0 where
   -- its group has one to seven blocks
   pub some : 1 ≤ length entry.group
   pub few : length entry.group ≤ 7
-  -- no block is in it twice
+  -- no block occurs in it twice
   pub once : (one other : ℕ) → one < length entry.group → other < length entry.group
       → slice_index entry.group one ≡ slice_index entry.group other → one ≡ other
   -- the module lies in it
   pub inside : entry.info.at + entry.info.size ≤ 8192 * length entry.group
-  -- it begins to run in itself
+  -- its entry lies in the module
   pub runs : entry.info.entry < entry.info.size
 
 -- what holds of all entered modules
@@ -47,7 +47,7 @@ pub record IsSound (pool : Blocks) (maps : List (Slots BlockId)) (entries : List
   -- there is a map for each process number, and a place for each module
   pub processes : length maps ≡ 33
   pub numbers : length entries ≡ 64
-  -- each block is counted as often as a map or an entered group names it
+  -- the count of each block is the number of references from maps and entered groups
   pub counted : AreReferenceCounts pool maps entries
   pub held : All (IsHeld pool entries) maps
   pub groups : AreGrouped entries

@@ -1,4 +1,4 @@
-//! What holds of memory at all times, and how its blocks, maps and groups represent objects.
+//! What always holds of memory, and how its blocks, maps and groups represent objects.
 #![tactic(auto)]
 
 ghost use Rattle.std.specs.Prelude.{◌≡◌, Option, List};
@@ -10,8 +10,9 @@ ghost use Rattle.proc_model.specs.Slots.{Slots};
 ghost use Rattle.memory_laws.specs.Memory.{RepresentMemory};
 ghost use Rattle.memory_laws.specs.Sound.{IsSound};
 
-/// The blocks of the machine less the living objects are as many as the blocks that no map and no
-/// entered group names: so a change of memory is refused exactly where blocks are too few.
+/// The number of the machine's blocks less the living objects is the number of blocks that no map
+/// and no entered group names. So a change of memory is refused exactly if there are too few
+/// blocks.
 pub fn free_blocks_are_those_that_nothing_names()
     ensures { (pool : Blocks) (maps : List (Slots BlockId)) (entries : List (Option ModuleEntry))
         (m : MemoryState)

@@ -1,4 +1,4 @@
--- An entered module that is linked (System Programmer's Manual, F$Link and F$Load).
+-- Linking an entered module (System Programmer's Manual, F$Link and F$Load).
 use Rattle.std.specs.Prelude.{ℕ, nat_le}
 use Rattle.os9_base.specs.declared.errors.TheConstants.{E_MEMFUL}
 use Rattle.proc_model.specs.declared.memory.TheConstants.{MOST_LINKS}
@@ -14,7 +14,7 @@ use Rattle.call_rules.specs.ModuleLinks.{Entered}
 abbrev pub entered_as : ModId → ModuleEntry → Entered
 entered_as id entry = record { number = id.0; entry = entry }
 
--- a process links an entered module, and X goes on by so many characters
+-- a process links an entered module, and X grows by this number of characters
 abbrev pub links_entered : Inner → ℕ → Entered → ℕ → CallResult
 links_entered m p found count =
     refuses (has_most_links found.entry) E_MEMFUL

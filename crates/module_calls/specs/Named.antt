@@ -18,13 +18,13 @@ name_or_error (Ok name) = Ok name
 name_or_error (Err Unreadable) = Err E_BPADDR
 name_or_error (Err NoName) = Err E_BNAM
 
--- the call goes on with the name at X and the entered module that has it and the type and language in A
+-- the call goes on with the name at X and the entered module of this name and the type and language in A
 abbrev pub names_module : Inner → ℕ → (List ℕ → Entered → CallResult) → CallResult
 names_module m p next =
     reads_name (name_at (cells_at m p) (regs_at m p).x) E_BNAM
     (λ name. needs (found_entry m.memory.modules name (regs_at m p).a) E_MNF (λ found. next name found))
 
--- a call goes on with this module, whose name has so many characters
+-- a call goes on with this module, whose name has this length
 pub record IsNamed (m : Inner) (p number count : ℕ) : Type 0 where
   pub name : List ℕ
   pub entry : ModuleEntry
@@ -37,11 +37,11 @@ pub record IsNamed (m : Inner) (p number count : ℕ) : Type 0 where
 abbrev pub IsUnnamed : Inner → ℕ → ℕ → Type 0
 IsUnnamed m p number = (next : List ℕ → Entered → CallResult) → names_module m p next ≡ refused number
 
--- the slot at which the group of a module stands in the map of a process, or would be mapped
+-- the slot at which the group of a module is mapped in the map of a process, or would be mapped
 abbrev pub slot_in : Inner → ℕ → List ℕ → Option ℕ
 slot_in m p group = option_map (λ mapped. mapped.slot) (mapped_group m.memory p group)
 
--- a slot at which a process may have one link more
+-- a slot at which a process may have one more link
 abbrev pub if_few_links : Inner → ℕ → ℕ → Option ℕ
 if_few_links m p slot = if nat_le MOST_LINKS (links_at (own_at m p) slot) then None else Some slot
 

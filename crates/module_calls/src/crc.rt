@@ -20,7 +20,7 @@ use os9_base::registers::Pid;
 use proc_state::outcome::call_end;
 use proc_state::state::ProcState;
 
-/// Bytes of the accumulator of a CRC.
+/// The number of bytes of the accumulator of a CRC.
 const CRC_BYTES: u16 = 3;
 
 /// F$CRC: continues a CRC (System Programmer's Manual, F$CRC). Takes the address of the bytes in X,
@@ -56,8 +56,8 @@ fn crc(s: &mut ProcState, p: Pid) -> Result<(), u8>
     Ok(())
 }
 
-/// The register of a CRC that stands in an accumulator; None if one of its bytes is in no named slot
-/// or past `FFFF`.
+/// The register of a CRC that is stored in an accumulator; None if one of its bytes is in no named
+/// slot or past `FFFF`.
 fn read_register(s: &mut ProcState, p: Pid, at: u16) -> Option<u32>
     requires { p.0 < 33 }
     ensures read { (m : Inner) → Represents s.old m
@@ -82,7 +82,7 @@ fn register_in(accumulator: &[u8]) -> u32
     BigEndian::read_u24(accumulator)
 }
 
-/// The register of a CRC after so many bytes from an address on; None if one of them is in no named
+/// The register of a CRC after `count` bytes from an address on; None if one of them is in no named
 /// slot or past `FFFF`.
 fn continue_crc(s: &mut ProcState, p: Pid, at: u16, count: u16, register: u32) -> Option<u32>
     requires process { p.0 < 33 }

@@ -1,4 +1,4 @@
-//! The numbers of errors of what is refused below a call.
+//! The numbers of errors for refusals below a call.
 
 ghost use Rattle.std.specs.Prelude.{◌≡◌};
 ghost use Rattle.proc_model.specs.Memory.{memory_error as memory_error_lem};
@@ -6,7 +6,7 @@ ghost use Rattle.proc_model.specs.Memory.{memory_error as memory_error_lem};
 use os9_base::errors::{E_MEMFUL, E_NORAM};
 use proc_model::memory::MemoryFault;
 
-/// The error of a change of memory that is refused.
+/// The error of a refused change of memory.
 pub fn memory_error(fault: MemoryFault) -> u8
     ensures { result ≡ memory_error_lem fault }
 {

@@ -26,13 +26,14 @@ use proc_rules::own::Own;
 use proc_state::outcome::call_end;
 use proc_state::state::ProcState;
 
-/// F$Link: links a module (System Programmer's Manual, F$Link). Takes the type and language in A and
-/// the name at X; answers the module's type and language in A, its attributes and revision in B, X
-/// past the name, its entry in Y and its header's address in U.
+/// F$Link: links a module (System Programmer's Manual, F$Link). Takes the type and language in A
+/// and the address of the name in X. Returns the module's type and language in A, its attributes
+/// and revision in B, the address after the name in X, its entry in Y and its header's address in
+/// U.
 ///
 /// # Errors
 ///
-/// E$BPAddr and E$BNam of the name; else E$MNF exactly if no such module is entered; else E$MemFul
+/// E$BPAddr and E$BNam of the name, else E$MNF exactly if no such module is entered, else E$MemFul
 /// exactly if too few slots are left in the map, or no links. Nothing has changed then.
 pub fn f_link(s: &mut ProcState, p: Pid) -> CallEnd
     requires lives { IsLiving s.old.table p.0 }
@@ -53,8 +54,8 @@ fn link(s: &mut ProcState, p: Pid) -> Result<(), u8>
     link_module(s, p, id, u32::from(count))
 }
 
-/// A process links an entered module, and its X goes on by so many characters: those of the
-/// module's name, or of a path list. What it answers is that of F$Link.
+/// A process links an entered module, and its X grows by `count`: the length of the module's name,
+/// or of a path list. The results are those of F$Link.
 ///
 /// # Errors
 ///
@@ -78,8 +79,8 @@ pub fn link_module(s: &mut ProcState, p: Pid, id: ModId, count: u32) -> Result<(
     Ok(())
 }
 
-/// The slot at which the group of an entered module stands in the map of a process or would be
-/// mapped; None if there are too few slots or no links are left.
+/// The slot at which the group of an entered module is or would be mapped in the map of a process;
+/// None if there are too few slots or no links are left.
 fn link_slot(s: &ProcState, p: Pid, id: ModId) -> Option<u8>
     requires process { p.0 < 33 }
     requires entered { IsSome (module_entry_at (modules_of s.now.memory) id.0) }
@@ -103,7 +104,7 @@ fn link_slot(s: &ProcState, p: Pid, id: ModId) -> Option<u8>
     Some(slot)
 }
 
-/// The slot at which the group of an entered module stands in the map of a process, or would be
+/// The slot at which the group of an entered module is mapped in the map of a process, or would be
 /// mapped if there is room.
 fn group_place(s: &ProcState, p: Pid, id: ModId) -> Option<u8>
     requires process { p.0 < 33 }
@@ -119,7 +120,7 @@ fn group_place(s: &ProcState, p: Pid, id: ModId) -> Option<u8>
     }
 }
 
-/// Maps the group of an entered module where it does not stand in the map of a process yet.
+/// Maps the group of an entered module if it is not in the map of a process yet.
 fn map_group(s: &mut ProcState, p: Pid, id: ModId)
     requires process { p.0 < 33 }
     requires entered { IsSome (module_entry_at (modules_of s.old.memory) id.0) }
@@ -135,7 +136,7 @@ fn map_group(s: &mut ProcState, p: Pid, id: ModId)
     }
 }
 
-/// Counts one link more of an entered module, and of the process to the group at a slot of its map.
+/// Counts one more link of an entered module, and of the process to the group at a slot of its map.
 fn add_link(s: &mut ProcState, p: Pid, id: ModId, slot: u8)
     requires process { p.0 < 33 }
     requires slot { slot < 8 }
@@ -153,7 +154,7 @@ fn add_link(s: &mut ProcState, p: Pid, id: ModId, slot: u8)
     s.set_own(p, own);
 }
 
-/// The registers after a link: X goes on by so many characters.
+/// The registers after a link: X grows by `count`.
 fn linked_regs(regs: Regs, info: ModuleInfo, slot: u8, count: u32) -> Regs
     requires slot { slot < 8 }
     requires fits { 8192 * slot + (info.at + info.size) ≤ 65536 }
@@ -173,7 +174,8 @@ fn linked_regs(regs: Regs, info: ModuleInfo, slot: u8, count: u32) -> Regs
 }
 
 /// F$UnLoad: gives up a link to a module by its name (System Programmer's Manual, F$UnLoad). Takes
-/// the type and language in A and the name at X. Maps that name the module's group keep it.
+/// the type and language in A and the address of the name in X. Maps that name the module's group
+/// keep it.
 ///
 /// # Errors
 ///

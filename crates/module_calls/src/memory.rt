@@ -18,8 +18,8 @@ use proc_state::outcome::call_end;
 use proc_state::state::ProcState;
 
 /// F$Mem: sets the size of the data area (System Programmer's Manual, F$Mem). Takes the size in
-/// bytes in D, 0 to ask for it; answers the size, rounded up to pages of 256 bytes, in D and Y.
-/// Blocks that are not needed any more are given back.
+/// bytes in D, or 0 to ask for the current size. Returns the size, rounded up to pages of 256
+/// bytes, in D and Y. Blocks that are not needed any more are given back.
 ///
 /// # Errors
 ///
@@ -50,7 +50,7 @@ fn mem(s: &mut ProcState, p: Pid) -> Result<(), u8>
     set_pages(s, p, asked.div_ceil(PAGE_BYTES))
 }
 
-/// The data area gets so many pages.
+/// The data area gets this number of pages.
 fn set_pages(s: &mut ProcState, p: Pid, pages: u16) -> Result<(), u8>
     requires lives { IsLiving s.old.table p.0 }
     requires some { pages ≤ 256 }
@@ -66,7 +66,7 @@ fn set_pages(s: &mut ProcState, p: Pid, pages: u16) -> Result<(), u8>
     Ok(())
 }
 
-/// The data area gets so many blocks.
+/// The data area gets this number of blocks.
 fn resize(s: &mut ProcState, p: Pid, count: u8) -> Result<(), u8>
     requires lives { IsLiving s.old.table p.0 }
     ensures call { (m : Inner) → Represents s.old m
@@ -86,7 +86,7 @@ fn resize(s: &mut ProcState, p: Pid, count: u8) -> Result<(), u8>
     }
 }
 
-/// A size in bytes is that of the data area, and is answered.
+/// Sets the recorded size of the data area in bytes, and returns it in the registers.
 fn set_size(s: &mut ProcState, p: Pid, size: u16)
     requires lives { IsLiving s.old.table p.0 }
     ensures tied { (m : Inner) → Represents s.old m
@@ -105,7 +105,7 @@ fn d_of(regs: Regs) -> u16
     u16::from(regs.a) * 256 + u16::from(regs.b)
 }
 
-/// The registers that answer a size in bytes.
+/// The registers with a size in bytes as the result.
 fn size_regs(regs: Regs, size: u16) -> Regs
     ensures { result ≡ size_regs_lem regs size }
 {

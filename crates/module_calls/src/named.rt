@@ -16,8 +16,7 @@ use proc_model::module::ModId;
 use proc_state::state::ProcState;
 use user_names::name_fault::NameFault;
 
-/// The module with the name at X and the type and language in A, and how many characters the name
-/// has.
+/// The module with the name at X and the type and language in A, and the length of the name.
 ///
 /// # Errors
 ///

@@ -1,4 +1,4 @@
-//! Programs that are started.
+//! Sizes of programs that are started.
 
 ghost use Rattle.std.specs.Prelude.{◌≡◌, ◌≤◌};
 ghost use Rattle.call_rules.specs.Program.{blocks_of_pages as blocks_of_pages_lem};
@@ -10,7 +10,7 @@ pub const BLOCK_PAGES: u16 = 32;
 /// The most pages of a data area: those of seven slots.
 pub const MOST_PAGES: u16 = 224;
 
-/// So many pages in blocks.
+/// The number of blocks for this number of pages.
 pub fn blocks_of_pages(pages: u16) -> u8
     requires { pages ≤ MOST_PAGES }
     ensures { result ≡ blocks_of_pages_lem pages }

@@ -1,4 +1,4 @@
-//! Links to modules that are given up by addresses.
+//! Giving up links to modules by address.
 
 ghost use Rattle.std.specs.Prelude.{◌≡◌, ◌<◌, IsSome, IfSome, option_map, position};
 ghost use Rattle.std.specs.Bool.{OnTrue};
@@ -67,7 +67,7 @@ fn module_at(s: &ProcState, p: Pid, address: u16) -> Option<ModId>
     None
 }
 
-/// Has a module this number, and has the map of a process it at this address?
+/// Is there a module of this number, and does the map of a process have it at this address?
 fn is_at(s: &ProcState, p: Pid, id: ModId, address: u16) -> bool
     requires { p.0 < 33 }
     ensures tied { (m : Inner) → Represents s.now m → result
@@ -85,7 +85,7 @@ fn is_at(s: &ProcState, p: Pid, id: ModId, address: u16) -> bool
     }
 }
 
-/// A process has one link less to the group of an entered module, if its map has the group.
+/// Removes one link of a process to the group of an entered module, if its map has the group.
 fn drop_group_link(s: &mut ProcState, p: Pid, id: ModId)
     requires process { p.0 < 33 }
     requires entered { IsSome (module_entry_at (modules_of s.old.memory) id.0) }
@@ -100,7 +100,7 @@ fn drop_group_link(s: &mut ProcState, p: Pid, id: ModId)
     }
 }
 
-/// A process has one link less to the group of an entered module, which begins at this slot.
+/// Removes one link of a process to the group of an entered module, which begins at this slot.
 fn drop_link_at(s: &mut ProcState, p: Pid, id: ModId, slot: u8)
     requires process { p.0 < 33 }
     requires slot { slot < 8 }
@@ -117,7 +117,8 @@ fn drop_link_at(s: &mut ProcState, p: Pid, id: ModId, slot: u8)
     s.set_own(p, own);
 }
 
-/// The group of an entered module leaves the map of a process that has no links left to it.
+/// Removes the group of an entered module from the map of a process, if `left`, the number of its
+/// links to the group, is 0.
 fn keep_linked(s: &mut ProcState, p: Pid, id: ModId, left: u16)
     requires process { p.0 < 33 }
     requires entered { IsSome (module_entry_at (modules_of s.old.memory) id.0) }

@@ -1,4 +1,4 @@
--- The entries that the code keeps, as the module directory's entries.
+-- The entries in the code, as entries of the module directory.
 use Rattle.std.specs.Prelude.{Option, option_map, List, map}
 use Rattle.proc_model.specs.Group.{group_block_numbers}
 use Rattle.proc_model.specs.ModuleList.{ModuleEntry}

@@ -12,7 +12,7 @@ use std::alloc::{AllocError, Global};
 use std::marker::Model;
 use thiserror::Error;
 
-/// How many modules may be entered.
+/// The most modules that may be entered.
 const PLACES: usize = 64;
 
 /// Why a module is not entered.
@@ -57,13 +57,13 @@ impl Dir {
         })
     }
 
-    /// Enters a module, with one link where it is the boot file's and else without links. It gets
-    /// the least number that no entry has. There are 64 places.
+    /// Enters a module, with one link if it is the boot file's, and otherwise without links. It
+    /// gets the least number that no entry has. There are 64 places.
     ///
     /// # Errors
     ///
-    /// `Known` where an entry of its name and type has the same or a greater revision; else
-    /// `DirFull` where 64 modules are entered.
+    /// `Known` if an entry of its name and type has the same or a greater revision; else `DirFull`
+    /// if 64 modules are entered.
     pub fn enter(&mut self, info: ModuleInfo, group: Group, boot: bool) -> Result<ModId, DirFault>
         ensures known { (result ≡ Err DirFault.Known) ↔ IsTrue (is_known_lem self.old info) }
         ensures full { (result ≡ Err DirFault.DirFull)
@@ -94,8 +94,9 @@ impl Dir {
         Ok(id)
     }
 
-    /// The entry of this name whose type and language match `kind`, where a half of 0 matches any,
-    /// among those that no greater revision shadows. Of several it is the one of least number.
+    /// The entry of this name whose type and language match `kind`, in which a half of 0 matches
+    /// any, among those that no greater revision shadows. If there are several, the one of least
+    /// number.
     pub fn find(&self, name: &Name, kind: u8) -> Option<ModId>
         ensures found { option_map (λ id. id.0) result ≡ found_module self.now name.now kind }
         ensures places { length self.now ≡ 64 }
@@ -103,14 +104,14 @@ impl Dir {
         find_entry(&self.entries, name, kind).map(|number| ModId(number as u8))
     }
 
-    /// Has an entry this number?
+    /// Is there an entry of this number?
     pub fn is_entered(&self, id: ModId) -> bool
         ensures { result ≡ is_some (module_entry_at self.now id.0) }
     {
         matches!(self.entries.get(id.0 as usize), Some(Some(_)))
     }
 
-    /// How many more modules can be entered.
+    /// The number of modules that can still be entered.
     pub fn room(&self) -> u8
         ensures room { result ≡ module_room self.now }
         ensures places { length self.now ≡ 64 }
@@ -144,7 +145,7 @@ impl Dir {
         self.entry(id).is_boot
     }
 
-    /// How many links an entered module has.
+    /// The number of links of an entered module.
     pub fn links(&self, id: ModId) -> u32
         requires { IsSome (module_entry_at self.now id.0) }
         ensures links { option_map (λ entry. entry.links) (module_entry_at self.now id.0)
@@ -154,7 +155,7 @@ impl Dir {
         u32::from(self.entry(id).links)
     }
 
-    /// Counts one link more of an entered module.
+    /// Counts one more link of an entered module.
     pub fn link(&mut self, id: ModId)
         requires { IsSomeAnd (module_entry_at self.old id.0) (λ entry. entry.links < 65535) }
         ensures { option_map (λ entry. with_module_entry self.old id.0 (entry_linked entry))
@@ -165,9 +166,9 @@ impl Dir {
         self.put(id, Entry { links, ..entry });
     }
 
-    /// Gives up one link of an entered module, if it has one. Where no entry of its group has a
-    /// link then, and the group is not the boot file's, the entries of the group go, and the
-    /// answer is the group.
+    /// Gives up one link of an entered module, if it has one. If then no entry of its group has a
+    /// link, and the group is not the boot file's, removes the entries of the group and returns the
+    /// group.
     pub fn unlink(&mut self, id: ModId) -> Option<Group>
         requires { IsSome (module_entry_at self.old id.0) }
         ensures list { option_map (after_unlink self.old id.0) (module_entry_at self.old id.0)
@@ -201,7 +202,8 @@ impl Dir {
         self.entries[id.0 as usize] = Some(entry);
     }
 
-    /// Is a module known: has an entry of its name and type its revision or a greater one?
+    /// Is a module known: is there an entry of its name and type with its revision or a greater
+    /// one?
     pub fn knows(&self, info: &ModuleInfo) -> bool
         ensures known { result ≡ is_known_lem self.now info.now }
         ensures places { length self.now ≡ 64 }

@@ -18,14 +18,15 @@ pub struct Entry {
     pub is_boot: bool,
 }
 
-/// Have these two modules the same name, case ignored, and the same type, the language left aside?
+/// Do these two modules have the same name, case ignored, and the same type, regardless of the
+/// language?
 pub fn are_namesakes(a: &ModuleInfo, b: &ModuleInfo) -> bool
     ensures { result ≡ are_namesakes_lem a.now b.now }
 {
     same_name(&a.name, &b.name) && a.kind >> 4 == b.kind >> 4
 }
 
-/// Is this type and language the one that is wanted, where a half of 0 wants any?
+/// Does this type and language match the wanted one, in which a half of 0 matches any?
 pub fn kind_matches(wanted: u8, kind: u8) -> bool
     ensures { result ≡ kind_matches_lem wanted kind }
 {

@@ -1,4 +1,4 @@
-//! The module directory: the modules that are entered, their revisions, links and groups.
+//! The module directory: the entered modules, their revisions, links and groups.
 #![tactic(auto)]
 
 pub use dir::{Dir, DirFault};

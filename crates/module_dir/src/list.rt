@@ -41,7 +41,7 @@ pub fn free_number(entries: &[Option<Entry>]) -> Option<usize>
     entries.iter().position(|place| place.is_none())
 }
 
-/// Has an entry of this group a link?
+/// Does an entry of this group have a link?
 pub fn is_in_use(entries: &[Option<Entry>], group: &Group) -> bool
     ensures { result ≡ is_in_use_lem (held_entries entries.now) (group_block_numbers group.now) }
 {
@@ -99,7 +99,7 @@ fn answers(entries: &[Option<Entry>], name: &Name, kind: u8, place: &Option<Entr
     }
 }
 
-/// Is there an entry of this group here, and has it a link?
+/// Is there an entry of this group here that has a link?
 fn uses(place: &Option<Entry>, group: &Group) -> bool
     ensures { result
         ≡ passes (λ entry. is_of_group_lem (group_block_numbers group.now) entry
@@ -111,7 +111,7 @@ fn uses(place: &Option<Entry>, group: &Group) -> bool
     }
 }
 
-/// What is left of a place where the entries of this group are removed.
+/// What remains of a place after the entries of this group are removed.
 fn place_without_group(place: &Option<Entry>, group: &Group) -> Option<Entry>
     ensures { option_map seen result
         ≡ outside_lem (group_block_numbers group.now) (option_map seen place.now) }

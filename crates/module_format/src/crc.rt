@@ -1,10 +1,10 @@
 ghost use Rattle.std.specs.Prelude.{◌≡◌, ◌<◌, ◌*◌};
 ghost use Rattle.proc_model.specs.Crc.{bits_of, divided, crc_register, crc_of};
 
-/// What the register holds before the first byte.
+/// The register before the first byte.
 const START: u32 = 0xff_ffff;
 
-/// What a division leaves of each byte at the register's top after eight bits of zero.
+/// For each byte at the register's top, the remainder after eight bits of zero.
 static TABLE: [u32; 256] = [
     0x000000, 0x800063, 0x8000a5, 0x0000c6, 0x800129, 0x00014a, 0x00018c, 0x8001ef, 0x800231,
     0x000252, 0x000294, 0x8002f7, 0x000318, 0x80037b, 0x8003bd, 0x0003de, 0x800401, 0x000462,
@@ -70,7 +70,7 @@ fn after_byte(register: u32, byte: u8) -> u32
     ((register << 8) & 0xff_ffff) ^ table_word(top ^ byte)
 }
 
-/// What eight bits of zero leave of this byte at the register's top.
+/// The remainder for this byte at the register's top after eight bits of zero.
 fn table_word(top: u8) -> u32
     ensures { result ≡ divided (top * 65536) (bits_of 0) }
 {

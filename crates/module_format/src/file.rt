@@ -4,8 +4,8 @@ ghost use Rattle.proc_model.specs.Module.{next_place as next_place_lem, step_fro
 use crate::header::read_module;
 use proc_model::module::{ModuleInfo, ModuleStep};
 
-/// What stands next in a file of modules from a place on: zero bytes are passed over, and the
-/// module behind them is read. Its `at` is the place of its first byte.
+/// The next item in a file of modules from a place on: zero bytes are skipped, and the module after
+/// them is read. Its `at` is the place of its first byte.
 pub fn next_module(bytes: &[u8], from: u32) -> ModuleStep
     requires short { length bytes.now ≤ 65536 }
     requires within { from ≤ length bytes.now }
@@ -28,7 +28,7 @@ pub fn next_module(bytes: &[u8], from: u32) -> ModuleStep
     }
 }
 
-/// The first place from this one on where a byte other than zero stands, or the end.
+/// The first place from this one on with a nonzero byte, or the end.
 fn next_place(bytes: &[u8], from: usize) -> usize
     requires { from ≤ length bytes.now }
     ensures place { result ≡ next_place_lem bytes.now from }

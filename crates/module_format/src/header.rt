@@ -11,10 +11,10 @@ use proc_model::module::{ModuleFault, ModuleInfo};
 /// The sync bytes at the front of a module.
 const SYNC: u16 = 0x87cd;
 
-/// The type of a program, which alone has an execution offset and a storage size.
+/// The type of a program; only this type has an execution offset and a storage size.
 const PROGRAM: u8 = 1;
 
-/// How many bytes the CRC has.
+/// The number of bytes of the CRC.
 const CRC_LENGTH: u16 = 3;
 
 /// Reads the module at the front of these bytes (System Programmer's Manual, "Memory module
@@ -69,7 +69,7 @@ fn read_header(bytes: &[u8]) -> Option<ModuleInfo>
     })
 }
 
-/// Do the sync bytes stand, and is there room for the least module and for all of this one?
+/// Are the sync bytes there, and is there room for the least module and for all of this one?
 fn is_sized(bytes: &[u8]) -> bool
     ensures { result ≡ (has_sync bytes.now && has_size bytes.now) }
 {
@@ -80,7 +80,7 @@ fn is_sized(bytes: &[u8]) -> bool
     word(bytes, 0) == SYNC && size >= header_length(bytes) + 4 && size as usize <= bytes.len()
 }
 
-/// The name between the header and the CRC, if one stands there.
+/// The name between the header and the CRC, if there is one.
 fn read_name(bytes: &[u8]) -> Option<Name>
     requires { has_size bytes.now ≡ true }
     ensures rule { is_some result ≡ has_module_name bytes.now }
@@ -133,7 +133,7 @@ fn program_word(bytes: &[u8], at: usize) -> u16
     }
 }
 
-/// How long the header is.
+/// The length of the header.
 fn header_length(bytes: &[u8]) -> u16
     requires { 6 < length bytes.now }
     ensures { result ≡ header_length_lem bytes.now }

@@ -1,18 +1,18 @@
--- Modules made of their parts (System Programmer's Manual, "Memory module structure").
+-- Modules made from their parts (System Programmer's Manual, "Memory module structure").
 use Rattle.std.specs.Prelude.{ℕ, ◌<◌, ◌+◌, ◌-◌, ◌/◌, ◌%◌, ◌==◌, bit_xor, Bool, List, [], ◌∷◌, ◌++◌, length, fold, if◌then◌else◌}
 use Rattle.proc_model.specs.Crc.{crc_of}
 use Rattle.proc_model.specs.declared.module.ModuleInfo.{ModuleInfo}
 use Rattle.module_maker.specs.declared.maker.Header.{Header}
 
--- a type and language of which the type is 1, a program
+-- a type and language with type 1, a program
 abbrev pub is_program_kind : ℕ → Bool
 is_program_kind kind = kind / 16 == 1
 
--- how long the header of such a module is
+-- the length of the header of such a module
 abbrev pub kind_header_length : ℕ → ℕ
 kind_header_length kind = if is_program_kind kind then 13 else 9
 
--- where the code begins: behind the header and the name
+-- the place where the code begins: after the header and the name
 abbrev pub code_offset : List ℕ → ℕ → ℕ
 code_offset name kind = kind_header_length kind + length name
 
@@ -36,7 +36,7 @@ abbrev pub header_front : ℕ → ℕ → ℕ → List ℕ
 header_front size kind attr =
     0x87 ∷ 0xCD ∷ size / 256 ∷ size % 256 ∷ 0 ∷ kind_header_length kind ∷ kind ∷ attr ∷ []
 
--- the byte that brings the exclusive or of the header's first nine bytes to FF
+-- the byte that makes the exclusive or of the header's first nine bytes FF
 abbrev pub parity_of : List ℕ → ℕ
 parity_of front = 255 - fold bit_xor 0 front
 

@@ -9,10 +9,10 @@ use os9_base::call::OutOfMemory;
 use os9_base::name::Name;
 use std::alloc::{AllocError, Global};
 
-/// The type of a program, which alone has an execution offset and a storage size.
+/// The type of a program; only this type has an execution offset and a storage size.
 const PROGRAM: u8 = 1;
 
-/// The bytes of the CRC.
+/// The number of bytes of the CRC.
 const CRC_LENGTH: u16 = 3;
 
 /// What the header of a module says in addition to the name and the size.
@@ -22,22 +22,22 @@ pub struct Header {
     pub kind: u8,
     /// The attributes (high half) and the revision (low half).
     pub attr: u8,
-    /// The place in the module at which a program begins; of no use for another type.
+    /// The place in the module at which a program begins; not used for another type.
     pub entry: u16,
-    /// The size of a program's data memory in bytes; of no use for another type.
+    /// The size of a program's data memory in bytes; not used for another type.
     pub storage: u16,
 }
 
-/// Makes a module (System Programmer's Manual, "Memory module structure") of its name, its type
+/// Makes a module (System Programmer's Manual, "Memory module structure") from its name, its type
 /// (high half) and language (low half), its attributes (high half) and revision (low half), the
 /// size of its data memory in bytes, and its code.
 ///
-/// The name stands right behind the header and the code right behind the name; a program begins
-/// where its code does. A module of a type other than 1 has no size of data memory.
+/// The name follows the header and the code follows the name, without gaps; a program begins at the
+/// start of its code. A module of a type other than 1 has no size of data memory.
 ///
 /// # Errors
 ///
-/// `OutOfMemory` alone.
+/// Only `OutOfMemory`.
 pub fn module(
     alloc: Global,
     name: &Name,
@@ -64,12 +64,12 @@ pub fn module(
     module_with(alloc, name, header, code)
 }
 
-/// Makes a module of its name, the fields of its header and its code, as [`module`]; a program
+/// Makes a module from its name, the fields of its header and its code, like [`module`]; a program
 /// begins at the entry of the header.
 ///
 /// # Errors
 ///
-/// `OutOfMemory` alone.
+/// Only `OutOfMemory`.
 pub fn module_with(
     alloc: Global,
     name: &Name,
@@ -92,7 +92,7 @@ pub fn module_with(
     Ok(bytes)
 }
 
-// Puts the header of a module with `code_length` bytes of code behind these bytes.
+// Appends the header of a module with `code_length` bytes of code to these bytes.
 fn push_header(
     bytes: &mut Vec<u8>,
     name: &Name,
@@ -129,7 +129,7 @@ fn push_header(
     Ok(())
 }
 
-// How long the header of a module of this type is.
+// The length of the header of a module of this type.
 fn header_length(kind: u8) -> u8
     ensures { result ≡ kind_header_length kind }
 {
@@ -143,14 +143,14 @@ fn is_program(kind: u8) -> bool
     kind >> 4 == PROGRAM
 }
 
-// The byte that brings the exclusive or of the header's first nine bytes to `FF`.
+// The byte that makes the exclusive or of the header's first nine bytes `FF`.
 fn parity(front: &[u8]) -> u8
     ensures { result ≡ parity_of front.now }
 {
     0xff - front.iter().fold(0, |parity, byte| parity ^ *byte)
 }
 
-// Puts the name with bit 7 on its last character behind these bytes.
+// Appends the name, with bit 7 on its last character, to these bytes.
 fn push_name(bytes: &mut Vec<u8>, name: &Name) -> Result<(), AllocError>
     ensures bytes { IfOk result (λ _. bytes.new.items ≡ bytes.old.items ++ marked_name name.now) }
     ensures name { IsName name.now }
@@ -163,14 +163,14 @@ fn push_name(bytes: &mut Vec<u8>, name: &Name) -> Result<(), AllocError>
     Ok(())
 }
 
-// Puts a word, high byte first, behind these bytes.
+// Appends a word, high byte first, to these bytes.
 fn push_word(bytes: &mut Vec<u8>, word: u16) -> Result<(), AllocError>
     ensures { IfOk result (λ _. bytes.new.items ≡ bytes.old.items ++ word_bytes word) }
 {
     bytes.extend_from_slice(&word.to_be_bytes())
 }
 
-// Puts the three bytes of a CRC behind these.
+// Appends the three bytes of a CRC to these bytes.
 fn push_crc(bytes: &mut Vec<u8>, crc: u32) -> Result<(), AllocError>
     requires { crc < 16777216 }
     ensures { IfOk result (λ _. bytes.new.items ≡ bytes.old.items ++ crc_bytes crc) }

@@ -5,7 +5,7 @@ use Rattle.std.specs.Prelude.{ℕ, ◌+◌, ◌-◌, ◌*◌, nat_le, ◌&&◌, 
 abbrev pub is_digit : ℕ → Bool
 is_digit byte = nat_le 48 byte && nat_le byte 57
 
--- the number that these digits spell after digits of this value; nothing where a byte is no digit
+-- the number that these digits spell after digits of this value; nothing if a byte is not a digit
 abbrev pub number_after : ℕ → List ℕ → Option ℕ
 number_after value [] = Some value
 number_after value (byte ∷ bytes) =
@@ -16,12 +16,12 @@ abbrev pub number_of : List ℕ → Option ℕ
 number_of [] = None
 number_of (byte ∷ bytes) = number_after 0 (byte ∷ bytes)
 
--- the number, where it lies in the range
+-- the number, if it is in the range
 abbrev pub within : ℕ → ℕ → Option ℕ → Option ℕ
 within least most number =
     option_and_then (λ n. if nat_le least n && nat_le n most then Some n else None) number
 
--- the number that a hexadecimal digit of either case is
+-- the value of a hexadecimal digit of either case
 abbrev pub hex_digit : ℕ → Option ℕ
 hex_digit byte =
     if nat_le 48 byte && nat_le byte 57

@@ -1,13 +1,13 @@
 ghost use Rattle.std.specs.Prelude.{◌≡◌, ◌<◌, IfSome, option_map, min};
 ghost use Rattle.number_text.specs.Number.{number_after, number_of, within, hex_digit as hex_digit_lem};
 
-// What every number that does not fit 32 bits counts as.
+// The value used for every number that does not fit 32 bits.
 const TOO_LARGE: u64 = 1 << 32;
 
-/// The number that the bytes spell, where it lies from `least` to `most`; else none.
+/// The number that the bytes spell, if it is from `least` to `most`; otherwise none.
 ///
 /// A number is one or more decimal digits, of any length, and may begin with zeros (this project's
-/// own). So it is refused where it is out of range, and never because it is long.
+/// own). So it is refused if it is out of range, and never because of its length.
 pub fn read_number(digits: &[u8], least: u32, most: u32) -> Option<u32>
     ensures { result ≡ within least most (number_of digits.now) }
 {
@@ -21,7 +21,7 @@ pub fn read_number(digits: &[u8], least: u32, most: u32) -> Option<u32>
     Some(number as u32)
 }
 
-// The number that decimal digits spell, or `TOO_LARGE` where it is more.
+// The number that decimal digits spell, or `TOO_LARGE` if it is greater.
 fn capped_number(digits: &[u8]) -> Option<u64>
     ensures { result ≡ option_map (min 4294967296) (number_after 0 digits.now) }
 {
@@ -35,7 +35,7 @@ fn capped_number(digits: &[u8]) -> Option<u64>
     Some(number)
 }
 
-/// The number that a hexadecimal digit of either case is.
+/// The value of a hexadecimal digit of either case.
 pub fn hex_digit(byte: u8) -> Option<u8>
     ensures number { result ≡ hex_digit_lem byte }
     ensures below { IfSome result (λ number. number < 16) }

@@ -1,5 +1,5 @@
--- What the objects hold that appear in an event of a process, byte by byte (System Programmer's Manual, F$Load, F$Fork
--- and F$Chain).
+-- The contents of the objects that appear in an event of a process, byte by byte (System Programmer's Manual, F$Load,
+-- F$Fork and F$Chain).
 use Rattle.std.specs.Prelude.{◌≡◌, ◌⊎◌, ℕ, ◌+◌, ◌<◌, ◌≤◌, Option, Some, List, length, slice_get}
 use Rattle.proc_model.specs.Objects.{file_block, file_blocks}
 use Rattle.proc_rules.specs.Records.{free_process}
@@ -15,8 +15,8 @@ use Rattle.isolation_laws.specs.DataAreas.{HoldInOrder, area_bytes}
 use Rattle.isolation_laws.specs.Loading.{LoadsFile}
 use Rattle.machine_model.specs.State.{State}
 
--- a process starts this program, of the module that is meant: its data area has the pages that the module, B and Y ask
--- for, and its parameters are the Y bytes at U
+-- a process starts this program, of the module `which`: its data area has the pages that the module, B and Y ask for,
+-- and its parameters are the Y bytes at U
 pub record StartsProgram (m : Inner) (p : ℕ) (which : Option Entered) (program : Program) : Type 0 where
   pub call : AttemptsCall m p Call.Fork ⊎ AttemptsCall m p Call.Chain
   pub entered : which ≡ Some program.entered
@@ -41,8 +41,8 @@ HoldZeros first objects =
     (object : ℕ) (bytes : List ℕ) → first ≤ object → slice_get objects object ≡ Some bytes
     → (k byte : ℕ) → slice_get bytes k ≡ Some byte → byte ≡ 0
 
--- The objects from a number on are zeros if no map names a data area. Else they are in their order the data area of a
--- program that the process starts, of the module that is meant: zeros, and its parameters at the end.
+-- The objects from a number on are zeros if no map names a data area. Else they are, in order, the data area of a
+-- program that the process starts, of the module `which`: zeros, and its parameters at the end.
 abbrev pub HoldArea : Inner → ℕ → Option Entered → ℕ → List (List ℕ) → Type 0
 HoldArea m p which first objects =
     (MapsNoArea m p × HoldZeros first objects)
@@ -57,7 +57,7 @@ pub record HoldFileFirst (s : State) (p : ℕ) (objects : List (List ℕ)) : Typ
       → slice_get objects (length s.inner.memory.objects + k) ≡ Some (file_block file.bytes k)
   pub rest : HoldArea s.inner p (Some loaded.first) (length s.inner.memory.objects + file_blocks file.bytes) objects
 
--- what the objects hold that appear in an event of a process, if any appear
+-- the contents of the objects that appear in an event of a process, if any appear
 abbrev pub HoldNewObjects : State → ℕ → List (List ℕ) → Type 0
 HoldNewObjects s p objects =
     (length objects ≤ length s.inner.memory.objects)

@@ -1,4 +1,4 @@
-//! What the objects hold that appear in an event, byte by byte.
+//! The contents of the objects that appear in an event, byte by byte.
 #![tactic(auto)]
 
 pub mod objects;

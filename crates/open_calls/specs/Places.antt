@@ -1,4 +1,4 @@
--- Where path lists lead, as the code has it.
+-- The places to which path lists lead, as the code has them.
 use Rattle.std.specs.Prelude.{ℕ, ◌<◌, ⊤, Bool, Result, Ok, Err}
 use Rattle.device_table.specs.declared.devices.Dev.{Dev}
 use Rattle.device_table.specs.declared.devices.Dev.TheVariants as Dev
@@ -20,13 +20,13 @@ abbrev pub allows : Search → ℕ → Bool
 allows Existing mode = is_mode mode
 allows New mode = can_write mode
 
--- where a path list leads, by the place that was found
+-- the target of a path list, by the place that was found
 abbrev pub lead_to : Result Place ℕ → Lead
 lead_to (Ok (Terminal terminal)) = to_terminal terminal
 lead_to (Ok Pipe) = to_pipe
 lead_to (Err number) = nowhere number
 
--- a device is one of four if it is a terminal, and so is a place
+-- a terminal, as a device or as a place, is one of four
 abbrev pub IsDevice : Dev → Type 0
 IsDevice (Dev.Drive drive) = ⊤
 IsDevice (Dev.Term terminal) = terminal < 4

@@ -15,8 +15,8 @@ use user_names::name_fault::NameFault;
 ///
 /// # Errors
 ///
-/// `Unreadable` exactly if a byte that has to be read is in no named slot or past `FFFF`, else
-/// `NoName` exactly if a name that has to stand there is none.
+/// `Unreadable` exactly if a byte that must be read is in no named slot or past `FFFF`, else
+/// `NoName` exactly if there is no name where one is required.
 pub(crate) fn read_list(s: &mut ProcState, p: Pid, at: u16) -> Result<Listed, NameFault>
     requires { p.0 < 33 }
     ensures list { (m : Inner) → Represents s.old m

@@ -31,27 +31,27 @@ use path_lists::list::Listed;
 use proc_state::state::ProcState;
 use user_names::name_fault::NameFault;
 
-/// What a path list was found to name.
+/// What a path list names.
 #[derive(Clone, Copy, Debug, PartialEq, Eq)]
 pub struct Found {
-    /// Where a path can be opened.
+    /// The place at which a path can be opened.
     pub place: Place,
     /// The address just past the path list.
     pub next: u32,
 }
 
-/// I$Open: opens a path (System Programmer's Manual, I$Open). Takes the mode in A and the address of
-/// the path list in X; answers the number of the new path, the least free one, in A, and X past the
-/// list. Each opening of `/PIPE` makes a new pipe.
+/// I$Open: opens a path (System Programmer's Manual, I$Open). Takes the mode in A and the address
+/// of the path list in X; returns the number of the new path, the least free one, in A, and X past
+/// the list. Each opening of `/PIPE` makes a new pipe.
 ///
 /// # Errors
 ///
-/// E$BPAddr exactly if a byte of the path list that has to be read is in no named slot or past
-/// `FFFF`; else E$BMode exactly if the mode has none of read, write and execute; else E$BPNam exactly
-/// if a name that has to stand there is none, or a slash stands behind a terminal or a pipe; else
-/// E$PNNF exactly if the list starts at no device, E$MNF exactly if its device is not there or is a
-/// drive, and E$PthFul exactly if the process's sixteen numbers, the 64 system paths or, for a pipe,
-/// the sixteen pipes are in use. Nothing has changed then.
+/// E$BPAddr exactly if a byte of the path list that must be read is in no named slot or past
+/// `FFFF`, else E$BMode exactly if the mode has none of read, write and execute, else E$BPNam
+/// exactly if there is no name where one is required, or a slash follows the name of a terminal or
+/// a pipe. Else E$PNNF exactly if the list does not start at a device, E$MNF exactly if its device
+/// does not exist or is a drive, and E$PthFul exactly if the process's sixteen numbers, the 64
+/// system paths or, for a pipe, the sixteen pipes are in use. A refused call changes nothing.
 pub fn i_open(s: &mut ProcState, io: &mut IoState, p: Pid, devices: &Devices) -> CallEnd
     requires lives { IsLiving s.old.table p.0 }
     requires first { kept_at io.old p.0 ≡ None }
@@ -64,13 +64,13 @@ pub fn i_open(s: &mut ProcState, io: &mut IoState, p: Pid, devices: &Devices) ->
     open(s, io, p, devices, Search::Existing)
 }
 
-/// I$Create: makes a file (System Programmer's Manual, I$Create); of a terminal or a pipe it opens a
-/// path. Takes the mode in A and the address of the path list in X; answers as I$Open.
+/// I$Create: makes a file (System Programmer's Manual, I$Create); for a terminal or a pipe it opens
+/// a path. Takes the mode in A and the address of the path list in X; returns as I$Open does.
 ///
 /// # Errors
 ///
-/// As I$Open, but E$BMode exactly if the mode lacks write, and E$BPNam also if the last name is that
-/// of a directory itself or of the one above it, or the list is the root of a drive.
+/// As I$Open, but E$BMode exactly if the mode lacks write, and E$BPNam also if the last name is
+/// that of a directory itself or of its parent, or if the list is the root of a drive.
 pub fn i_create(s: &mut ProcState, io: &mut IoState, p: Pid, devices: &Devices) -> CallEnd
     requires lives { IsLiving s.old.table p.0 }
     requires first { kept_at io.old p.0 ≡ None }
@@ -83,7 +83,7 @@ pub fn i_create(s: &mut ProcState, io: &mut IoState, p: Pid, devices: &Devices) 
     open(s, io, p, devices, Search::New)
 }
 
-/// Opens a path on what the path list at X leads to, with the mode in A.
+/// Opens a path at the place to which the path list at X leads, with the mode in A.
 fn open(s: &mut ProcState, io: &mut IoState, p: Pid, devices: &Devices, search: Search) -> CallEnd
     requires lives { IsLiving s.old.table p.0 }
     requires first { kept_at io.old p.0 ≡ None }
@@ -177,11 +177,11 @@ fn open_at(s: &mut ProcState, io: &mut IoState, p: Pid, found: Found) -> CallEnd
     }
 }
 
-/// Opens a path of a process with this mode, and answers its number.
+/// Opens a path of a process with this mode, and returns its number.
 ///
 /// # Errors
 ///
-/// `PathsFull` if no number, no path or no pipe is free. Nothing has changed then.
+/// `PathsFull` if no number, no path or no pipe is free. Nothing changes then.
 fn begin(io: &mut IoState, p: Pid, place: Place, mode: u8) -> Result<u8, PathsFull>
     requires process { p.0 < 33 }
     requires there { IsPlace place }

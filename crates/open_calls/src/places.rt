@@ -1,4 +1,4 @@
-//! Where path lists lead.
+//! The places to which path lists lead.
 
 ghost use Rattle.std.specs.Prelude.{◌≡◌, Some, Ok, IfOk, vec_len};
 ghost use Rattle.io_rules.specs.Lead.{lead_of, nowhere, on_device, on_drive, makes_dots as makes_dots_lem, unless_slash as unless_slash_lem};
@@ -16,22 +16,22 @@ use path_lists::list::Listed;
 pub enum Search {
     /// What is there.
     Existing,
-    /// A place for what the call makes.
+    /// A place for a new file.
     New,
 }
 
-/// Where a path can be opened.
+/// A place at which a path can be opened.
 #[derive(Clone, Copy, Debug, PartialEq, Eq)]
 pub enum Place {
     /// On this terminal.
     Terminal(u8),
-    /// On a pipe that is still to be made.
+    /// On a pipe that is not made yet.
     Pipe,
 }
 
 impl Search {
-    /// May a path be opened with this mode (System Programmer's Manual, I$Open and I$Create)? What is
-    /// made has to be written.
+    /// May a path be opened with this mode (System Programmer's Manual, I$Open and I$Create)? A new
+    /// file needs write.
     pub fn allows(self, mode: u8) -> bool
         ensures { result ≡ allows_lem self mode }
     {
@@ -46,11 +46,11 @@ impl Search {
 ///
 /// # Errors
 ///
-/// E$BPNam exactly if what is made would have the name of a directory itself or of the one above it.
-/// Else E$PNNF exactly if the list starts at no device, since no process has a directory. Else E$MNF
-/// exactly if its device is not there, or is a drive and nothing is made at its root, since none is
-/// mounted. Else E$BPNam exactly if something is made at the root of a drive, or a slash stands behind
-/// a terminal or a pipe.
+/// E$BPNam exactly if a new file would have the name of a directory itself or of its parent. Else
+/// E$PNNF exactly if the list does not start at a device, since no process has a directory. Else
+/// E$MNF exactly if its device does not exist, or is a drive and nothing is made at its root, since
+/// none is mounted. Else E$BPNam exactly if something is made at the root of a drive, or a slash
+/// follows the name of a terminal or a pipe.
 pub fn place_of(search: Search, devices: &Devices, list: &Listed) -> Result<Place, u8>
     ensures lead { (named : PathList) → list.now ≡ listed named
         → lead_to result ≡ lead_of (search_of search) (vec_len devices.now.drives)
@@ -69,7 +69,7 @@ pub fn place_of(search: Search, devices: &Devices, list: &Listed) -> Result<Plac
     }
 }
 
-/// Would something be made whose name is that of a directory itself or of the one above it?
+/// Would the new file have the name of a directory itself or of its parent?
 fn makes_dots(search: Search, list: &Listed) -> bool
     ensures { (named : PathList) → list.now ≡ listed named
         → result ≡ makes_dots_lem (search_of search) named }
@@ -80,7 +80,7 @@ fn makes_dots(search: Search, list: &Listed) -> bool
     }
 }
 
-/// The place to which a path list leads that starts at this device.
+/// The place to which a path list that starts at this device leads.
 fn place_on(search: Search, device: Dev, list: &Listed) -> Result<Place, u8>
     ensures lead { (named : PathList) → list.now ≡ listed named
         → lead_to result ≡ on_device (search_of search) named (Some device) }
@@ -93,8 +93,8 @@ fn place_on(search: Search, device: Dev, list: &Listed) -> Result<Place, u8>
     }
 }
 
-/// The number with which a path list is refused that starts at a drive: none is mounted, but nothing
-/// is made at a root.
+/// The error number for a path list that starts at a drive: no drive is mounted, but nothing is
+/// made at a root.
 fn refusal_on_drive(search: Search, list: &Listed) -> u8
     ensures { (named : PathList) → list.now ≡ listed named
         → nowhere result ≡ on_drive (search_of search) named }
@@ -105,7 +105,7 @@ fn refusal_on_drive(search: Search, list: &Listed) -> u8
     }
 }
 
-/// The place, if no slash stands behind it in the path list.
+/// The place, if no slash follows its name in the path list.
 fn unless_slash(list: &Listed, place: Place) -> Result<Place, u8>
     ensures lead { (named : PathList) → list.now ≡ listed named
         → lead_to result ≡ unless_slash_lem named (lead_to (Ok place)) }

@@ -6,11 +6,11 @@ use Rattle.clap.specs.declared.builder.action.ArgAction.TheVariants.{Append, Set
 use Rattle.clap.specs.declared.builder.value_parser.ValueParser.TheVariants.{NonEmptyString}
 use Rattle.word_options.specs.Given.{Given, GivenOption}
 
--- the arguments, whose id is no option's name
+-- the rule of the arguments, whose id is not the name of an option
 abbrev pub arguments_rule : Rule
 arguments_rule = record (new_rule []) { action = Some Append }
 
--- an option that stands at most once, and whose value is not empty
+-- an option that occurs at most once, and whose value is not empty
 abbrev pub option_rule : List ℕ → Rule
 option_rule name =
     record (new_rule name) { long = Some name; action = Some Set; parser = Some NonEmptyString }
@@ -25,7 +25,7 @@ app_with names = record (new_app []) {
   };
 }
 
--- the option of a row of the matches: none where the row is that of the arguments
+-- the option of a row of the matches: none if the row is that of the arguments
 abbrev pub option_of : Row → List GivenOption
 option_of row =
     if bytes_eq row.id [] then [] else map (λ value. record { name = row.id; value = value }) (take 1 row.values)

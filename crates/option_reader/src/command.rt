@@ -25,7 +25,7 @@ pub(crate) fn command_with<'a>(
     Ok(command)
 }
 
-/// The option of this name, which stands at most once and whose value is not empty.
+/// The option of this name, which occurs at most once and whose value is not empty.
 fn option_named<'a>(alloc: Global, name: &'a str) -> Arg<'a>
     ensures rule { rule_of result ≡ option_rule name.now }
     ensures local { result.global ≡ false }

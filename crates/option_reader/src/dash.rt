@@ -1,7 +1,7 @@
 ghost use Rattle.std.specs.Prelude.{◌≡◌, false, map, string_bytes};
 ghost use Rattle.option_reader.specs.Dash.{has_dash_value as has_dash_value_lem, waits_for_value as waits_for_value_lem};
 
-/// Does a word `-` stand where an option waits for its value? `clap` takes it for the value.
+/// Is a word `-` in the place of an option's value? `clap` takes it for the value.
 pub(crate) fn has_dash_value(words: &[String]) -> bool
     ensures { result ≡ has_dash_value_lem false (map string_bytes words.now) }
 {
@@ -18,7 +18,7 @@ pub(crate) fn has_dash_value(words: &[String]) -> bool
     false
 }
 
-// Is the word `--name`, whose value is the next word?
+// Is the word `--name`, so that its value is the next word?
 fn waits_for_value(word: &str) -> bool
     ensures { result ≡ waits_for_value_lem word.now }
 {

@@ -29,7 +29,7 @@ impl<'a> Model for GivenWords<'a> {
 }
 
 impl<'a> GivenWords<'a> {
-    /// The value of an option, or nothing where the option was not given.
+    /// The value of an option, or nothing if the option is not given.
     pub fn value(&self, name: &str) -> Option<&'a str>
         requires { name.now ≢ [] }
         ensures { option_map (λ value. value.now) result ≡ value_of self.now name.now }
@@ -37,7 +37,7 @@ impl<'a> GivenWords<'a> {
         self.matches.get_str(name)
     }
 
-    /// The argument, or nothing where there is none or more than one.
+    /// The argument, or nothing if there is none or more than one.
     pub fn only_argument(&self) -> Option<&'a str>
         ensures { option_map (λ argument. argument.now) result ≡ only_argument_lem self.now }
     {
@@ -47,7 +47,7 @@ impl<'a> GivenWords<'a> {
         }
     }
 
-    /// The argument at a place, from 0 in the order of the words, or nothing where there are fewer.
+    /// The argument at a place, from 0 in the order of the words, or nothing if there are fewer.
     pub fn argument(&self, place: usize) -> Option<&'a str>
         ensures { option_map (λ argument. argument.now) result
             ≡ slice_get self.now.arguments place }
@@ -56,9 +56,9 @@ impl<'a> GivenWords<'a> {
     }
 }
 
-/// Reads the words behind a command, whose options have these names (this project's own).
+/// Reads the words after a command with options of these names (this project's own).
 ///
-/// The answer is `None` where the words are refused.
+/// The answer is `None` if the words are refused.
 ///
 /// # Errors
 ///

@@ -1,4 +1,4 @@
-//! The words behind a command, read by `clap` as options with their values, and arguments.
+//! The words after a command, read by `clap` as options with their values, and arguments.
 #![tactic(auto)]
 
 mod command;

@@ -28,10 +28,10 @@ use std::env;
 use std::io::{self, ErrorKind};
 use std::process::ExitCode;
 
-/// The status where a word is no text, and so the words are no command line.
+/// The status if a word is not a text, so the words are not a command line.
 const NO_COMMAND: u8 = 1;
 
-/// The status where there is no memory for the words or the devices.
+/// The status if there is no memory for the words or the devices.
 const NO_MEMORY: u8 = 4;
 
 fn main(rt: HostRuntime) -> ExitCode {
@@ -58,8 +58,8 @@ fn run(rt: HostRuntime) -> io::Result<u8> {
     run_on(rt, words.as_slice(), drives)
 }
 
-/// Does what the words say on these drives, of which there are four without an image, and on four
-/// terminals without keys.
+/// Does what the words say on these drives, four without an image, and on four terminals without
+/// keys.
 fn run_on(rt: HostRuntime, words: &[String], drives: Vec<Box<dyn BlockDriver>>) -> io::Result<u8>
     requires { HaveRoom 4 (drive_views ⟦<dyn BlockDriver as BlockDriver>⟧ drives.items) }
 {
@@ -73,8 +73,8 @@ fn run_on(rt: HostRuntime, words: &[String], drives: Vec<Box<dyn BlockDriver>>) 
     Ok(program(alloc, words, &mut RealHost::new(rt), &mut devices))
 }
 
-/// The program over any host: does what the words say, on these devices, four drives without an image
-/// and one to four terminals without keys. The status is that of the top call.
+/// The program over any host: does what the words say, on these devices, four drives without an
+/// image and one to four terminals without keys. The status is that of the top call.
 pub fn program<H: Host>(alloc: Global, words: &[String], host: &mut H, devices: &mut Devices) -> u8
     requires terminals { AreUnloaded
         (terminal_states ⟦<dyn CharDriver as CharDriver>⟧ devices.old.terms.items) }
@@ -89,7 +89,7 @@ pub fn program<H: Host>(alloc: Global, words: &[String], host: &mut H, devices: 
     os9_main(alloc, words, host, devices)
 }
 
-/// Reports that the words are no command line.
+/// Reports that the words are not a command line.
 fn refuse_words(rt: HostRuntime) -> u8 {
     let _ = report(&mut RealHost::new(rt), &Message::Words);
     NO_COMMAND

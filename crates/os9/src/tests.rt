@@ -78,7 +78,7 @@ fn bytes_of<'a>(files: &'a [HostFile], name: &str) -> &'a [u8] {
     &[]
 }
 
-/// The words of a line, which are what stands between its blanks; an empty line has none.
+/// The words of a line, separated by its blanks; an empty line has none.
 fn words_of(alloc: Global, line: &str) -> Result<Vec<String>, AllocError> {
     let mut words = Vec::new(alloc);
     for word in line.split_whitespace() {
@@ -110,7 +110,7 @@ fn call(alloc: Global, files: Vec<HostFile>, step: &Step) -> Result<Shown, Alloc
     call_with(alloc, term, faults(alloc, step.drive)?, &words, host)
 }
 
-/// The same with this one as TERM, where these calls of D0 fail.
+/// The same with this terminal as TERM, and with these failing calls of D0.
 fn call_with(
     alloc: Global,
     term: Box<dyn CharDriver>,

@@ -1,7 +1,7 @@
 -- The memory that a program can reach.
 use Rattle.std.specs.Prelude.{◌≡◌, ℕ, ◌+◌, ◌-◌, ◌<◌, ◌≤◌, ◌==◌, ◌&&◌, nat_lt, nat_le, Bool, Option, Some, IsSome, List, length, slice_get, if◌then◌else◌}
 
--- the byte at each address, or nothing where the address is not named
+-- the byte at each address, or nothing if the address is not named
 abbrev pub Cells : Type 0
 Cells = ℕ → Option ℕ
 
@@ -9,7 +9,7 @@ Cells = ℕ → Option ℕ
 abbrev pub put_cell : Cells → ℕ → ℕ → Cells
 put_cell cells at byte address = if address == at then Some byte else cells address
 
--- an address lies among this many from `at` on
+-- an address is among this many from `at` on
 abbrev pub is_in_range : ℕ → ℕ → ℕ → Bool
 is_in_range at count address = nat_le at address && nat_lt address (at + count)
 

@@ -4,7 +4,7 @@ use Rattle.std.proofs.Common.{sym, ap, ◌∙◌, arith, length-take}
 use Rattle.os9_base.specs.Name.{IsName, padded_name}
 use Rattle.os9_base.specs.declared.name.Name.TheInside.{Inside}
 
--- the name stands at the front of its field, and zeros fill the rest
+-- the name is at the front of its field, and zeros fill the rest
 pub record IsNameField (field : Inside) : Type 0 where
   pub holds_name : IsName (take field.len field.characters)
   pub in_field : field.len ≤ length field.characters
@@ -14,7 +14,7 @@ pub record IsNameField (field : Inside) : Type 0 where
 abbrev pub name_field : List ℕ → Inside
 name_field name = record { characters = padded_name name; len = length name }
 
--- the field is told by the name in it
+-- the name in a field determines the field
 pub name_field-view : (field : Inside) → IsNameField field → name_field (take field.len field.characters) ≡ field
 name_field-view field h =
     let e : length (take field.len field.characters)

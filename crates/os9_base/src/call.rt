@@ -1,7 +1,7 @@
 use std::alloc::AllocError;
 use thiserror::Error;
 
-/// Want of memory, where it is the only way in which a call can fail.
+/// Out of memory, for calls that can fail in no other way.
 #[derive(Clone, Copy, Debug, PartialEq, Eq, Error)]
 #[error("no memory")]
 pub struct OutOfMemory;
@@ -23,6 +23,6 @@ pub enum CallEnd {
     Wait,
     /// The process has ended.
     Ended,
-    /// Memory is wanting, and the run ends.
+    /// Out of memory, and the run ends.
     NoMemory,
 }

@@ -23,7 +23,7 @@ pub const F_SEND: u8 = 0x08;
 pub const F_ICPT: u8 = 0x09;
 /// F$Sleep: sleeps.
 pub const F_SLEEP: u8 = 0x0A;
-/// F$ID: asks for the process number and the user.
+/// F$ID: returns the process number and the user.
 pub const F_ID: u8 = 0x0C;
 /// F$SPrior: sets a priority.
 pub const F_SPRIOR: u8 = 0x0D;
@@ -33,7 +33,7 @@ pub const F_PERR: u8 = 0x0F;
 pub const F_PRSNAM: u8 = 0x10;
 /// F$CmpNam: compares two names.
 pub const F_CMPNAM: u8 = 0x11;
-/// F$Time: asks for the time.
+/// F$Time: returns the time.
 pub const F_TIME: u8 = 0x15;
 /// F$STime: sets the time.
 pub const F_STIME: u8 = 0x16;
@@ -65,7 +65,7 @@ pub const I_WRITE: u8 = 0x8A;
 pub const I_READLN: u8 = 0x8B;
 /// I$WritLn: writes a line.
 pub const I_WRITLN: u8 = 0x8C;
-/// I$GetStt: asks for a status.
+/// I$GetStt: returns a status.
 pub const I_GETSTT: u8 = 0x8D;
 /// I$SetStt: sets a status.
 pub const I_SETSTT: u8 = 0x8E;

@@ -1,9 +1,9 @@
-//! The numbers of errors (System Programmer's Manual, "Error codes"), as a refused call puts them in
-//! B, and the statuses with which a process is ended.
+//! The numbers of errors (System Programmer's Manual, "Error codes"), which a refused call returns
+//! in B, and the statuses with which a process is ended.
 
 /// E$PthFul: no path number is left.
 pub const E_PTHFUL: u8 = 200;
-/// E$BPNum: the number names no path.
+/// E$BPNum: the number does not name a path.
 pub const E_BPNUM: u8 = 201;
 /// E$BMode: the path or call lacks the mode.
 pub const E_BMODE: u8 = 203;
@@ -33,7 +33,7 @@ pub const E_CEF: u8 = 218;
 pub const E_MNF: u8 = 221;
 /// E$IPrcID: there is no such process.
 pub const E_IPRCID: u8 = 224;
-/// The clock packet is no date and time (this project's own).
+/// The clock packet is not a date and time (this project's own).
 pub const E_BADTIME: u8 = 225;
 /// E$NoChld: the process has no children.
 pub const E_NOCHLD: u8 = 226;

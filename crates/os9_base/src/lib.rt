@@ -1,5 +1,5 @@
-//! What every layer speaks of: process numbers, registers, the clock packet, names, and the
-//! memory that a program can reach.
+//! The terms of every layer: process numbers, registers, the clock packet, names, and the memory
+//! that a program can reach.
 #![tactic(auto)]
 
 pub mod call;

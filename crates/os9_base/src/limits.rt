@@ -14,7 +14,7 @@ pub const MOST_GROUP_BYTES: u16 = 57_344;
 pub const MODULE_ENTRIES: u8 = 64;
 /// Places for process records, by number from 0.
 pub const PROCESS_PLACES: u8 = 33;
-/// The tick at which no slice is begun any more.
+/// The tick at which no slice begins any more.
 pub const LAST_TICK: u32 = 4_294_000_000;
 /// The most instructions of a slice.
 pub const MOST_INSTRUCTIONS: u32 = 1_000_000;

@@ -2,17 +2,17 @@ ghost use Rattle.std.specs.Prelude.{◌≡◌, IsSome, IsTrue, ◌+◌, ◌≤�
 ghost use Rattle.std.specs.Bool.{OnTrue, OnFalse};
 ghost use Rattle.os9_base.specs.Cells.{Cells, put_cell, store_cells, FitsIn, Holds};
 
-/// The bus of a processor: bytes at addresses, of which some are named.
+/// The bus of a processor: bytes at addresses, some of which are named.
 ///
-/// `cells` is all that a program can see of it: the byte at an address, or nothing where the
-/// address is not named. `same_beside` says that whatever else the value holds is as it was.
+/// `cells` is all that a program can see of it: the byte at an address, or nothing if the address
+/// is not named. `same_beside` says that everything else in the value is unchanged.
 pub trait Bus {
     ghost cells: { Self → Cells };
 
     ghost same_beside: { Self → Self → Type 0 };
 
-    /// Bytes from an address on that lie together, as many as the bus has there at hand and none past
-    /// `FFFF`. There may always be none, so it tells nothing of what is named.
+    /// Bytes from an address on that lie together: those that the bus has at hand there, none past
+    /// `FFFF`. There may always be none, so their number says nothing about what is named.
     fn slice_from(&self, at: u16) -> &[u8]
         ensures fits { at + length result.now ≤ 65536 }
         ensures bytes { Holds (cells self.now) at result.now };
@@ -21,15 +21,15 @@ pub trait Bus {
     fn read(&self, at: u16) -> Option<u8>
         ensures { result ≡ cells self.now at };
 
-    /// Makes the byte at a named address this one, and leaves every other byte, and which
-    /// addresses are named.
+    /// Sets the byte at a named address to this one. Leaves every other byte, and which addresses
+    /// are named, unchanged.
     fn put(&mut self, at: u16, byte: u8)
         requires { IsSome (cells self.old at) }
         ensures changed { cells self.new ≡ put_cell (cells self.old) at byte }
         ensures beside { same_beside self.old self.new };
 
-    /// Makes the bytes from an address on these, if they lie together there, and answers whether it
-    /// did. It may always answer false, and has then left every byte as it was.
+    /// Sets the bytes from an address on to these, if they lie together there, and returns whether
+    /// it did. It may always return false, and has then left every byte unchanged.
     fn store_slice(&mut self, at: u16, from: &[u8]) -> bool
         ensures fits { OnTrue result (FitsIn (cells self.old) at (length from.now)) }
         ensures stored { OnTrue result (cells self.new ≡ store_cells (cells self.old) at from.now) }
@@ -59,8 +59,8 @@ pub trait UserMem {
         requires { FitsIn (cells self.now) at (length into.old) }
         ensures { Holds (cells self.now) at into.new };
 
-    /// Makes the bytes from `at` on those of `from`, and leaves every other byte, and which
-    /// addresses are named.
+    /// Sets the bytes from `at` on to those of `from`. Leaves every other byte, and which addresses
+    /// are named, unchanged.
     fn store(&mut self, at: u16, from: &[u8])
         requires { FitsIn (cells self.old) at (length from.now) }
         ensures changed { cells self.new ≡ store_cells (cells self.old) at from.now }

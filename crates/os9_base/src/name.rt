@@ -5,16 +5,16 @@ ghost use Rattle.os9_base.specs.Name.{lower as lower_lem, low_bits as low_bits_l
 use std::marker::Model;
 use thiserror::Error;
 
-/// The most characters that a name has.
+/// The most characters of a name.
 const LONGEST: usize = 29;
 
-/// The bytes are no name.
+/// The bytes are not a name.
 #[derive(Clone, Copy, Debug, PartialEq, Eq, Error)]
 #[error("bad name")]
 pub struct BadName;
 
-/// A name of a file, a device or a module: 1 to 29 characters, each from `!` to `~` but `/`.
-/// A clause sees the list of its characters, without bit 7.
+/// A name of a file, a device or a module: 1 to 29 characters, each from `!` to `~` except `/`. A
+/// clause sees the list of its characters, without bit 7.
 #[derive(Clone, Copy, Debug)]
 pub struct Name {
     characters: [u8; 29],
@@ -38,7 +38,7 @@ impl Model for Name {
 }
 
 impl Name {
-    /// How many characters the name has, from 1 to 29.
+    /// The number of characters of the name, from 1 to 29.
     pub fn len(&self) -> u8
         ensures length { result ≡ length self.now }
         ensures name { IsName self.now }
@@ -56,13 +56,13 @@ impl Name {
     }
 }
 
-/// Reads the name that a path list or a call gives at its front (System Programmer's Manual,
+/// Reads the name at the front of the bytes of a path list or a call (System Programmer's Manual,
 /// F$PrsNam): the longest run of letters, digits, `_` and `.`, which a character with bit 7 ends.
 /// No more than 30 bytes are looked at.
 ///
 /// # Errors
 ///
-/// `BadName` where the run is empty or has more than 29 characters.
+/// `BadName` if the run is empty or has more than 29 characters.
 pub fn parse_name(bytes: &[u8]) -> Result<Name, BadName>
     ensures { result_ok result ≡ parsed_name bytes.now }
 {
@@ -74,11 +74,11 @@ pub fn parse_name(bytes: &[u8]) -> Result<Name, BadName>
 }
 
 /// Reads the name of a module header or of a directory entry (System Programmer's Manual, module
-/// headers; RBF directories): 1 to 29 characters from `!` to `~` but `/`, the last with bit 7.
+/// headers; RBF directories): 1 to 29 characters from `!` to `~` except `/`, the last with bit 7.
 ///
 /// # Errors
 ///
-/// `BadName` where the bytes do not begin with such a name.
+/// `BadName` if the bytes do not begin with such a name.
 pub fn header_name(bytes: &[u8]) -> Result<Name, BadName>
     ensures { result_ok result ≡ stored_name bytes.now }
 {
@@ -88,7 +88,7 @@ pub fn header_name(bytes: &[u8]) -> Result<Name, BadName>
     }
 }
 
-/// Do two names agree, with the case of letters ignored?
+/// Do two names agree, regardless of the case of letters?
 pub fn same_name(a: &Name, b: &Name) -> bool
     ensures { IsTrue result ↔ SameName a.now b.now }
 {
@@ -99,7 +99,7 @@ pub fn same_name(a: &Name, b: &Name) -> bool
         )
 }
 
-/// Do two texts of one length agree, with the case of letters ignored?
+/// Do two texts of the same length agree, regardless of the case of letters?
 fn same_letters(a: &[u8], b: &[u8]) -> bool
     requires { length a.now ≡ length b.now }
     ensures { IsTrue result ↔ (map lower_lem a.now ≡ map lower_lem b.now) }
@@ -112,7 +112,7 @@ fn same_letters(a: &[u8], b: &[u8]) -> bool
     true
 }
 
-/// A letter in lower case, any other character as it is.
+/// A letter in lower case, or any other character unchanged.
 fn lower(character: u8) -> u8
     ensures { result ≡ lower_lem character }
 {
@@ -143,7 +143,7 @@ fn is_stored_character(character: u8) -> bool
     character >= 33 && character <= 126 && character != b'/'
 }
 
-/// How many bytes at the front make the run of name characters, or 30 where there are more.
+/// The number of bytes in the run of name characters at the front, or 30 if there are more.
 fn run_length(bytes: &[u8]) -> usize
     ensures within { result ≤ length bytes.now }
     ensures short { result ≤ 29 → name_run bytes.now ≡ map low_bits_lem (take result bytes.now) }
@@ -162,7 +162,8 @@ fn run_length(bytes: &[u8]) -> usize
     bytes.len()
 }
 
-/// How many bytes at the front are a name up to and with its last character, if they begin with one.
+/// The number of bytes of the name at the front, up to and with its last character, if the bytes
+/// begin with one.
 fn marked_length(bytes: &[u8]) -> Option<usize>
     ensures none { result ≡ None → stored_name bytes.now ≡ None }
     ensures some { IfSome result (λ len. EndsName bytes.now len) }
@@ -181,7 +182,7 @@ fn marked_length(bytes: &[u8]) -> Option<usize>
     None
 }
 
-/// The name that these bytes spell, with bit 7 taken off.
+/// The name that these bytes spell, with bit 7 removed.
 fn without_mark(run: &[u8]) -> Name
     requires { IsName (map low_bits_lem run.now) }
     ensures { result ≡ map low_bits_lem run.now }

@@ -1,4 +1,4 @@
-/// A process number, from 2 to 32; 0 stands for no process (a process's parent may be 0).
+/// A process number, from 2 to 32; 0 means no process (a process's parent may be 0).
 #[derive(Clone, Copy, Debug, PartialEq, Eq)]
 pub struct Pid(pub u8);
 

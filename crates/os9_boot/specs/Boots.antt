@@ -1,4 +1,4 @@
--- What comes of a command that runs a machine on what its files hold (Level Two manual, "Booting"; the order of the
+-- The outcome of a command that runs a machine on what its files hold (Level Two manual, "Booting"; the order of the
 -- tests is this project's own).
 use Rattle.std.specs.Prelude.{◌≡◌, ◌⊎◌, ℕ, ⊤, Bool, true, false, Err, List, [], length, All}
 use Rattle.os9_outer.specs.Host.{Files, file_contents, IfObserved}
@@ -24,7 +24,7 @@ use Rattle.os9_boot.specs.Images.{LackBootFile}
 use Rattle.command_files.specs.Reading.{BreaksSlices}
 use Rattle.command_files.specs.Setup.{HaveTexts, SetsUpBoot, SetsUpRun, script_of}
 
--- ---- of a machine that is set up so
+-- ---- the outcome of a machine with a setup
 
 -- it ran to its end: a process lives then or none does, the output has gained what it wrote, and its images are
 -- written under these names
@@ -37,7 +37,7 @@ pub record RunsToEnd (setup : Setup) (names : List (List ℕ)) (lives : Bool) (b
   pub output : after.out ≡ stream_with before.out written
   pub files : IfObserved (WritesAll names images) before.files after.files
 
--- it ran to its end, and its images are written up to that of this number, which is not
+-- it ran to its end, and its images are written up to that of this number, whose write failed
 pub record RunsUnwritten (setup : Setup) (names : List (List ℕ)) (number : ℕ) (before after : World) : Type 0 where
   pub t : State
   pub written : List ℕ
@@ -46,7 +46,7 @@ pub record RunsUnwritten (setup : Setup) (names : List (List ℕ)) (number : ℕ
   pub output : after.out ≡ stream_with before.out written
   pub files : IfObserved (WritesUpTo number names images) before.files after.files
 
--- nothing was run, and nothing has changed that can be observed but how often drives were called
+-- nothing was run, and nothing observable has changed but the number of calls of drives
 pub record IsUndone (before after : World) : Type 0 where
   pub unrun : IsUnrun before after
   pub files : after.files ≡ before.files
@@ -61,8 +61,8 @@ pub record RunsUnended (setup : Setup) (before after : World) : Type 0 where
 abbrev pub IfAllObserved : World → Type 0 → Type 0
 IfAllObserved before fact = All IsObserved before.devices.terms → fact
 
--- What comes of it, by how the command ends that writes its images under these names. What it ran is said if all
--- terminals are observed, what its boot file is refused for in any case. That memory may be out before anything is run
+-- Its outcome, by the end of the command, which writes its images under these names. What it ran is said if all
+-- terminals are observed, and why its boot file is refused in any case. That memory may be out before anything is run
 -- is said of the command.
 abbrev pub MachineComesTo : Setup → List (List ℕ) → World → World → End → Type 0
 MachineComesTo setup names before after Ended = IfAllObserved before (RunsToEnd setup names false before after)
@@ -80,7 +80,7 @@ MachineComesTo setup names before after end =
 
 -- ---- of a run and of a boot
 
--- a text is refused, with its first line that breaks a rule: the script, or after an accepted script the slice text
+-- a text is refused, with its first bad line: the script, or after an accepted script the slice text
 abbrev pub RefusesText : Files → RunWords → ℕ → Input → ℕ → Type 0
 RefusesText files run terminals Script line = keys_of terminals (script_of files run) ≡ Err line
 RefusesText files run terminals input line =
@@ -91,12 +91,12 @@ abbrev pub AcceptsTexts : Files → RunWords → ℕ → Type 0
 AcceptsTexts files run terminals =
     (keys : List ScriptKey) × (slices : List ℕ) × HaveTexts files run terminals keys slices
 
--- a machine is set up so, and this comes of it
+-- a machine has this setup, and this outcome
 abbrev pub SetUpComesTo : (Setup → Type 0) → List (List ℕ) → World → World → End → Type 0
 SetUpComesTo is_so names before after end =
     (setup : Setup) × is_so setup × MachineComesTo setup names before after end
 
--- what comes of a run, by how it ends; if memory is out nothing was run, or the machine was
+-- the outcome of a run, by its end; if memory is out nothing was run, or the machine was
 abbrev pub RunComesTo : Files → RunWords → World → World → End → Type 0
 RunComesTo files run before after (CannotRead input) = ⊤
 RunComesTo files run before after (BadText input line) =
@@ -107,7 +107,7 @@ RunComesTo files run before after NoMemory =
 RunComesTo files run before after end =
     SetUpComesTo (SetsUpRun files run (length before.devices.terms)) [] before after end
 
--- what comes of a boot
+-- the outcome of a boot
 abbrev pub BootComesTo : Files → RunWords → World → World → End → Type 0
 BootComesTo files boot before after (CannotRead input) = ⊤
 BootComesTo files boot before after (BadText input line) =

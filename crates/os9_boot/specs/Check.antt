@@ -28,7 +28,7 @@ abbrev pub PrintsPartly : List ℕ → World → World → Type 0
 PrintsPartly image before after =
     (v : DiskVolume) × Vol image v × GainsPrefix before.out (counts_of (image_geometry image) v) after.out
 
--- what comes of a check of this image, by how it ends
+-- the outcome of a check of this image, by its end
 abbrev pub CheckComesTo : List ℕ → World → World → End → Type 0
 CheckComesTo image before after Ended =
     (v : DiskVolume) × Vol image v × (after.out ≡ stream_with before.out (counts_of (image_geometry image) v))
@@ -37,7 +37,7 @@ CheckComesTo image before after CannotWrite = PrintsPartly image before after
 CheckComesTo image before after NoMemory = (after.out ≡ before.out) ⊎ PrintsPartly image before after
 CheckComesTo image before after end = ⊤
 
--- how a line came out, by how the command that printed it ended
+-- how much of a line was printed, by the end of the command that printed it
 abbrev pub PrintsAs : List ℕ → World → World → End → Type 0
 PrintsAs line before after Ended = after.out ≡ stream_with before.out line
 PrintsAs line before after CannotWrite = GainsPrefix before.out line after.out

@@ -5,11 +5,11 @@ use Rattle.command_files.specs.declared.status.End.{End}
 use Rattle.os9_boot.specs.Host.{FailsAsTold}
 use Rattle.os9_boot.specs.Meaning.{meaning}
 
--- A command was done, and ended so.
+-- A command was done, with this end.
 pub record CommandCall (command : Command) (before after : World) (end : End) : Type 0 where
-  -- what came of it, where that can be observed
+  -- its outcome, if that can be observed
   pub comes : (meaning command).comes before after end
-  -- and what is so, observed or not
+  -- and what holds, observed or not
   pub may : (meaning command).may end
   pub devices : (meaning command).devices before after end
   pub host : FailsAsTold command end before after

@@ -1,4 +1,4 @@
--- How a command ends whose stress ended so.
+-- The end of a command, by the end of its stress.
 use Rattle.stress_run.specs.declared.stress.StressEnd.{StressEnd}
 use Rattle.command_files.specs.declared.status.End.{End}
 use Rattle.command_files.specs.declared.status.End.TheVariants.{Ended, Living, CannotWrite, NoMemory, DriveFailed}

@@ -8,14 +8,14 @@ use Rattle.command_files.specs.declared.status.Input.{Input}
 use Rattle.command_files.specs.declared.status.End.{End}
 use Rattle.os9_boot.specs.Meaning.{meaning}
 
--- this name as it is shown: without one there is nothing to show
+-- this name as it is shown: nothing if there is none
 abbrev pub shown_name : Command → Input → List ℕ
 shown_name command input = unwrap_or ((meaning command).file_name input) []
 
--- the name of the file of which the line of an end speaks
+-- the name of the file that the line of an end names
 abbrev pub end_name : Command → End → List ℕ
 end_name command end = option_map_or (shown_name command) (named_by end) []
 
--- the line that says why a command ended; no bytes if none does
+-- the line that says why a command ended; no bytes if there is none
 abbrev pub end_line : Command → End → List ℕ
 end_line command end = line_with (end_name command end) end

@@ -4,8 +4,8 @@ use Rattle.command_files.specs.FileNames.{IsFront}
 use Rattle.command_files.specs.declared.status.End.{End}
 use Rattle.command_files.specs.declared.status.End.TheVariants.{Ended, Living, CannotWriteImage, NoMemory}
 
--- a boot that ended so has written these of the images of these names: all behind a run that came to its end, up to
--- the one that could not be written, some if memory was out, and else none
+-- a boot with this end has written these of the images of these names: all after a run to its end, up to the one that
+-- could not be written, some if memory was out, and else none
 abbrev pub BootWrites : List (List ℕ) → End → List (List ℕ) → Type 0
 BootWrites names Ended written = written ≡ names
 BootWrites names Living written = written ≡ names

@@ -7,7 +7,7 @@ use Rattle.command_files.specs.declared.status.End.{End}
 use Rattle.os9_boot.specs.FileNames.{BootWrites}
 use Rattle.os9_boot.specs.Meaning.{meaning}
 
--- the files that a command has read which ended so
+-- the files that a command with this end has read
 abbrev pub Reads : Command → End → List (List ℕ) → Type 0
 Reads command end read = ReadsNamed (meaning command).file_name (meaning command).inputs end read
 

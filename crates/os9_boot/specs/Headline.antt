@@ -25,9 +25,9 @@ pub record IsAccepted (files : Files) (boot : RunWords) (terminals : ℕ) : Type
   pub sets : SetsUpBoot files boot terminals setup
   pub starts : (fault : BootFault) → ¬ Refuses setup.file setup.blocks fault
 
--- A boot is one run of the machine: it has put out what that writes, its images hold the volumes of the last state, and
--- the status says whether a process lives then. An image is as it was, byte for byte, if no event of the run asks for a
--- change of the volume in its drive. The terminals and the states of the drives are those of the last state.
+-- A boot is one run of the machine: the output has gained what the run writes, its images hold the volumes of the last
+-- state, and the status says whether a process lives then. An image is unchanged, byte for byte, if no event of the run
+-- asks for a change of the volume in its drive. The terminals and the states of the drives are those of the last state.
 pub record IsOneRun (files : Files) (boot : RunWords) (before after : World) (status : ℕ) : Type 0 where
   pub setup : Setup
   pub sets : SetsUpBoot files boot (length before.devices.terms) setup
@@ -46,14 +46,14 @@ pub record IsOneRun (files : Files) (boot : RunWords) (before after : World) (st
   pub drives : drive_states after.devices.drives ≡ t.files.drives
   pub lives : status ≡ status_of t
 
--- Memory was out: nothing was run, or a machine that was set up so stopped within its run, or behind it when an image
--- was to be written. The status tells it.
+-- Memory was out: nothing was run, or a machine of this setup stopped within its run, or after it when an image was to
+-- be written. The status reports it.
 pub record EndsWithoutMemory (files : Files) (boot : RunWords) (before after : World) (status : ℕ) : Type 0 where
   pub told : status ≡ status_number NoMemory
   pub left : BootComesTo files boot before after NoMemory
 
--- a drive that held one of so many images failed, and no other; nothing of a run can be seen, no file was written, and
--- the status says it
+-- a drive that held one of `images` images failed, and no other; nothing of a run can be seen, no file was written, and
+-- the status reports it
 pub record EndsAtMount (images : ℕ) (before after : World) (status : ℕ) : Type 0 where
   pub drive : ℕ
   pub number : ℕ

@@ -5,7 +5,7 @@ use Rattle.boot_images.specs.declared.boot_file.BootFileFault.TheVariants.{Bound
 use Rattle.command_files.specs.declared.status.End.{End}
 use Rattle.command_files.specs.declared.status.End.TheVariants.{BadBounds, BadImage, NoMemory}
 
--- these are all well formed, and the first has no boot file
+-- these are all well formed, and the first does not have a boot file
 abbrev pub LackBootFile : List (List ℕ) → Type 0
 LackBootFile images = All IsVolume images × LacksBootFile images Bounds
 

@@ -17,7 +17,7 @@ IsText Script = ⊤
 IsText Slices = ⊤
 IsText input = ⊥
 
--- the ends that a run may have: it has no image to check, to mount or to write, and does not go back
+-- the ends of a run: it has no image to check, to mount or to write, and does not go back
 abbrev pub RunMayEnd : End → Type 0
 RunMayEnd (BadText input line) = IsText input
 RunMayEnd (BadImage number fault) = ⊥
@@ -48,7 +48,7 @@ CheckMayEnd NoMemory = ⊤
 CheckMayEnd (BadImage number fault) = number ≡ 0
 CheckMayEnd end = ⊥
 
--- those of a stress: it reads no file, and writes none, and has one image
+-- those of a stress: it reads and writes no file, and has one image
 abbrev pub StressMayEnd : End → Type 0
 StressMayEnd Ended = ⊤
 StressMayEnd Living = ⊤
@@ -59,8 +59,8 @@ StressMayEnd end = ⊥
 
 -- ---- what it leaves
 
--- what is left of the output and the devices, observed or not, by how the command with so many images ended: where no
--- machine was started all is as it was, or the drive of an image failed
+-- what is left of the output and the devices, observed or not, by the end of the command with this number of images: if
+-- no machine was started all is unchanged, or the drive of an image failed
 abbrev pub LeavesDevices : ℕ → World → World → End → Type 0
 LeavesDevices images before after Ended = ⊤
 LeavesDevices images before after Living = ⊤
@@ -70,7 +70,7 @@ LeavesDevices images before after NoMemory = ⊤
 LeavesDevices images before after (DriveFailed drive number) = FailsToMount images drive number before after
 LeavesDevices images before after end = IsSilent before after
 
--- what is left of the files by a boot: only behind its run it writes images
+-- what a boot leaves of the files: it writes images only after its run
 abbrev pub BootLeavesFiles : List (List ℕ) → World → World → End → Type 0
 BootLeavesFiles names before after Ended = IfObserved (ChangesOnly names) before.files after.files
 BootLeavesFiles names before after Living = IfObserved (ChangesOnly names) before.files after.files
@@ -78,11 +78,11 @@ BootLeavesFiles names before after (CannotWriteImage number) = IfObserved (Chang
 BootLeavesFiles names before after NoMemory = IfObserved (ChangesOnly names) before.files after.files
 BootLeavesFiles names before after end = after.files ≡ before.files
 
--- a check leaves the devices as they were
+-- a check leaves the devices unchanged
 pub record CheckLeaves (before after : World) (end : End) : Type 0 where
   pub out : LeavesDevices 0 before after end
   pub devices : after.devices ≡ before.devices
 
--- what the files hold is as it was
+-- the contents of the files are unchanged
 abbrev pub KeepsFiles : World → World → End → Type 0
 KeepsFiles before after end = after.files ≡ before.files

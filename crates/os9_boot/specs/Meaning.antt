@@ -28,16 +28,16 @@ use Rattle.os9_boot.specs.FileNames.{BootWrites, WritesNone}
 use Rattle.os9_boot.specs.Left.{BootLeavesFiles, BootMayEnd, CheckLeaves, CheckMayEnd, KeepsFiles, LeavesDevices, RunMayEnd, StressMayEnd}
 
 pub record Meaning : Type 1 where
-  pub comes : World → World → End → Type 0  -- what comes of it, where that can be observed
+  pub comes : World → World → End → Type 0  -- its outcome, if that can be observed
   pub may : End → Type 0  -- how it may end
   pub devices : World → World → End → Type 0  -- what it leaves of the output and the devices, observed or not
   pub files : World → World → End → Type 0  -- and of what the files hold
   pub file_name : Input → Option (List ℕ)  -- the files that its words name
   pub inputs : List (List ℕ)  -- those that it reads, in order
-  pub writes : End → List (List ℕ) → Type 0  -- the files that it has written when it ends so, in order
-  pub drives : ℕ  -- how many drives it needs
+  pub writes : End → List (List ℕ) → Type 0  -- the files that it has written at this end, in order
+  pub drives : ℕ  -- the number of drives that it needs
 
--- what comes of a stress, by how the command ends
+-- the outcome of a stress, by the end of the command
 abbrev pub StressGives : ℕ → World → World → End → Type 0
 StressGives seed before after end = (it : StressEnd) × (end ≡ stress_end it) × StressComesTo seed before after it
 

@@ -30,7 +30,7 @@ pub record Reports (line : List ℕ) (before after : Notes) : Type 0 where
   pub read_kept : after.read ≡ before.read
   pub written_kept : after.written ≡ before.written
 
--- A command was done and ended so, with this status: it read and wrote its files, and then the line that says why it
+-- A command was done with this end and this status: it read and wrote its files, and then the line that says why it
 -- ended was reported.
 pub record CommandReport (command : Command) (before after : World) (noted notes : Notes) (status : ℕ) : Type 0 where
   pub end : End
@@ -40,17 +40,17 @@ pub record CommandReport (command : Command) (before after : World) (noted notes
   pub files : NotesFiles command end noted done
   pub line : Reports (end_line command end) done notes
 
--- the status if the words are no command line
+-- the status if the words are not a command line
 abbrev pub words_status : ℕ
 words_status = 1
 
--- The words are no command line: nothing was done. Where memory is out that is not known.
+-- The words are not a command line: nothing was done. If memory is out that is not known.
 pub record WordsReport (before after : World) (noted notes : Notes) (status : ℕ) : Type 0 where
   pub undone : after ≡ before
   pub line : ((status ≡ words_status) × Reports words_line noted notes)
       ⊎ ((status ≡ status_number NoMemory) × Reports no_memory_line noted notes)
 
--- The headline: the words spell a command, which was done; or they spell none, and nothing was done.
+-- The headline: the words spell a command, which was done; or they do not, and nothing was done.
 abbrev pub TopCall : List (List ℕ) → World → World → Notes → Notes → ℕ → Type 0
 TopCall words before after noted notes status =
     MatchOption (command_of words) (WordsReport before after noted notes status)

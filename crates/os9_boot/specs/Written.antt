@@ -1,4 +1,4 @@
--- How a command ends behind the run of its machine.
+-- The end of a command after the run of its machine.
 use Rattle.std.specs.Prelude.{◌≡◌, ◌⊎◌, ℕ, List}
 use Rattle.os9_outer.specs.Host.{IfObserved}
 use Rattle.boot_images.specs.ImageWrites.{FailsAt}
@@ -10,7 +10,7 @@ use Rattle.command_files.specs.declared.status.End.{End}
 use Rattle.command_files.specs.declared.status.End.TheVariants.{Ended, Living, CannotWrite, CannotWriteImage, NoMemory, DriveFailed}
 use Rattle.command_files.specs.End.{boot_end}
 
--- where its images are written, or there are none
+-- if its images are written, or there are none
 abbrev pub ends_run : RunEnd → End
 ends_run (Run.Ended begun) = Ended
 ends_run (Run.Living begun) = Living
@@ -19,14 +19,14 @@ ends_run (Run.DriveFailed drive number) = DriveFailed drive number
 ends_run Run.OutputFailed = CannotWrite
 ends_run Run.NoMemory = NoMemory
 
--- the images were written up to that of this number, where the host failed, or memory was out
+-- the images were written up to that of this number, for which the host failed, or memory was out
 abbrev pub StopsAt : List (List ℕ) → List (List ℕ) → ℕ → End → World → World → Type 0
 StopsAt names images number answer before after =
     IfObserved (WritesUpTo number names images) before.files after.files
     × (((answer ≡ CannotWriteImage number) × FailsAt number names before after)
     ⊎ ((answer ≡ NoMemory) × HasNoFault before after))
 
--- The images were written under their names, all or up to one; the output and the devices are as they were.
+-- The images were written under their names, all or up to one; the output and the devices are unchanged.
 pub record WritesBack (names images : List (List ℕ)) (end answer : End) (before after : World) : Type 0 where
   pub files : ((answer ≡ end) × HasNoFault before after
       × IfObserved (WritesAll names images) before.files after.files)
@@ -34,7 +34,7 @@ pub record WritesBack (names images : List (List ℕ)) (end answer : End) (befor
   pub out_kept : after.out ≡ before.out
   pub devices_kept : after.devices ≡ before.devices
 
--- a boot whose machine's run ended so writes its images where that came to its end, and answers this
+-- a boot, by the end of its machine's run: it writes its images if that was a whole run, and returns this end
 abbrev pub EndsBoot : List (List ℕ) → List (List ℕ) → RunEnd → End → World → World → Type 0
 EndsBoot names images (Run.Ended begun) answer before after = WritesBack names images Ended answer before after
 EndsBoot names images (Run.Living begun) answer before after = WritesBack names images Living answer before after

@@ -24,8 +24,9 @@ use os9_outer::terminal::CharDriver;
 use os9_words::command::{Command, RunWords};
 use std::alloc::Global;
 
-/// `boot IMAGE.. --script SCRIPT --slices SLICES`: reads the files and their texts, runs the program of
-/// the first image's boot file with the images in the drives, and writes the images back.
+/// `boot IMAGE.. --script SCRIPT --slices SLICES`: reads the files and their texts, runs the
+/// program of the first image's boot file with the images in the drives, and writes the images
+/// back.
 pub fn boot_images<H: Host>(
     alloc: Global,
     boot: &RunWords,
@@ -75,8 +76,8 @@ pub fn boot_images<H: Host>(
     write_back(&boot.files, &images, end, host)
 }
 
-/// `run MODULES --slices SLICES`, with a script or not: reads the files and their texts, and runs the
-/// program of the file of modules.
+/// `run MODULES --slices SLICES`, with or without a script: reads the files and their texts, and
+/// runs the program of the file of modules.
 pub fn run_modules<H: Host>(
     alloc: Global,
     run: &RunWords,

@@ -7,7 +7,7 @@ ghost use Rattle.file_drives.specs.Drives.{drive_views};
 use os9_outer::drive::BlockDriver;
 use std::alloc::AllocError;
 
-/// Puts a drive without an image behind these.
+/// Appends a drive without an image.
 ///
 /// # Errors
 ///

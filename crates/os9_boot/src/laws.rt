@@ -21,9 +21,10 @@ ghost use Rattle.os9_boot.specs.Completeness.{IsNoFault, NoneRose, TellsNoFault}
 ghost use Rattle.os9_boot.specs.Headline.{BootIsOneRun, IsAccepted, WritesByStatus};
 ghost use Rattle.os9_boot.specs.TopCall.{TopCall};
 
-/// A call in which no count of faults rose, neither the host's nor a drive's, ends as the words, the
-/// files and the run decide, or for want of memory: with 0 or 5, and all was done; with 1, and the
-/// words are no command; with 6, 7, 8, 10 or 11 and their cause; with 12, if a terminal failed; or with 4.
+/// A call in which no count of faults rose, neither the host's nor a drive's, ends as the words,
+/// the files and the run decide, or because memory is out: with 0 or 5, and all was done; with 1,
+/// and the words are not a command; with 6, 7, 8, 10 or 11 and their cause; with 12, if a terminal
+/// failed; or with 4.
 pub fn calls_without_faults_tell_none()
     ensures end { (command : Command) (before after : World) (end : End)
         → CommandCall command before after end → NoneRose before after → TellsNoFault end }
@@ -33,9 +34,9 @@ pub fn calls_without_faults_tell_none()
         → IsNoFault status }
 {}
 
-/// The headline: a boot of a host whose files are observed, over terminals whose bytes are, of which the
-/// texts, the images and the boot file are accepted, and in which the host did not fail, is one run of
-/// the machine; or memory was out, or a drive with an image failed and nothing of a run can be seen.
+/// The headline: a boot whose texts, images and boot file are accepted, on a host with observed
+/// files that did not fail, over terminals with observed bytes, is one run of the machine; or
+/// memory was out, or a drive with an image failed and nothing of a run can be seen.
 pub fn a_boot_is_one_run()
     ensures { (words : List (List ℕ)) (boot : RunWords) (files : Files) (before after : World)
         (noted notes : Notes) (status : ℕ)
@@ -46,9 +47,9 @@ pub fn a_boot_is_one_run()
         → BootIsOneRun files boot before after status }
 {}
 
-/// Which files a boot writes, on any host, files and terminals observed or not: with status 0 or 5 each
-/// image once, in the order of the words, and no other file; with 3 and 4 the first of the images, each
-/// once; with any other none.
+/// The files that a boot writes, on any host, files and terminals observed or not: with status 0 or
+/// 5 each image once, in the order of the words, and no other file; with 3 and 4 the first of the
+/// images, each once; with any other none.
 pub fn a_boot_writes_its_images_once()
     ensures { (words : List (List ℕ)) (boot : RunWords) (before after : World)
         (noted notes : Notes) (status : ℕ)
@@ -57,9 +58,9 @@ pub fn a_boot_writes_its_images_once()
         → WritesByStatus boot.files status noted notes }
 {}
 
-/// A `debug` with status 0, over observed files, in which no count of faults rose and before which no
-/// bytes were on a terminal, has shown the one run of its machine: command by command the state at the
-/// position to which the commands before have led, forwards or back.
+/// A `debug` with status 0, over observed files, in which no count of faults rose and before which
+/// no bytes were on a terminal, has shown the one run of its machine: command by command the state
+/// at the position to which the earlier commands have led, forwards or back.
 pub fn a_debug_shows_one_run()
     ensures { (words : List (List ℕ)) (debug : DebugWords) (files : Files) (before after : World)
         (noted notes : Notes) (status : ℕ)
@@ -68,7 +69,7 @@ pub fn a_debug_shows_one_run()
         → IsFaultless files debug before after → ShowsOneCourse files debug before after }
 {}
 
-/// A call tells a terminal that failed only if that terminal's count of faults rose, and its status is
+/// A call reports a failed terminal only if that terminal's count of faults rose, and its status is
 /// that of such an end only if one did.
 pub fn a_terminal_is_told_only_if_it_failed()
     ensures end { (command : Command) (before after : World) (n : ℕ)

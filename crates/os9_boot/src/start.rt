@@ -1,4 +1,4 @@
-//! What a machine is started with, of files that were read.
+//! What a machine is started with, from files that were read.
 
 ghost use Rattle.std.specs.Prelude.{◌≡◌, ◌≤◌, All, IfErr, IfOk, OnOk, length};
 ghost use Rattle.boot_images.specs.BootFile.{IsBootFile, IsVolume};
@@ -35,7 +35,7 @@ pub fn accept_images(alloc: Global, images: &Images) -> Result<Vec<u8>, End>
     }
 }
 
-/// How a command ends whose machine's run has ended so, if its images are written then.
+/// The end of a command, by the end of its machine's run, if its images are written then.
 pub fn end_of_run(end: RunEnd) -> End
     ensures { result ≡ ends_run end }
 {

@@ -15,7 +15,7 @@ use os9_words::command::Command;
 use stress_run::StressEnd;
 use vol_command::vol_name;
 
-/// How a command ends whose stress ended so.
+/// The end of a command, by the end of its stress.
 pub fn end_of_stress(end: StressEnd) -> End
     ensures { result ≡ stress_end end }
 {
@@ -32,14 +32,14 @@ pub fn end_of_stress(end: StressEnd) -> End
 ///
 /// # Errors
 ///
-/// The line is not whole on the error stream: of its bytes the first ones are there, or none.
+/// The line is not whole on the error stream: only its first bytes, or none, were written.
 pub fn report_end<H: Host>(host: &mut H, end: End, command: &Command) -> Result<(), HostFault>
     ensures { WritesErr H.Host (end_line command.now end) result host.old host.new }
 {
     report::report_end(host, end, name_for(command, end))
 }
 
-/// The name of the file of which the line of an end speaks; empty if it speaks of none.
+/// The name of the file that the line of an end names; empty if it names none.
 fn name_for(command: &Command, end: End) -> &str
     ensures { result.now ≡ end_name command.now end }
 {

@@ -28,39 +28,40 @@ use std::alloc::Global;
 use stress_run::run_stress;
 use vol_command::do_vol;
 
-/// The status if the words are no command line.
+/// The status if the words are not a command line.
 const NO_COMMAND: u8 = 1;
 
-/// Does what a command line says, and answers the status (this project's own).
+/// Does what a command line says, and returns the status (this project's own).
 ///
-/// The words are those after the program's name. `boot IMAGE.. --script SCRIPT --slices SLICES` reads
-/// the script, the slice text and one to four images, checks these, puts them into the drives, loads
-/// each terminal with its keys of the script, runs the program `SysGo` of the boot file of the first
-/// with their volumes mounted, passes what it puts on the terminals to the output stream, and writes
-/// the images back. `run MODULES --slices SLICES`, with `--script SCRIPT` or not, does so with a file of
-/// modules and without images. Both take `--blocks N` and `--time T`. `check IMAGE` reads the image of a
-/// disk and passes the counts of its volume to the output stream. `stress N` boots a disk that it makes
-/// of the seed N, and passes the counts of its end to the output stream. `vol VERB IMAGE ..` makes the
-/// image of a disk, looks into it, changes it or repairs it, by the tools of `vol_tools`. `asm SOURCE OUT`
-/// assembles a source to the module in a file. `debug`, with the words of a run and a file of commands,
-/// stands at any event of that run, and passes what the commands show to the output stream.
+/// The words are those after the program's name. `boot IMAGE.. --script SCRIPT --slices SLICES`
+/// reads the script, the slice text and one to four images, checks these, puts them into the
+/// drives, loads each terminal with its keys of the script, runs the program `SysGo` of the boot
+/// file of the first with their volumes mounted, passes what it puts on the terminals to the output
+/// stream, and writes the images back. `run MODULES --slices SLICES`, with or without
+/// `--script SCRIPT`, does so with a file of modules and without images. Both take `--blocks N` and
+/// `--time T`. `check IMAGE` reads the image of a disk and passes the counts of its volume to the
+/// output stream. `stress N` boots a disk that it makes from the seed N, and passes the counts of
+/// its end to the output stream. `vol VERB IMAGE ..` makes the image of a disk, looks into it,
+/// changes it or repairs it, by the tools of `vol_tools`. `asm SOURCE OUT` assembles a source to
+/// the module in a file. `debug`, with the words of a run and a file of commands, goes to any event
+/// of that run, and passes what the commands show to the output stream.
 ///
-/// There are one to four terminals, and none has keys; at most four drives, none with an image, and at
-/// least as many as images are booted, and one for `vol`.
+/// There are one to four terminals, and none has keys; at most four drives, none with an image, and
+/// at least one for each booted image, and one for `vol`.
 ///
 /// Statuses: 0 the command is done, and no process lives; 5 the slices are used up and a process
-/// lives; 1 the words are no command line; 2 a file could not be read; 3 the output stream or a file
-/// could not be written; 4 out of memory; 6 an image is not well formed; 7 the script, the slice text
-/// or the commands of `debug` are refused; 8 the file of modules, or the boot file, is refused; 9 a
-/// drive with an image failed, in a boot of which nothing can be seen or when a tool used it; 10 a
-/// source is refused; 11 a tool is refused; 12 the count of faults of a terminal rose, and `debug`
-/// stopped.
+/// lives; 1 the words are not a command line; 2 a file could not be read; 3 the output stream or a
+/// file could not be written; 4 out of memory; 6 an image is not well formed; 7 the script, the
+/// slice text or the commands of `debug` are refused; 8 the file of modules, or the boot file, is
+/// refused; 9 a drive with an image failed, in a boot of which nothing can be seen or when a tool
+/// used it; 10 a source is refused; 11 a tool is refused; 12 the count of faults of a terminal
+/// rose, and `debug` stopped.
 ///
-/// A run begins with the devices as they are when the call is made, each terminal loaded with its
-/// keys, and ends with them as they are when it returns: a terminal or a drive fails in it only if
-/// its count of faults rose in this call. At 1, 2, 6, 7, 8 and 10 the devices, the output and the files
-/// are as they were. At 9 and 11 the output, the terminals and the files are as they were, and no
-/// other drive has failed. No image is in a drive behind the call.
+/// A run begins with the devices as they are at the call, each terminal loaded with its keys, and
+/// ends with them as they are at the return: a terminal or a drive fails in it only if its count of
+/// faults rose in this call. At 1, 2, 6, 7, 8 and 10 the devices, the output and the files are
+/// unchanged. At 9 and 11 the output, the terminals and the files are unchanged, and no other drive
+/// has failed. After the call no image is in a drive.
 ///
 /// The line that says why the call ended goes to the error stream: the whole of it, or that stream
 /// counts a fault.

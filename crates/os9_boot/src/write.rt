@@ -1,4 +1,4 @@
-//! The images of a boot are written back behind its run.
+//! The images of a boot are written back after its run.
 
 ghost use Rattle.std.specs.Prelude.{◌≡◌, length};
 ghost use Rattle.boot_run.specs.World.{world_of};
@@ -15,7 +15,7 @@ use command_files::status::End;
 use os9_outer::host::Host;
 use os9_words::word::Words;
 
-/// Writes the images under these names, if the machine has run to its end, and answers how the boot
+/// Writes the images under these names, if the machine has run to its end, and returns how the boot
 /// ends.
 pub fn write_back<H: Host>(names: &Words, images: &Images, end: RunEnd, host: &mut H) -> End
     requires { length images.now ≡ length names.now }

@@ -1,4 +1,4 @@
--- The civil time that the calendar's library has.
+-- The civil time of the calendar's library.
 use Rattle.std.specs.Prelude.{pos, ◌-ℤ◌, unsigned_abs}
 use Rattle.jiff_core.specs.declared.civil.datetime.DateTime.{DateTime}
 use Rattle.civil_time.specs.CivilTime.{CivilTime}

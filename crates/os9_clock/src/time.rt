@@ -23,8 +23,8 @@ pub fn is_time(t: TimePacket) -> bool
         && t.second <= 59
 }
 
-/// The packet of the civil time so many seconds after another packet's (System Programmer's
-/// Manual, F$Time). Its year counts from 1900 and goes round after 2155 (this project's own).
+/// The packet of the civil time `seconds` seconds after another packet's (System Programmer's
+/// Manual, F$Time). Its year counts from 1900 and wraps around after 2155 (this project's own).
 pub fn time_at(base: TimePacket, seconds: u32) -> TimePacket
     requires { is_time_packet base ≡ true }
     ensures { IsAfter base seconds result }
@@ -50,7 +50,7 @@ fn civil_time(t: TimePacket) -> DateTime
     DateTime::new(year, month, day, hour, minute, second, 0).unwrap()
 }
 
-// The year that a packet's year is.
+// The year for a packet's year.
 fn full_year(year: u8) -> i16
     ensures { result ≡ pos (1900 + year) }
 {
@@ -80,7 +80,7 @@ fn packet_of(time: DateTime) -> TimePacket
     }
 }
 
-// How many days the month has.
+// The number of days of the month.
 fn month_days(year: u16, month: u8) -> u8
     ensures { result ≡ month_days_lem year month }
 {

@@ -9,11 +9,11 @@ use Rattle.command_files.specs.declared.status.End.{End}
 use Rattle.os9_debug.specs.Debug.{DebugComesTo, debug_file_name, debug_inputs}
 use Rattle.os9_debug.specs.Left.{DebugLeaves, DebugLeavesFiles, DebugMayEnd, DebugWrites}
 
--- it was done, and ended so
+-- it was done, with this end
 pub record DebugCall (debug : DebugWords) (before after : World) (end : End) : Type 0 where
-  -- what came of it, where that can be observed
+  -- its outcome, if that can be observed
   pub comes : IfSome before.files (λ files. DebugComesTo files debug before after end)
-  -- and what is so, observed or not
+  -- and what holds, observed or not
   pub may : DebugMayEnd end
   pub devices : DebugLeaves before after end
   pub host : FailsAsTold (debug_file_name debug) end before after

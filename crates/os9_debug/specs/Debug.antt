@@ -34,7 +34,7 @@ debug_inputs debug = script_names debug.run ++ debug.run.slices ∷ debug.comman
 
 -- ---- the session
 
--- a session of these commands over this machine: that of the files and the words, with so many terminals
+-- a session of these commands over this machine: that of the files and the words, with this number of terminals
 pub record HasSession (files : Files) (debug : DebugWords) (terminals : ℕ) (machine : Machine) (commands : List Command)
     : Type 0 where
   pub texts : HaveTexts files debug.run terminals machine.keys.now machine.slices.now
@@ -45,7 +45,7 @@ pub record HasSession (files : Files) (debug : DebugWords) (terminals : ℕ) (ma
   pub blocks : machine.blocks ≡ debug.run.blocks
   pub time : machine.time ≡ debug.run.start
 
--- there is such a session, and this came of it
+-- there is such a session, with this outcome
 pub record SessionThen (files : Files) (debug : DebugWords) (terminals : ℕ) (then_ : Machine → List Command → Type 0)
     : Type 0 where
   pub machine : Machine
@@ -81,7 +81,7 @@ abbrev pub EndsRefused : End → Machine → List Command → Type 0
 EndsRefused end machine commands =
     (fault : BootFault) × Refuses machine.file.now machine.blocks fault × (end ≡ boot_end fault)
 
--- what comes of it, by how it ends
+-- its outcome, by its end
 abbrev pub DebugComesTo : Files → DebugWords → World → World → End → Type 0
 DebugComesTo files debug before after Ended =
     SessionThen files debug (length before.devices.terms) (PrintsWhole before after)

@@ -32,7 +32,7 @@ DebugMayEnd end = ⊥
 
 -- ---- what it leaves
 
--- the output and the devices: as they were if no machine was started, or a terminal failed as the end says
+-- the output and the devices: unchanged if no machine was started, or a terminal failed as the end says
 abbrev pub DebugLeaves : World → World → End → Type 0
 DebugLeaves before after Ended = ⊤
 DebugLeaves before after CannotWrite = ⊤

@@ -12,8 +12,8 @@ use Rattle.debug_session.specs.Session.{CanFail, ShowsTheCourse}
 use Rattle.debug_session.specs.declared.machine.Machine.{Machine}
 use Rattle.os9_debug.specs.Debug.{HasSession, SessionThen}
 
--- a call over observed files and devices that are free, in which no count of faults rose, though each could, and before
--- which no bytes were on a terminal
+-- a call over observed files and free devices, in which no count of faults rose, though each could, and before which no
+-- bytes were on a terminal
 pub record IsFaultless (files : Files) (debug : DebugWords) (before after : World) : Type 0 where
   pub observed : before.files ≡ Some files
   pub words : IsRun debug.run

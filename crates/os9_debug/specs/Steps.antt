@@ -24,13 +24,13 @@ pub record HasDebugFiles (files : Files) (debug : DebugWords) (read : DebugFiles
   pub modules : (name : List ℕ) × (slice_get debug.run.files 0 ≡ Some name)
       × (read.modules.items ≡ file_contents files name)
 
--- why the commands end the call: their first line that breaks a rule; or memory was out
+-- why the commands end the call: their first bad line; or memory was out
 abbrev pub RefusesCommands : List ℕ → End → Type 0
 RefusesCommands text (BadText Commands line) = commands_of text ≡ Err line
 RefusesCommands text NoMemory = ⊤
 RefusesCommands text end = ⊥
 
--- how the call ends whose session ended so
+-- the end of the call, by the end of its session
 abbrev pub session_end : {Value : Type 0} → Result Value SessionFault → End
 session_end (Ok value) = Ended
 session_end (Err (Fault.Refused fault)) = boot_end fault
@@ -38,7 +38,7 @@ session_end (Err (Fault.TerminalFailed n)) = TerminalFailed n
 session_end (Err Fault.OutputFailed) = CannotWrite
 session_end (Err Fault.NoMemory) = NoMemory
 
--- a session was had, and the call ends so
+-- a session was had, and the call has this end
 pub record HadSession (machine : Machine) (commands : List Command) (end : End) (before after : World) : Type 0 where
   pub answer : Result (Unit {0}) SessionFault
   pub ends : end ≡ session_end answer

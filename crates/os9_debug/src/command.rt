@@ -20,14 +20,14 @@ use os9_outer::terminal::CharDriver;
 use os9_words::debug_words::DebugWords;
 use std::alloc::Global;
 
-/// `debug MODULES --slices SLICES --commands COMMANDS`, with a script or not (this project's own):
-/// reads the script, the slices, the commands and the modules, and then the texts in this order;
-/// starts the machine of a run, and does the commands, one after another, at the events of its run.
-/// What they show goes to the output stream.
+/// `debug MODULES --slices SLICES --commands COMMANDS`, with or without a script (this project's
+/// own): reads the script, the slices, the commands and the modules, and then the texts in this
+/// order; starts the machine of a run, and does the commands, one after another, at the events of
+/// its run. What they show goes to the output stream.
 ///
-/// If no bytes are on a terminal before the call, and no count of faults rises in it, what is shown is
-/// command by command that of the state at the position to which the commands have led, in the one run
-/// of the machine, and however they came there.
+/// If no bytes are on a terminal before the call, and no count of faults rises in it, each command
+/// shows the state at the position to which the commands have led, in the one run of the machine,
+/// whatever the way there.
 pub fn do_debug<H: Host>(
     alloc: Global,
     debug: &DebugWords,

@@ -1,4 +1,4 @@
-//! The files that the words of `debug` name are read, and the commands in theirs.
+//! The files that the words of `debug` name, and the commands in theirs.
 
 ghost use Rattle.std.specs.Prelude.{◌≡◌, IfErr, IfOk, IfSome, Ok, OnOk, length};
 ghost use Rattle.os9_kernel.specs.Outside.{Outside};
@@ -31,8 +31,8 @@ pub(crate) struct DebugFiles {
     pub(crate) modules: Vec<u8>,
 }
 
-/// Reads the files that the words name: the script, the slices, the commands and the modules, in this
-/// order.
+/// Reads the files that the words name: the script, the slices, the commands and the modules, in
+/// this order.
 ///
 /// # Errors
 ///
@@ -71,7 +71,7 @@ pub(crate) fn read_files<H: Host>(
 ///
 /// # Errors
 ///
-/// The end of the call: the first line that is no command, or memory is out.
+/// The end of the call: the first line that is not a command, or memory is out.
 pub(crate) fn commands_in(alloc: Global, text: &[u8]) -> Result<Vec<Command>, End>
     ensures commands { IfOk result (λ commands. commands_of text.now ≡ Ok commands.items) }
     ensures refused { IfErr result (RefusesCommands text.now) }

@@ -7,8 +7,8 @@ ghost use Rattle.command_files.specs.declared.status.End.TheVariants.{Ended};
 ghost use Rattle.os9_debug.specs.Call.{DebugCall};
 ghost use Rattle.os9_debug.specs.OneCourse.{IsFaultless, ShowsOneCourse};
 
-/// A call of `debug` that is done shows the one course of its machine: command by command what is there
-/// at the position to which the commands before have led, forwards or back.
+/// A finished call of `debug` shows the one course of its machine: command by command the state at
+/// the position to which the earlier commands have led, forwards or back.
 pub fn a_debug_shows_the_one_course()
     ensures { (files : Files) (debug : DebugWords) (before after : World)
         → IsFaultless files debug before after → DebugCall debug before after Ended

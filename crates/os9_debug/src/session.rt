@@ -21,7 +21,7 @@ use os9_outer::host::Host;
 use os9_outer::terminal::CharDriver;
 use std::alloc::Global;
 
-/// How the call ends whose session ended so.
+/// The end of the call, by the end of its session.
 fn end_of_session(answer: Result<(), SessionFault>) -> End
     ensures { result ≡ session_end answer }
 {
@@ -34,7 +34,7 @@ fn end_of_session(answer: Result<(), SessionFault>) -> End
     }
 }
 
-/// Has the session of these commands over a machine. No image is in a drive before it or behind it.
+/// Has the session of these commands over a machine. No image is in a drive before or after it.
 pub(crate) fn show<H: Host>(
     alloc: Global,
     machine: &Machine,

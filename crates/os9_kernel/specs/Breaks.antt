@@ -11,8 +11,8 @@ use Rattle.machine_model.specs.State.{State}
 use Rattle.os9_kernel.specs.Outside.{Outside}
 use Rattle.os9_kernel.specs.Volumes.{HoldsVolumes}
 
--- An event that is broken off for want of memory: the chosen process, which lives, attempts a call on a path, and a
--- byte that it puts on a terminal found no memory. These are the terminals then, and the drives hold the volumes of the
+-- An event that is broken off because memory is out: the chosen process, which lives, attempts a call on a path, and a
+-- byte that it puts on a terminal found no memory. The terminals are then these, and the drives hold the volumes of the
 -- state.
 pub record BreaksEvent (s : State) (after : Outside) : Type 0 where
   pub p : ℕ

@@ -38,22 +38,22 @@ pub record HasEvent (old new : Kernel) (before after : Outside) (end : EventEnd)
     pub step : end ≢ EventEnd.NoMemory → (s : State) → Represents old before s
         → (t : State) × Event s end t × Represents new after t
     pub memory : end ≡ EventEnd.NoMemory → BreaksOff old before after
-    -- the chosen process lives still, where it goes on
+    -- the chosen process still lives, if it goes on
     pub going : end ≡ EventEnd.Ran → IsGoing new
     pub waits : end ≡ EventEnd.Waits → WaitsInCall old new
     pub count : end ≢ EventEnd.NoMemory → ticks new ≡ ticks old
-    -- it calls the drives so often, and keeps the images that it does not ask to change, also where memory is out
+    -- it calls the drives within its bounds, and keeps the images that it does not ask to change, even if memory is out
     pub calls : CallsWithin old before after
     pub images : KeepsUnasked old before after
 
--- Memory is out in a slice of so many instructions: its tick is broken off, or the event behind its first ones. The
--- drives hold the volumes of that state.
+-- Memory is out in a slice of `n` instructions: its tick is broken off, or the event after its first ones. The drives
+-- hold the volumes of that state.
 abbrev pub StopsSlice : ℕ → State → Outside → Type 0
 StopsSlice n s after =
     (BreaksTick s after.terms × HoldsVolumes s after.drives)
     ⊎ ((states : List State) × (t : State) × BeginsSlice n s states t × BreaksEvent t after)
 
--- a slice of so many instructions
+-- a slice of `n` instructions
 pub record HasSlice (n : ℕ) (old new : Kernel) (before after : Outside) (end : SliceEnd) : Type 0
   where
     -- it is one of the machine

@@ -1,4 +1,4 @@
--- What a process waits for since an attempt of its call.
+-- What a process waits for after an attempt of its call.
 use Rattle.std.specs.Prelude.{◌≡◌, ℕ, false, Option, None, Some, IfSome, option_map, slice_index_or}
 use Rattle.os9_base.specs.declared.registers.Pid.{Pid}
 use Rattle.os9_sched.specs.Members.{member_of, wait_at}
@@ -18,12 +18,12 @@ abbrev pub wait_by : Option ProcCall → Own → Option Cause → Option Wait
 wait_by None own cause = option_map (λ (cause : Cause). record { cause = cause; until = None }) cause
 wait_by (Some call) own cause = waits_for call own
 
--- what the call of this code waits for, of a process that waits in it
+-- what the call of this code waits for, for a process that waits in it
 abbrev pub wait_for : Kernel → ℕ → ℕ → Option Wait
 wait_for kernel code p =
     wait_by (call_of code) (slice_index_or kernel.processes.own.items p no_own) (io_waits_for kernel.files.io p)
 
--- The chosen process waits in its call. Since the first attempt of it the scheduler has what it waits for.
+-- The chosen process waits in its call. Since the first attempt of the call, the scheduler has what it waits for.
 pub record WaitsInCall (old new : Kernel) : Type 0 where
   pub p : Pid
   pub chosen : old.chosen ≡ Some p

@@ -32,8 +32,8 @@ pub record AsksToChange (drive : ℕ) (s : State) : Type 0 where
   pub change : VolumeChange
   pub deed : deed_of step s.files ≡ changes change
 
--- from each state that a kernel represents: the image in a drive of whose volume the next event asks for no change is
--- as it was
+-- from each state that a kernel represents: the image in a drive is unchanged if the next event does not ask for a
+-- change of its volume
 abbrev pub KeepsUnasked : Kernel → Outside → Outside → Type 0
 KeepsUnasked old before after =
     (s : State) (drive : ℕ) → Represents old before s → ¬ AsksToChange drive s
@@ -41,8 +41,8 @@ KeepsUnasked old before after =
 
 -- ---- of many events
 
--- Events left these states, and one of them began in this one: states that lead there come first, and behind them the
--- one to which the event leads.
+-- Events left these states, and one of them began in this one: first the states that lead to it, and then the state to
+-- which the event leads.
 pub record BeginsAt (leads : List State → State → Type 0) (states : List State) (at : State) : Type 0 where
   pub first : List State
   pub there : leads first at
@@ -56,7 +56,7 @@ pub record BeginsAt (leads : List State → State → Type 0) (states : List Sta
 abbrev pub NoneAsks : (List State → State → Type 0) → List State → ℕ → Type 0
 NoneAsks leads states drive = (at : State) → BeginsAt leads states at → ¬ AsksToChange drive at
 
--- the image in a drive of whose volume none of them asks for a change is as it was
+-- the image in a drive is unchanged if none of them asks for a change of its volume
 abbrev pub KeepsImages : (List State → State → Type 0) → List State → List DriveView → List DriveView → Type 0
 KeepsImages leads states before after =
     (drive : ℕ) → NoneAsks leads states drive → media_at after drive ≡ media_at before drive

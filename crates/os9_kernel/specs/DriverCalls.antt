@@ -1,5 +1,5 @@
--- How often each drive is called at most in an event (this project's own bounds; OS-9 Technical Reference, Random Block
--- File Manager).
+-- The greatest number of calls of each drive in an event (this project's own bounds; OS-9 Technical Reference, Random
+-- Block File Manager).
 use Rattle.std.specs.Prelude.{ℕ, length}
 use Rattle.std.specs.Option.{option_map_or}
 use Rattle.os9_base.specs.declared.registers.TimePacket.{TimePacket}
@@ -19,12 +19,12 @@ use Rattle.os9_kernel.specs.declared.kernel.Kernel.{Kernel}
 use Rattle.os9_kernel.specs.Outside.{Outside}
 use Rattle.os9_kernel.specs.Tie.{Represents}
 
--- in an attempt of a call on paths, files and directories; none where it reaches no drive
+-- in an attempt of a call on paths, files and directories; none if it reaches no drive
 abbrev pub reaching_calls : PathCall → Asker → Files → ℕ → ℕ
 reaching_calls call asker files terms =
     calls_of (file_step call asker files terms) (attempt_calls call asker files terms)
 
--- in an attempt by a process, at a time, on a machine with so many terminals
+-- in an attempt by a process, at a time, on a machine with this number of terminals
 abbrev pub service_calls : Service → Inner → ℕ → TimePacket → Files → ℕ → ℕ
 service_calls loads m p now files terms = file_calls (asker_of m p now) files terms (λ step. step)
 service_calls (on_processes Call.Fork) m p now files terms = start_calls m p now files terms
@@ -44,7 +44,7 @@ act_calls (delivers signal) s p now = 0
 abbrev pub event_calls : State → TimePacket → ℕ
 event_calls s now = option_map_or (λ p. act_calls (act_of s.inner p) s p now) s.chosen 0
 
--- from each state that a kernel represents, at the time that it is
+-- from each state that a kernel represents, at its time
 abbrev pub CallsWithin : Kernel → Outside → Outside → Type 0
 CallsWithin old before after =
     (s : State) (now : TimePacket) → Represents old before s → IsNow s.clock s.inner.tick now

@@ -1,4 +1,4 @@
--- What an attempt of a call that may load a file comes to, of the kernel's processes and its files.
+-- The outcome of an attempt of a call that may load a file, for the kernel's processes and its files.
 use Rattle.std.specs.Prelude.{ℕ, List}
 use Rattle.std.specs.declared.alloc.Global.{Global}
 use Rattle.std.specs.declared.dyn_box.DynBox.{DynBox}
@@ -31,8 +31,8 @@ AttemptsLoad Load m asker old terms p result new = LoadAttempts m asker old term
 AttemptsLoad Fork m asker old terms p result new = ForkAttempts m asker old terms p result new
 AttemptsLoad Chain m asker old terms p result new = ChainAttempts m asker old terms p result new
 
--- an attempt of a call by a process, at a time, on a machine with so many terminals: how it ends, the processes, the
--- files and the drives then, and how often these are called; its process is not told yet
+-- an attempt of a call by a process, at a time, on a machine with this number of terminals: its end, the processes, the
+-- files and the drives then, and the calls of the drives; its process does not have the result yet
 abbrev pub LoadsSo : LoadCall → Inner → Files → TimePacket → ℕ → ℕ → CallEnd → Standing → Standing → Type 0
 LoadsSo call m files now terms p end before after =
     AttemptsBy (AttemptsLoad call m (asker_of m p now) files terms p) m p end

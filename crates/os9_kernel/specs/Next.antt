@@ -17,7 +17,7 @@ use Rattle.os9_kernel.specs.Outside.{Outside}
 use Rattle.os9_kernel.specs.Slice.{IsTurn}
 use Rattle.os9_kernel.specs.Tie.{Represents, IsGoing, ticks, pending}
 
--- what the machine calls an act
+-- the act in the machine
 abbrev pub act_in_machine : Act → MachineAct
 act_in_machine (Attempt code) = attempts code
 act_in_machine (Delivery signal) = delivers signal
@@ -36,13 +36,13 @@ pub record DoesNext (kernel : Kernel) (p : Pid) (act : Act) : Type 0 where
   pub lives : IsLiving kernel.processes.table p.0
   pub next : next_of kernel.processes p.0 ≡ act_in_machine act
 
--- a turn of the chosen process, with so many instructions left
+-- a turn of the chosen process, with `left` instructions left
 pub record HasTurn (left : ℕ) (old new : Kernel) (before after : Outside) (turn : Turn) : Type 0 where
   -- it is one of the machine
   pub step : turn.end ≢ EventEnd.NoMemory → (s : State) → Represents old before s
       → (t : State) × IsTurn s turn.count turn.end t × Represents new after t
   pub memory : turn.end ≡ EventEnd.NoMemory → BreaksOff old before after
-  -- the chosen process lives still, where it goes on; then instructions were executed, or less is pending
+  -- the chosen process still lives, if it goes on; then instructions were executed, or less is pending
   pub going : turn.end ≡ EventEnd.Ran → IsGoing new
   pub few : turn.count ≤ left
   pub progress : turn.end ≡ EventEnd.Ran → 4 * (left - turn.count) + pending new < 4 * left + pending old

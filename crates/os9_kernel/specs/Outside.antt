@@ -1,4 +1,4 @@
--- The devices of a machine, as the contracts of the kernel speak of them.
+-- The devices of a machine, as the contracts of the kernel use them.
 use Rattle.std.specs.Prelude.{List}
 use Rattle.std.specs.declared.alloc.Global.{Global}
 use Rattle.std.specs.declared.dyn_box.DynBox.{DynBox}

@@ -1,4 +1,4 @@
--- What the codes of calls ask for, as the kernel tells them apart.
+-- What the codes of calls ask for, as the kernel distinguishes them.
 use Rattle.std.specs.Prelude.{⊤}
 use Rattle.call_rules.specs.declared.proc_call.ProcCall.{ProcCall}
 use Rattle.call_rules.specs.declared.proc_call.ProcCall.TheVariants as Call
@@ -8,7 +8,7 @@ use Rattle.os9_kernel.specs.declared.service.LoadCall.TheVariants as Loading
 use Rattle.os9_kernel.specs.declared.service.Service.{Service}
 use Rattle.os9_kernel.specs.declared.service.Service.TheVariants.{Load, Process, Time, Path, Unknown}
 
--- what the machine calls a service
+-- the service in the machine
 abbrev pub load_in_machine : LoadCall → MachineService
 load_in_machine Loading.Load = loads
 load_in_machine Loading.Fork = on_processes Call.Fork

@@ -16,7 +16,7 @@ use Rattle.os9_kernel.specs.declared.new.StartError.TheVariants.{Boot, Drive}
 use Rattle.os9_kernel.specs.Outside.{Outside}
 use Rattle.os9_kernel.specs.Tie.{Represents, ticks}
 
--- what the machine starts with, where these are its devices when the images are mounted
+-- what the machine starts with, if these are its devices when the images are mounted
 abbrev pub boot_of : Config → List ℕ → List (List ℕ) → Outside → Started
 boot_of config file images devices = record {
   file = file;
@@ -27,7 +27,7 @@ boot_of config file images devices = record {
   terms = devices.terms;
 }
 
--- the kernel stands for the state in which the machine starts
+-- the kernel represents the state in which the machine starts
 abbrev pub IsStarted : Config → List ℕ → List (List ℕ) → Outside → Kernel → Type 0
 IsStarted config file images devices kernel =
     (s : State) × Starts (boot_of config file images devices) s × Represents kernel devices s
@@ -36,23 +36,23 @@ IsStarted config file images devices kernel =
 abbrev pub IsAccepted : Config → List ℕ → Type 0
 IsAccepted config file = (fault : BootFault) → ¬ Refuses file config.blocks fault
 
--- why a start fails: the boot file is refused, or a drive failed where it is not; or memory was out
+-- why a start fails: the boot file is refused, or a drive failed and it is not; or memory was out
 abbrev pub StartIsRefused : Config → List ℕ → StartError → Type 0
 StartIsRefused config file (Boot fault) = fault ≢ OutOfMemory → Refuses file config.blocks fault
 StartIsRefused config file (Drive drive number) = IsAccepted config file
 
--- the fact holds where the boot file is refused
+-- the fact holds if the boot file is refused
 abbrev pub WhereRefused : StartError → Type 0 → Type 0
 WhereRefused (Boot fault) fact = fault ≢ OutOfMemory → fact
 WhereRefused (Drive drive number) fact = ⊤
 
--- the same of the drives: how the start on them was answered
+-- the same for the drives: the result of the start on them
 abbrev pub drive_fault : {A : Type 0} → Result A StartError → Result A StartFault
 drive_fault (Ok a) = Ok a
 drive_fault (Err (Boot fault)) = Err Fault.OutOfMemory
 drive_fault (Err (Drive drive number)) = Err (Fault.Drive drive number)
 
--- how a start was answered, and what it left of the devices
+-- the result of a start, and the devices after it
 pub record KernelStarts (config : Config) (file : List ℕ) (result : Result Kernel StartError) (before after : Outside)
     : Type 0 where
   -- with the images that were in the first drives

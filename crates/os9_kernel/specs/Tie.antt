@@ -1,4 +1,4 @@
--- How the running kernel is tied to the abstract machine.
+-- The relation of the running kernel to the abstract machine.
 use Rattle.std.specs.Prelude.{◌≡◌, ℕ, ◌+◌, ◌*◌, is_some, Bool, true, false, Option, Some, None, option_map, slice_index_or}
 use Rattle.os9_base.specs.declared.registers.Pid.{Pid}
 use Rattle.proc_rules.specs.Records.{IsLiving, record_at}
@@ -11,8 +11,8 @@ use Rattle.kept_laws.specs.Running.{IsRunning}
 use Rattle.os9_kernel.specs.Outside.{Outside}
 use Rattle.os9_kernel.specs.declared.kernel.Kernel.{Kernel}
 
--- A kernel and its devices represent a state: its processes and its files are those of the machine, all else is equal,
--- and it is a state of a run.
+-- A kernel and its devices represent a state: its processes and its files are those of the machine, everything else is
+-- equal, and it is a state of a run.
 pub record Represents (kernel : Kernel) (devices : Outside) (s : State) : Type 0 where
   pub inner : RepresentsProcesses kernel.processes s.inner
   pub files : StandsFor kernel.files devices.drives s.files
@@ -34,7 +34,7 @@ Stands kernel devices = (s : State) × Represents kernel devices s
 abbrev pub HasState : Kernel → Type 0
 HasState kernel = (devices : Outside) × Stands kernel devices
 
--- the process that was chosen lives
+-- the chosen process lives
 abbrev pub IsGoing : Kernel → Type 0
 IsGoing kernel = (p : Pid) × (kernel.chosen ≡ Some p) × IsLiving kernel.processes.table p.0
 
@@ -42,7 +42,7 @@ IsGoing kernel = (p : Pid) × (kernel.chosen ≡ Some p) × IsLiving kernel.proc
 abbrev pub executed : Kernel → ℕ
 executed kernel = kernel.executed
 
--- the slices that were begun
+-- the number of slices begun
 abbrev pub ticks : Kernel → ℕ
 ticks kernel = kernel.processes.tick
 
@@ -50,11 +50,11 @@ abbrev pub one_if : Bool → ℕ
 one_if true = 1
 one_if false = 0
 
--- the code of the call of a process that is not done
+-- the code of the unfinished call of a process
 abbrev pub open_call : ProcState → ℕ → Option ℕ
 open_call processes p = (slice_index_or processes.own.items p no_own).call
 
--- what a process does before an instruction: twice for a call that is not done, once for a pending signal
+-- what a process does before an instruction: twice for an unfinished call, once for a pending signal
 abbrev pub pending_of : ProcState → ℕ → ℕ
 pending_of processes p =
     2 * one_if (is_some (open_call processes p)) + one_if (is_some (record_at processes.table p).signal)

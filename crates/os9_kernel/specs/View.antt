@@ -1,4 +1,4 @@
--- What may be seen of a process.
+-- The observable part of a process.
 use Rattle.std.specs.Prelude.{ℕ, ◌&&◌, is_some, Bool, Option, Some, None, if◌then◌else◌}
 use Rattle.os9_base.specs.declared.registers.Regs.{Regs}
 use Rattle.proc_rules.specs.Records.{is_living}

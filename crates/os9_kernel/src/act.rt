@@ -20,8 +20,8 @@ pub enum Act {
 }
 
 impl Kernel {
-    /// What a process does next: the first that applies of the first attempt of its call, the
-    /// delivery of a pending signal, a further attempt, an instruction.
+    /// What a process does next: the first of these that applies: the first attempt of its call,
+    /// the delivery of a pending signal, a further attempt, an instruction.
     pub(crate) fn act(&self, p: Pid) -> Act
         requires { IsLiving self.now.processes.table p.0 }
         ensures next { next_of self.now.processes p.0 ≡ act_in_machine result }

@@ -1,4 +1,4 @@
-//! Attempts of calls on processes and modules that load nothing, and codes that are no call's.
+//! Attempts of calls on processes and modules that load nothing, and unknown codes.
 
 ghost use Rattle.std.specs.Prelude.{◌≡◌, ◌<◌, List};
 ghost use Rattle.call_rules.specs.Codes.{call_of};
@@ -38,8 +38,8 @@ impl Kernel {
         event_end(end)
     }
 
-    /// Files follow a call on processes and modules that ended so: the paths of a process that ended
-    /// are closed, and it has no directory any more.
+    /// The effect on the files of how a call on processes and modules ended: the paths of an ended
+    /// process are closed, and it no longer has a directory.
     fn follow(&mut self, p: Pid, end: CallEnd)
         requires { p.0 < 33 }
         ensures files { (views : List DriveView) (files : Files)
@@ -56,7 +56,7 @@ impl Kernel {
         }
     }
 
-    /// The code is no call's: it is refused with E$UnkSvc.
+    /// An unknown code: it is refused with E$UnkSvc.
     pub(crate) fn refuse_unknown(&mut self, p: Pid, code: u8) -> EventEnd
         requires next { DoesNext self.old p (Act.Attempt code) }
         requires serves { service_of code ≡ no_call }
@@ -69,7 +69,7 @@ impl Kernel {
     }
 }
 
-/// How a call that came to this ends its event.
+/// How a call with this end ends its event.
 pub(crate) fn event_end(end: CallEnd) -> EventEnd
     ensures { result ≡ event_end_of end }
 {

@@ -19,7 +19,7 @@ use os9_outer::drive::BlockDriver;
 use os9_outer::terminal::CharDriver;
 
 impl Kernel {
-    /// An attempt of the call of the chosen process, which has this code.
+    /// An attempt of the call of the chosen process, with this code.
     pub(crate) fn attempt(&mut self, p: Pid, code: u8, devices: &mut Devices) -> EventEnd
         requires next { DoesNext self.old p (Act.Attempt code) }
         requires stands { Stands self.old
@@ -42,8 +42,8 @@ impl Kernel {
         }
     }
 
-    /// The delivery of the pending signal of the chosen process. Its call that waits, if one does,
-    /// is broken off, and Y has what that has moved, if it answers a count. Where the process ends,
+    /// The delivery of the pending signal of the chosen process. Its pending call, if any, is
+    /// broken off, and Y has what the call has moved, if it answers a count. If the process ends,
     /// its paths are closed.
     pub(crate) fn deliver(&mut self, p: Pid, signal: u8) -> EventEnd
         requires next { DoesNext self.old p (Act.Delivery signal) }
@@ -62,7 +62,7 @@ impl Kernel {
         }
     }
 
-    /// Executes instructions of the chosen process, at most so many: until one is a system call or
+    /// Executes at most `most` instructions of the chosen process: until one is a system call or
     /// ends the process. They are counted.
     pub(crate) fn instructions(&mut self, p: Pid, most: u32) -> Turn
         requires next { DoesNext self.old p Act.Instruction }

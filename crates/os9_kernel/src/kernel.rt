@@ -24,17 +24,17 @@ use time_rules::clock::Clock;
 #[derive(Drop)]
 pub struct Kernel {
     pub(crate) processes: ProcState,
-    /// Paths, terminals, pipes and the calls that wait on them; volumes and directories.
+    /// Paths, terminals, pipes and the calls pending on them; volumes and directories.
     pub(crate) files: FileState,
     pub(crate) clock: Clock,
     /// The process that was chosen last, if one was Ready.
     pub(crate) chosen: Option<Pid>,
-    /// The instructions that it has executed since then.
+    /// The instructions that it has executed since it was chosen.
     pub(crate) executed: u32,
 }
 
 impl Kernel {
-    /// How many processes live.
+    /// The number of living processes.
     pub fn living(&self) -> u8
         ensures { (devices : Outside) (s : State) → Represents self.now devices s
             → result ≡ living_count s.inner }
@@ -42,7 +42,7 @@ impl Kernel {
         self.processes.living()
     }
 
-    /// How many slices were begun.
+    /// The number of slices begun.
     pub fn ticks(&self) -> u32
         ensures machine { (devices : Outside) (s : State) → Represents self.now devices s
             → result ≡ s.inner.tick }
@@ -51,13 +51,13 @@ impl Kernel {
         self.processes.tick
     }
 
-    /// Begins a slice: the tick rises by 1, and the keys that are due arrive. It is below
-    /// 4,294,000,000 before.
+    /// Begins a slice: the tick, which is below 4,294,000,000, rises by 1, and the keys that are
+    /// due arrive.
     ///
     /// # Errors
     ///
-    /// `OutOfMemory` if a bell found no memory. The kernel is used no more then, and the drives hold
-    /// the volumes of the state before.
+    /// `OutOfMemory` if a bell found no memory. The kernel is not used after that, and the drives
+    /// hold the volumes of the state before.
     pub fn tick(&mut self, devices: &mut Devices) -> Result<(), OutOfMemory>
         requires count { ticks self.old < LAST_TICK }
         requires stands { Stands self.old
@@ -73,7 +73,7 @@ impl Kernel {
         arrive_keys(&mut self.processes, &mut self.files.io, devices)
     }
 
-    /// Chooses a process that is Ready; None exactly where none is.
+    /// Chooses a Ready process; None if and only if no process is Ready.
     pub fn choose(&mut self) -> Option<Pid>
         ensures step { (devices : Outside) (s : State) → Represents self.old devices s
             → (t : State) × Choose s t × Represents self.new devices t
@@ -88,11 +88,11 @@ impl Kernel {
         self.chosen
     }
 
-    /// One event of the process that was chosen, which has to live: the first attempt of its call,
-    /// the delivery of a pending signal, a further attempt, or an instruction. The process goes on
-    /// where the answer is `Ran`. Each drive is called at most as often as that attempt may call it,
-    /// and never in another event; an image changes only where the attempt asks for that. At
-    /// `NoMemory` the kernel is used no more, and the drives hold the volumes of the state before.
+    /// One event of the chosen process, which has to live: the first attempt of its call, the
+    /// delivery of a pending signal, a further attempt, or an instruction. The process goes on if
+    /// the result is `Ran`. Each drive is called at most as often as that attempt may call it, and
+    /// never in another event; an image changes only if the attempt asks for that. After `NoMemory`
+    /// the kernel is not used any more, and the drives hold the volumes of the state before.
     pub fn event(&mut self, devices: &mut Devices) -> EventEnd
         requires going { IsGoing self.old }
         requires stands { Stands self.old
@@ -115,10 +115,10 @@ impl Kernel {
         }
     }
 
-    /// A slice: the tick rises and the keys that are due arrive, a process that is Ready is chosen,
-    /// and it has its events until it has executed `n` instructions, waits or has ended. `Idle`
-    /// comes exactly where no process is Ready. At `NoMemory` the kernel is used no more, and the
-    /// drives hold the volumes of the state before the event that found no memory.
+    /// A slice: the tick rises and the keys that are due arrive, a Ready process is chosen, and it
+    /// has its events until it has executed `n` instructions, waits or has ended. The result is
+    /// `Idle` if and only if no process is Ready. After `NoMemory` the kernel is not used any more,
+    /// and the drives hold the volumes of the state before the event that found no memory.
     pub fn slice(&mut self, n: u32, devices: &mut Devices) -> SliceEnd
         requires tick { ticks self.old < LAST_TICK }
         requires stands { Stands self.old

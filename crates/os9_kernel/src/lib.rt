@@ -1,4 +1,4 @@
-//! The kernel: its start, and slices of events, each of which is one of the abstract machine.
+//! The kernel: its start, and slices of events, each of which is an event of the abstract machine.
 #![tactic(auto)]
 
 pub use event_rules::ends::{BootFault, EventEnd, SliceEnd};

@@ -58,8 +58,8 @@ impl Kernel {
         event_end(end)
     }
 
-    /// An attempt of the call. Its process is not told yet what it comes to, and a child has no
-    /// paths yet.
+    /// An attempt of the call. Its process does not have the result yet, and a child has no paths
+    /// yet.
     fn try_load(&mut self, p: Pid, call: LoadCall, devices: &mut Devices) -> CallEnd
         requires lives { IsLiving self.old.processes.table p.0 }
         requires sound { IsSound self.old.files
@@ -81,8 +81,8 @@ impl Kernel {
         }
     }
 
-    /// The child that F$Fork started, whose number its parent finds in A, is given the standard
-    /// paths and the directories of its parent.
+    /// Gives the child that F$Fork started, whose number is in its parent's A, the standard paths
+    /// and the directories of its parent.
     fn begin(&mut self, p: Pid, call: LoadCall, end: CallEnd)
         requires process { p.0 < 33 }
         requires begins { call ≡ LoadCall.Fork → end ≡ CallEnd.Done
@@ -106,7 +106,7 @@ impl Kernel {
         }
     }
 
-    /// The number that a process finds in A.
+    /// The number in A of a process.
     fn number_in_a(&self, p: Pid) -> u8
         requires { IsLiving self.now.processes.table p.0 }
         ensures number { result ≡ number_in_a self.now.processes.table p.0 }

@@ -22,9 +22,9 @@ use time_rules::clock::Clock;
 /// What a kernel is made with.
 #[derive(Clone, Copy, Debug, PartialEq, Eq)]
 pub struct Config {
-    /// How many blocks of 8,192 bytes its memory has, from 8 to 256.
+    /// The number of blocks of 8,192 bytes of its memory, from 8 to 256.
     pub blocks: u16,
-    /// The images in so many first drives are mounted.
+    /// The number of first drives whose images are mounted.
     pub images: u8,
     /// The date and time at its start.
     pub time: TimePacket,
@@ -35,20 +35,20 @@ pub struct Config {
 pub enum StartError {
     /// The boot file does not start, or out of memory.
     Boot(BootFault),
-    /// A drive failed: its number, and that of its fault.
+    /// A drive failed: its number, and the number of its fault.
     Drive(u8, u8),
 }
 
 impl Kernel {
     /// A kernel that starts the first program of a boot file, `SysGo` (Level Two manual,
     /// "Booting"), with the volumes of the images in its first drives mounted, each read by 1 call
-    /// and one for each sector of its map, and D0's root searched for CMDS. Only this call takes
-    /// memory for the kernel; a terminal may take some for the bytes that are put on it.
+    /// and one more for each sector of its map, and D0's root searched for CMDS. Only this call
+    /// takes memory for the kernel; a terminal may take some for the bytes that are put on it.
     ///
     /// # Errors
     ///
-    /// `TooLarge` if the file has more than 57,344 bytes; else `BadModule` for the first module of
-    /// the file that is refused, by its place and its error; else `NoFirst` if none is the first
+    /// `TooLarge` if the file has more than 57,344 bytes; else `BadModule` for the first refused
+    /// module of the file, with its place and its error; else `NoFirst` if none is the first
     /// program; else `TooLarge` if there are too few blocks or slots for the file and the program's
     /// data area; else `Drive` exactly if a drive failed in this call.
     pub fn new(

@@ -58,7 +58,7 @@ impl Kernel {
         event_end(end)
     }
 
-    /// The time for a call that sets a date. For another one any time will do.
+    /// The time for a call that sets a date. For any other call, any time is right.
     fn time_for(&self, call: PathCall) -> TimePacket
         requires { IsClock self.now.clock self.now.processes.tick }
         ensures { sets_date_lem call ≡ true
@@ -71,8 +71,8 @@ impl Kernel {
         }
     }
 
-    /// Tells a process what its call came to, if it lives. Where it waits, that is on what its path
-    /// was opened on; where it does not, no cause is asked for.
+    /// Gives a process the result of its call, if it lives. If it waits, it waits on what its path
+    /// was opened on; if it does not, no cause is needed.
     pub(crate) fn tell_end(&mut self, p: Pid, end: CallEnd)
         requires lives { LivesOn end self.old.processes.table p.0 }
         requires process { p.0 < 33 }

@@ -1,4 +1,4 @@
-//! What becomes of one process: it begins a call, its call is broken off, or it ends.
+//! Changes of one process: it begins a call, its call is broken off, or it ends.
 
 ghost use Rattle.std.specs.Prelude.{◌≡◌, ◌<◌, List, Some};
 ghost use Rattle.proc_rules.specs.Records.{IsLiving, record_at};
@@ -41,8 +41,8 @@ impl Kernel {
         );
     }
 
-    /// The call of a process that waits on a terminal or a pipe is broken off, if one does: Y has
-    /// what it has moved, if it answers a count.
+    /// Breaks off the call of a process that waits on a terminal or a pipe, if it does: Y has what
+    /// the call has moved, if it answers a count.
     pub(crate) fn break_off(&mut self, p: Pid)
         requires lives { IsLiving self.old.processes.table p.0 }
         ensures tied { (m : Inner) → Represents self.old.processes m → Represents self.new.processes
@@ -63,7 +63,7 @@ impl Kernel {
         }
     }
 
-    /// A process ends with this status, its paths are closed, and it has no directory any more.
+    /// A process ends with this status, its paths are closed, and it no longer has a directory.
     pub(crate) fn end_process(&mut self, p: Pid, status: u8)
         requires lives { IsLiving self.old.processes.table p.0 }
         requires process { p.0 < 33 }

@@ -12,11 +12,11 @@ use time_rules::time_call::{TimeCall, time_call};
 /// A call that may load a file of modules.
 #[derive(Clone, Copy, Debug, PartialEq, Eq)]
 pub enum LoadCall {
-    /// F$Load: loads one.
+    /// F$Load: loads one file.
     Load,
-    /// F$Fork: a child starts a program, of an entered module or of a file.
+    /// F$Fork: a child starts a program, from an entered module or from a file.
     Fork,
-    /// F$Chain: the process itself starts one.
+    /// F$Chain: the process itself starts a program.
     Chain,
 }
 
@@ -29,7 +29,7 @@ pub enum Service {
     Time(TimeCall),
     /// A call on paths, files and directories.
     Path(PathCall),
-    /// The code is no call's.
+    /// An unknown code.
     Unknown,
 }
 
@@ -53,7 +53,7 @@ pub(crate) fn service_by_code(code: u8) -> Service
     }
 }
 
-/// What a call on processes and modules is.
+/// The service of a call on processes and modules.
 fn on_processes(call: ProcCall) -> Service
     ensures is { service_in_machine result ≡ on_processes_lem call }
     ensures plain { IsPlainService result }

@@ -14,7 +14,8 @@ use os9_base::registers::Pid;
 use os9_outer::drive::BlockDriver;
 use os9_outer::terminal::CharDriver;
 
-/// What the chosen process did: how many instructions it executed, and how its last event ended.
+/// What the chosen process did: the number of instructions that it executed, and how its last event
+/// ended.
 #[derive(Clone, Copy, Debug)]
 pub struct Turn {
     pub count: u32,
@@ -48,8 +49,8 @@ impl Kernel {
     }
 
     /// The next event of the chosen process, which has to live. If it is an instruction, those that
-    /// follow it without another event are executed too, `left` at most. At `NoMemory` the kernel is
-    /// used no more.
+    /// follow it without another event are executed too, `left` at most. After `NoMemory` the
+    /// kernel is not used any more.
     pub fn turn(&mut self, left: u32, devices: &mut Devices) -> Turn
         requires going { IsGoing self.old }
         requires stands { Stands self.old

@@ -1,5 +1,5 @@
-//! What may be seen of a kernel: the process that was chosen, how far it has come, and of each process
-//! the registers, the bytes and how it sleeps.
+//! The observable part of a kernel: the chosen process, its executed instructions, and the
+//! registers, the bytes and the sleep of each process.
 
 ghost use Rattle.std.specs.Prelude.{◌≡◌, ◌<◌, option_map};
 ghost use Rattle.call_rules.specs.Inner.{cells_at};
@@ -24,7 +24,7 @@ impl Kernel {
         self.chosen
     }
 
-    /// How many instructions the chosen process has executed since it was chosen, at most
+    /// The number of instructions that the chosen process has executed since it was chosen, at most
     /// 4,294,967,295.
     pub fn executed(&self) -> u32
         ensures { result ≡ executed self.now }
@@ -43,7 +43,7 @@ impl Kernel {
         }
     }
 
-    /// The byte that a process sees at an address, if a block is there.
+    /// The byte of a process at an address, if a block is there.
     pub fn byte(&self, p: Pid, at: u16) -> Option<u8>
         requires { p.0 < 33 }
         ensures { (devices : Outside) (s : State) → Represents self.now devices s
@@ -64,7 +64,7 @@ impl Kernel {
     }
 }
 
-/// Has the call that is not done this code?
+/// Has the unfinished call this code?
 fn is_call(call: Option<u8>, code: u8) -> bool
     ensures { result ≡ is_call_lem call code }
 {

@@ -13,7 +13,7 @@ drive_error WriteFault = E_WRITE
 drive_error NotReady = E_NOTRDY
 drive_error SeekFault = E_SEEK
 
--- how many whole sectors the media has, as far as 32 bits count; none without media
+-- the number of whole sectors of the media, up to the most that 32 bits count; none without media
 abbrev pub sector_count : Option (List ℕ) → ℕ
 sector_count None = 0
 sector_count (Some bytes) = min (length bytes / 256) 4294967295

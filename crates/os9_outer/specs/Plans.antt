@@ -12,11 +12,11 @@ use Rattle.os9_outer.specs.declared.script_tty.ScriptTty.{ScriptTty}
 abbrev pub is_planned : List ℕ → ℕ → Bool
 is_planned calls call = list_any (λ planned. planned == call) calls
 
--- the fault of a call, where these calls are to fail
+-- the fault of a call, if these calls are to fail
 abbrev pub listed_fault : List PlannedFault → ℕ → Option DriveFault
 listed_fault faults call = option_map (λ planned. planned.fault) (find (λ planned. planned.call == call) faults)
 
--- the fault of a call, where this call and every later one are to fail with it
+-- the fault of a call, if this call and every later one are to fail with it
 abbrev pub lasting_fault : ℕ → DriveFault → ℕ → Option DriveFault
 lasting_fault first fault call = if nat_le first call then Some fault else None
 

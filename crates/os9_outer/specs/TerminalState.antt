@@ -1,4 +1,4 @@
--- What can be observed of the terminals of a machine, as lists that do not depend on how their drivers are made.
+-- What can be observed of the terminals of a machine, as lists that do not depend on the kind of their drivers.
 use Rattle.std.specs.Prelude.{◌≡◌, ℕ, ◌≤◌, Option, Some, Result, List, map, slice_get, slice_set, OnOk, OnErr}
 use Rattle.std.specs.declared.alloc.Global.{Global}
 use Rattle.std.specs.declared.dyn_box.DynBox.{DynBox}
@@ -11,9 +11,9 @@ use Rattle.os9_outer.specs.declared.terminal.PutFault.{PutFault}
 
 -- the state of a terminal, as far as it can be observed
 pub record TerminalState : Type 0 where
-  pub keys : List Key  -- the keys to come
+  pub keys : List Key  -- the keys not given yet
   pub put : Option (List ℕ)  -- the bytes put, if the terminal shows them
-  pub faults : ℕ  -- how often it failed
+  pub faults : ℕ  -- the number of its faults
 
 -- the state of a terminal, by its driver, whose ghost members are these
 abbrev pub terminal_state : {Driver : Type 0} → Ghosts Driver → Driver → TerminalState
@@ -30,7 +30,7 @@ abbrev pub terminal_states : {Table : Type 0} {Driver : Table → Type 0} → ((
     → List (DynBox Table Global Driver) → List TerminalState
 terminal_states members terminals = map (boxed_terminal_state members) terminals
 
--- how often each terminal failed
+-- the number of faults of each terminal
 abbrev pub fault_counts : List TerminalState → List ℕ
 fault_counts terminals = map (λ terminal. terminal.faults) terminals
 
@@ -41,7 +41,7 @@ ChangesOneTerminal change n before now =
     (old : TerminalState) × (new : TerminalState) × (slice_get before n ≡ Some old) × (now ≡ slice_set before n new)
     × change old new
 
--- these bytes were put on the terminal, as far as the answer says
+-- these bytes were put on the terminal, as far as the result says
 pub record Puts {Value : Type 0} (answer : Result Value PutFault) (bytes : List ℕ) (old new : TerminalState)
     : Type 0 where
   pub all : OnOk answer (new.put ≡ stream_with old.put bytes)

@@ -22,7 +22,7 @@ pub enum DriveFault {
 }
 
 impl DriveFault {
-    /// The error number that a call which met this fault answers: 242 or 244 to 247.
+    /// The error number of a call that met this fault: 242 or 244 to 247.
     pub fn number(&self) -> u8
         ensures { result ≡ drive_error self.now }
     {
@@ -38,9 +38,9 @@ impl DriveFault {
 
 /// A drive with sectors of 256 bytes, which may have an image in it (this project's own).
 ///
-/// `media` is the image's bytes, or nothing where no image is in. `drive_faults` counts the faults
-/// and never falls, `last_fault` is the last one that was answered, and `drive_calls` counts the
-/// reads and writes. Both counts are of 64 bits and stand still at their last value.
+/// `media` is the image's bytes, or nothing if there is no image. `drive_faults` counts the faults
+/// and never falls, `last_fault` is the last one that was returned, and `drive_calls` counts the
+/// reads and writes. Both counts have 64 bits and stop at their last value.
 pub trait BlockDriver: Drop {
     ghost media: { Self → Option (List ℕ) };
 
@@ -50,7 +50,7 @@ pub trait BlockDriver: Drop {
 
     ghost drive_calls: { Self → ℕ };
 
-    /// Puts an image in. It is handed back exactly where one is in already.
+    /// Inserts an image. It is handed back exactly if there is already an image.
     fn insert(&mut self, image: Vec<u8>) -> Result<(), Vec<u8>>
         ensures inserted { OnOk result (media self.new ≡ Some image.items) }
         ensures was_empty { OnOk result (media self.old ≡ None) }
@@ -61,7 +61,7 @@ pub trait BlockDriver: Drop {
         ensures last_kept { last_fault self.new ≡ last_fault self.old }
         ensures calls_kept { drive_calls self.new ≡ drive_calls self.old };
 
-    /// Takes the image out. The answer is None exactly where none is in.
+    /// Takes the image out. Returns None exactly if there is no image.
     fn eject(&mut self) -> Option<Vec<u8>>
         ensures handed_over { option_map (λ image. image.items) result ≡ media self.old }
         ensures none_left { media self.new ≡ None }
@@ -69,11 +69,11 @@ pub trait BlockDriver: Drop {
         ensures last_kept { last_fault self.new ≡ last_fault self.old }
         ensures calls_kept { drive_calls self.new ≡ drive_calls self.old };
 
-    /// The number of whole sectors, at most 4,294,967,295; 0 where no image is in.
+    /// The number of whole sectors, at most 4,294,967,295; 0 if there is no image.
     fn sectors(&self) -> u32
         ensures { result ≡ sector_count (media self.now) };
 
-    /// Fills `into` with the sector `lsn`. A fault leaves the buffer as it was.
+    /// Fills `into` with the sector `lsn`. A fault leaves the buffer unchanged.
     fn read(&mut self, lsn: u32, into: &mut [u8; 256]) -> Result<(), DriveFault>
         requires { lsn < sector_count (media self.old) }
         ensures filled { OnOk result (into.new ≡ sector_at (media self.old) lsn) }
@@ -87,7 +87,7 @@ pub trait BlockDriver: Drop {
         ensures never_falls { drive_faults self.old ≤ drive_faults self.new }
         ensures call_counted { drive_calls self.new ≡ min (drive_calls self.old + 1) (2 ^ 64 - 1) };
 
-    /// Makes these the bytes of the sector `lsn`. A fault leaves the media as it was.
+    /// Sets the bytes of the sector `lsn` to these. A fault leaves the media unchanged.
     fn write(&mut self, lsn: u32, from: &[u8; 256]) -> Result<(), DriveFault>
         requires { lsn < sector_count (media self.old) }
         ensures written { OnOk result (media self.new ≡ with_sector (media self.old) lsn from.now) }

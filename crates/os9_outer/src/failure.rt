@@ -4,8 +4,8 @@ ghost use Rattle.os9_outer.specs.declared.host.HostFault.TheVariants.{OutOfMemor
 use crate::host::HostFault;
 use std::alloc::Global;
 
-/// A failed call of a host that is counted: the name that it was given, which is none where it was
-/// a write to the output stream, and whether it read a file.
+/// A failed call of a host that is counted: the name that it was given, which is none for a write
+/// to the output stream, and whether it read a file.
 #[derive(Debug, Drop)]
 pub struct Failure {
     pub name: Option<String>,

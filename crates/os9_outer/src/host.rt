@@ -18,11 +18,12 @@ pub enum HostFault {
 
 /// Files by name, an output stream and an error stream (this project's own).
 ///
-/// What its files hold (`file_map`) and what its streams were given (`bytes_out`, `bytes_err`) may
-/// be observed, or not, as of a real one. Always observed are its counts of faults, that of the
-/// error stream apart, the name of the last failed call, which is none if that was a write to the
-/// output stream, and whether that call read a file; and the names of the files that it was to read
-/// (`files_read`) and to write (`files_written`), in the order of the calls.
+/// The contents of its files (`file_map`) and what was written to its streams (`bytes_out`,
+/// `bytes_err`) may be observed or, as with a real host, not. Always observed are its counts of
+/// faults, with a separate one for the error stream, and the name of the last failed call, which is
+/// none if that was a write to the output stream. So are whether that call read a file, and the
+/// names of the files that the host was to read (`files_read`) and to write (`files_written`), in
+/// the order of the calls.
 pub trait Host {
     ghost file_map: { Self → Option (List ℕ → Option (List ℕ)) };
 
@@ -44,8 +45,8 @@ pub trait Host {
 
     /// The bytes of the file of this name.
     ///
-    /// `Failed` comes only with a count. A host whose files are observed may answer the empty list
-    /// for a name that it does not hold.
+    /// Every `Failed` is counted. A host whose files are observed may return the empty list for a
+    /// name that it does not have.
     fn read_file(&mut self, name: &str) -> Result<Vec<u8>, HostFault>
         ensures contents { IfOk result (λ bytes.
             IfSome (file_map self.old) (λ files. bytes.items ≡ file_contents files name.now)) }
@@ -69,9 +70,9 @@ pub trait Host {
         ensures out_kept { bytes_out self.new ≡ bytes_out self.old }
         ensures err_kept { bytes_err self.new ≡ bytes_err self.old };
 
-    /// Makes these the bytes of the file of this name.
+    /// Sets the bytes of the file of this name to these.
     ///
-    /// `Failed` comes only with a count. After a refusal the file may hold a part of the bytes.
+    /// Every `Failed` is counted. After a refusal the file may hold a part of the bytes.
     fn write_file(&mut self, name: &str, bytes: &[u8]) -> Result<(), HostFault>
         ensures written { OnOk result
             (IfObserved (λ before now. now name.now ≡ Some bytes.now)
@@ -103,7 +104,7 @@ pub trait Host {
 
     /// Writes these bytes to the output stream.
     ///
-    /// `Failed` comes only with a count. After a refusal a part of the bytes may be out.
+    /// Every `Failed` is counted. After a refusal a part of the bytes may be out.
     fn out(&mut self, bytes: &[u8]) -> Result<(), HostFault>
         ensures gained { OnOk result
             (bytes_out self.new ≡ stream_with (bytes_out self.old) bytes.now) }
@@ -127,7 +128,7 @@ pub trait Host {
 
     /// Writes these bytes to the error stream.
     ///
-    /// Every `Err` is counted, memory that is out too, by a count of the error stream's own, and leaves
+    /// Every `Err`, even out of memory, is counted by a count of the error stream's own, and leaves
     /// what is observed of the last failed call. After a refusal a part of the bytes may be out.
     fn err(&mut self, bytes: &[u8]) -> Result<(), HostFault>
         ensures gained { OnOk result

@@ -28,7 +28,7 @@ fn place_of(files: &[HostFile], name: &str) -> Option<usize>
     files.iter().position(|file| file.name.as_str() == name)
 }
 
-// Makes these the bytes of the first file of this name, or of a new one.
+// Sets the bytes of the first file of this name, or of a new one, to these.
 pub(crate) fn put_file(
     files: &mut Vec<HostFile>,
     name: &str,

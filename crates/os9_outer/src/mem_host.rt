@@ -12,20 +12,20 @@ use std::alloc::Global;
 /// What a planned failure of a write leaves in its file.
 #[derive(Clone, Copy, Debug, PartialEq, Eq)]
 pub enum FailedWrite {
-    /// The old bytes, as if there is no room for a new file beside it.
+    /// The old bytes, as if there is no room for a new file next to it.
     Old,
-    /// The first half of the new bytes, as if a disk that is written in place fails.
+    /// The first half of the new bytes, as if a write in place to a disk fails.
     Half,
     /// The new bytes, as if the file has its place, and its folder cannot be synced.
     New,
 }
 
-/// A host in memory for tests, whose calls fail as it was planned. All that it has is observed.
+/// A host in memory for tests, whose calls fail as planned. Everything in it is observed.
 ///
 /// `calls` counts the calls of all four kinds together, and `plan` lists the numbers, from 1, of
-/// those that fail. A call that fails has no other effect than its count, unless it is a write and
-/// `failed_write` leaves new bytes. Of two files of one name the first counts, and a file that is
-/// missing is a fault.
+/// those that fail. A failing call has no effect except its count, unless it is a write and
+/// `failed_write` leaves new bytes. Of two files of one name the first counts, and a missing file
+/// is a fault.
 #[derive(Debug, Drop)]
 pub struct MemHost {
     pub files: Vec<HostFile>,
@@ -43,7 +43,7 @@ pub struct MemHost {
 }
 
 impl MemHost {
-    /// A host with these files, whose calls of these numbers fail, and leave each file as it was.
+    /// A host with these files. Its calls of these numbers fail, and leave each file unchanged.
     pub fn new(alloc: Global, files: Vec<HostFile>, plan: Vec<u64>) -> MemHost
         ensures files { result.files.items ≡ files.items }
         ensures out_bytes { result.out_bytes.items ≡ [] }
@@ -74,7 +74,7 @@ impl MemHost {
         }
     }
 
-    // Counts a call, and says whether it is to fail.
+    // Counts a call, and returns whether it is to fail.
     fn fails_next(&mut self) -> bool
         ensures planned { result ≡ is_planned self.old.plan.items self.new.calls }
         ensures call_counted { self.new ≡ record self.old {

@@ -1,4 +1,4 @@
-//! A new file beside another one, which it is to replace.
+//! A new file next to another one, which it is to replace.
 
 use std::fs::{File, Metadata, OpenFile, OpenOptions};
 use std::io::{ErrorKind, Write};
@@ -7,20 +7,20 @@ use std::path::{Path, PathBuf};
 use std::rt::Runtime;
 use std::{fs, io};
 
-/// Whom a new file lets in: its owner alone, until it has the mode of the old one.
+/// The mode of a new file: only its owner has access, until it has the mode of the old one.
 const OWNER_ALONE: u32 = 0o600;
 
-/// The same of one that replaces none. The umask takes away from it.
+/// The mode of a new file that replaces none. The umask takes away from it.
 const ANYONE: u32 = 0o666;
 
-/// A file that this run has made, under a name that nothing had.
+/// A file that this run has made, under a name that was free.
 #[derive(Drop)]
 pub(crate) struct NewFile<F: Drop> {
     path: PathBuf,
     file: F,
 }
 
-// Makes a file beside the one of this place: its name, `.os9-` and the first number from 1 that is free.
+// Makes a file next to the one of this place: its name, `.os9-` and the first free number from 1.
 pub(crate) fn create_beside<R: Runtime + AllocGlobal>(
     rt: &R,
     place: Path<'_>,
@@ -49,8 +49,8 @@ pub(crate) fn create_beside<R: Runtime + AllocGlobal>(
 }
 
 impl<F: Write + OpenFile + Drop> NewFile<F> {
-    // Gives the file the owner, the group and the mode of the old one. An owner that the system does not
-    // let this user give is not kept.
+    // Gives the file the owner, the group and the mode of the old one. An owner that the system
+    // does not let this user give is not kept.
     pub(crate) fn take_after<R: Runtime>(&self, rt: &R, old: &Metadata) -> io::Result<()> {
         let path = self.path.as_path();
         if lchown(rt, path, Some(old.uid()), Some(old.gid())).is_err() {
@@ -59,13 +59,13 @@ impl<F: Write + OpenFile + Drop> NewFile<F> {
         self.file.set_permissions(old.permissions())
     }
 
-    // Writes these bytes, and has them on the disk.
+    // Writes these bytes, and syncs them to the disk.
     pub(crate) fn fill(&mut self, bytes: &[u8]) -> io::Result<()> {
         self.file.write_all(bytes)?;
         self.file.sync_all()
     }
 
-    // Gives the file this name, over the file that has it.
+    // Gives the file this name, and replaces any file of that name.
     pub(crate) fn rename<R: Runtime>(&self, rt: &R, place: Path<'_>) -> io::Result<()> {
         if !self.has_its_name(rt) {
             return Err(io::Error::from(ErrorKind::NotFound));
@@ -73,14 +73,14 @@ impl<F: Write + OpenFile + Drop> NewFile<F> {
         fs::rename(rt, self.path.as_path(), place)
     }
 
-    // Removes the file. That it cannot be removed leaves it there, and is not what the caller has to know.
+    // Removes the file. If it cannot be removed it stays there, and the caller need not know that.
     pub(crate) fn remove<R: Runtime>(&self, rt: &R) {
         if self.has_its_name(rt) {
             let _ = fs::remove_file(rt, self.path.as_path());
         }
     }
 
-    // Is it this file that its name leads to, and not one that was put there since?
+    // Does its name still lead to this file, and not to one that was put there since?
     fn has_its_name<R: Runtime>(&self, rt: &R) -> bool {
         match (
             self.file.metadata(),

@@ -4,10 +4,10 @@ use std::io::{self, ErrorKind, Print};
 use std::thread;
 use std::time::{Clock, Duration};
 
-/// How many milliseconds to wait before a full output is tried again.
+/// The milliseconds to wait before a full output is tried again.
 const PAUSE: u64 = 1;
 
-// Writes all of these bytes. A stream that does not block, and is full, is waited for.
+// Writes all of these bytes. If a non-blocking stream is full, it waits for the stream.
 pub(crate) fn put_all<R: Print + Clock>(rt: &R, bytes: &[u8]) -> io::Result<()> {
     let mut rest = bytes;
     for _ in 0..u64::MAX {

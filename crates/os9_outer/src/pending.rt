@@ -5,7 +5,7 @@ use crate::terminal::Key;
 use std::alloc::Global;
 use std::marker::Model;
 
-/// The keys that a terminal has still to give.
+/// The keys that a terminal has not given yet.
 #[derive(Debug, Drop)]
 pub struct Pending {
     keys: Vec<Key>,

@@ -6,7 +6,7 @@ use crate::drive::{BlockDriver, DriveFault};
 use crate::slot::Slot;
 
 /// A call of a [`RamDrive`] that is to fail: its number, from 1, among the reads and writes, and
-/// the fault that it answers.
+/// the fault that it returns.
 #[derive(Clone, Copy, Debug, PartialEq, Eq)]
 pub struct PlannedFault {
     pub call: u64,
@@ -50,7 +50,7 @@ fn fault_of(faults: &[PlannedFault], call: u64) -> Option<DriveFault>
     Some(planned.fault)
 }
 
-/// A drive over memory for tests, whose calls fail as it was planned.
+/// A drive over memory for tests, whose calls fail as planned.
 #[derive(Debug, Drop)]
 pub struct RamDrive {
     slot: Slot,
@@ -61,7 +61,7 @@ pub struct RamDrive {
 }
 
 impl RamDrive {
-    /// A drive without an image, of whose reads and writes these fail.
+    /// A drive without an image, with these failing reads and writes.
     pub fn new(plan: Vec<PlannedFault>) -> RamDrive
         ensures no_media { ⟦<RamDrive as BlockDriver>⟧.media result ≡ None }
         ensures no_calls { ⟦<RamDrive as BlockDriver>⟧.drive_calls result ≡ 0 }
@@ -71,8 +71,7 @@ impl RamDrive {
         RamDrive::with_plan(Plan::Calls(plan))
     }
 
-    /// A drive without an image, of whose reads and writes the one of this number and every later
-    /// one fail.
+    /// A drive without an image, whose read or write of this number fails, as does every later one.
     pub fn stopping(call: u64, fault: DriveFault) -> RamDrive
         ensures no_media { ⟦<RamDrive as BlockDriver>⟧.media result ≡ None }
         ensures no_calls { ⟦<RamDrive as BlockDriver>⟧.drive_calls result ≡ 0 }
@@ -97,14 +96,14 @@ impl RamDrive {
         }
     }
 
-    /// How many reads and writes were made.
+    /// The number of reads and writes so far.
     pub fn calls(&self) -> u64
         ensures { result ≡ ⟦<RamDrive as BlockDriver>⟧.drive_calls self.now }
     {
         self.calls
     }
 
-    // Counts a call, and its fault where it is to fail.
+    // Counts a call, and its fault if it is to fail.
     fn begin_call(&mut self) -> Result<(), DriveFault>
         ensures planned { result_err result ≡ planned_fault self.old self.new.calls }
         ensures plan_kept { self.new.plan ≡ self.old.plan }

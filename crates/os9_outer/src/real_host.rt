@@ -10,18 +10,19 @@ use std::io::{ErrorKind, Read};
 use std::rt::Runtime;
 use std::{fs, io, str};
 
-/// The most bytes that a file which is read may have.
+/// The most bytes of a file that is read.
 const LONGEST_FILE: u64 = 536_870_912;
 
-/// How many bytes of a file are read at a time.
+/// The number of bytes of a file that are read at a time.
 const PART: usize = 4096;
 
 /// The host of the running program: its files, its standard output and its standard error.
 ///
-/// No contents are observed of it. A file that is missing or too long is a fault, a write that takes nothing
-/// is one, and bytes that are no text are one of the error stream. A file that has the bytes already is left
-/// alone. Any other plain file is written as a whole new one beside it (its name, `.os9-` and the first number
-/// that is free), which takes its place with its owner and mode; where that fails it is as it was.
+/// Its contents are not observed. A missing or too long file is a fault, and so is a write that
+/// takes nothing. Bytes that are not text are a fault of the error stream. A file that has the
+/// bytes already is left alone. Any other plain file is replaced by a whole new one, written next
+/// to it (its name, `.os9-` and the first free number), with its owner and mode. If that fails the
+/// old file is unchanged.
 #[derive(Drop)]
 pub struct RealHost<R> {
     rt: R,
@@ -157,7 +158,7 @@ fn read_whole<R: Runtime + AllocGlobal>(rt: &R, name: &str) -> io::Result<Vec<u8
     }
     let mut bytes = Vec::with_capacity(rt.alloc(), length as usize)?;
     let mut part = [0; PART];
-    // (what is no plain file shows no length, and may have more bytes)
+    // (a file that is not a plain one shows no length, and may have more bytes)
     for _ in 0..u64::MAX {
         let count = read_some(&mut file, &mut part)?;
         if count == 0 {
@@ -171,7 +172,7 @@ fn read_whole<R: Runtime + AllocGlobal>(rt: &R, name: &str) -> io::Result<Vec<u8
     Err(io::Error::from(ErrorKind::TimedOut))
 }
 
-// Reads some bytes, again if a signal broke in.
+// Reads some bytes, again if a signal interrupted the read.
 fn read_some(file: &mut impl Read, part: &mut [u8; PART]) -> io::Result<usize>
     ensures { IfOk result (λ count. count ≤ 4096) }
 {

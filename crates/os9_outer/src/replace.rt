@@ -1,4 +1,4 @@
-//! A file is written as a whole.
+//! Writing a file as a whole.
 
 use crate::new_file::create_beside;
 use std::fs::{Metadata, OpenFile, OpenOptions};
@@ -8,14 +8,14 @@ use std::path::Path;
 use std::rt::Runtime;
 use std::{fs, io};
 
-/// How many bytes of a file are compared at a time.
+/// The number of bytes of a file that are compared at a time.
 const PART: usize = 8192;
 
-// Makes these the bytes of the file of this name.
+// Sets the bytes of the file of this name to these.
 //
-// A plain file that has these bytes is left alone. Any other is replaced by a whole new one, so that a
-// run which ends in the middle leaves the old bytes. A disk is written in place, and what else is no
-// plain file is refused.
+// A plain file that has these bytes is left alone. Any other is replaced by a whole new one, so
+// that a run which ends in the middle leaves the old bytes. A disk is written in place, and
+// anything else that is not a plain file is refused.
 pub(crate) fn write_whole<R: Runtime + AllocGlobal>(
     rt: &R,
     name: &str,
@@ -32,7 +32,7 @@ pub(crate) fn write_whole<R: Runtime + AllocGlobal>(
     }
 }
 
-// Makes these the bytes of a plain file.
+// Sets the bytes of a plain file to these.
 fn write_plain<R: Runtime + AllocGlobal>(
     rt: &R,
     name: &str,
@@ -42,7 +42,7 @@ fn write_plain<R: Runtime + AllocGlobal>(
     if old.len() == bytes.len() as u64 && matches!(begins_with(rt, name, bytes), Ok(true)) {
         return Ok(());
     }
-    // (one that may not be written is not replaced either)
+    // (a file that may not be written is not replaced either)
     OpenOptions::new().write(true).open(rt, name)?;
     // (a link is followed: the file it names is replaced, not the link)
     let place = fs::canonicalize(rt, name)?;
@@ -69,8 +69,8 @@ fn write_in_place<R: Runtime>(rt: &R, name: &str, bytes: &[u8]) -> io::Result<()
     file.sync_all()
 }
 
-// Writes a new file beside the place, has it on the disk, and gives it the place. Where that fails the
-// new file is removed.
+// Writes a new file next to the place, syncs it to the disk, and gives it the place. If that fails
+// the new file is removed.
 fn replace<R: Runtime + AllocGlobal>(
     rt: &R,
     place: Path<'_>,
@@ -94,7 +94,7 @@ fn replace<R: Runtime + AllocGlobal>(
     }
 }
 
-// Has the names in the folder of this place on the disk, if the system does that for this folder.
+// Syncs the names in the folder of this place to the disk, if the system does that for this folder.
 fn sync_folder<R: Runtime>(rt: &R, place: Path<'_>) -> io::Result<()> {
     let folder = match place.parent() {
         Some(folder) if !folder.as_str().is_empty() => folder,

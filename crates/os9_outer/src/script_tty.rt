@@ -8,7 +8,7 @@ use std::alloc::Global;
 use std::mem;
 
 /// A terminal over memory for tests, whose calls of `key` and `put`, counted together from 1, fail
-/// as it was planned. Its bytes are observed.
+/// as planned. Its bytes are observed.
 #[derive(Debug, Drop)]
 pub struct ScriptTty {
     pending: Pending,
@@ -19,7 +19,7 @@ pub struct ScriptTty {
 }
 
 impl ScriptTty {
-    /// A terminal without keys, on which nothing was put, whose calls of these numbers fail.
+    /// A terminal without keys and without bytes put, whose calls of these numbers fail.
     pub fn new(alloc: Global, plan: Vec<u64>) -> ScriptTty
         ensures no_keys { ⟦<ScriptTty as CharDriver>⟧.keys_left result ≡ [] }
         ensures no_bytes { ⟦<ScriptTty as CharDriver>⟧.bytes_put result ≡ Some [] }
@@ -35,7 +35,7 @@ impl ScriptTty {
         }
     }
 
-    // Counts a call, and its fault where it is to fail; says whether it is.
+    // Counts a call, and its fault if it is to fail; returns whether it is.
     fn fails_next(&mut self) -> bool
         ensures planned { result ≡ is_planned (planned_calls self.old) self.new.calls }
         ensures plan_kept { planned_calls self.new ≡ planned_calls self.old }

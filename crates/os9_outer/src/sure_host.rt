@@ -6,9 +6,9 @@ use crate::host_file::{HostFile, bytes_of, copied, put_file};
 use crate::names::note;
 use std::alloc::Global;
 
-/// A host in memory that never fails: its count of faults is always 0, and that of the error stream rises
-/// only if memory is out. All that it has is observed, and reads a name that it does not hold as the empty
-/// list.
+/// A host in memory that never fails: its count of faults is always 0, and that of the error stream
+/// rises only if memory is out. Everything in it is observed, and a read of a name that it does not
+/// have returns the empty list.
 #[derive(Debug, Drop)]
 pub struct SureHost {
     files: Vec<HostFile>,
@@ -20,7 +20,7 @@ pub struct SureHost {
 }
 
 impl SureHost {
-    /// A host with these files, to whose streams nothing was written.
+    /// A host with these files, before any write to its streams.
     pub fn new(alloc: Global, files: Vec<HostFile>) -> SureHost
         ensures files { ⟦<SureHost as Host>⟧.file_map result ≡ Some (file_named files.items) }
         ensures no_out { ⟦<SureHost as Host>⟧.bytes_out result ≡ Some [] }

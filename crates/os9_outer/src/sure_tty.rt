@@ -5,7 +5,8 @@ use crate::terminal::{CharDriver, Key, PutFault, TermFault};
 use std::alloc::Global;
 use std::mem;
 
-/// A terminal over memory that never fails: its count of faults is always 0. Its bytes are observed.
+/// A terminal over memory that never fails: its count of faults is always 0. Its bytes are
+/// observed.
 #[derive(Debug, Drop)]
 pub struct SureTty {
     pending: Pending,
@@ -13,7 +14,7 @@ pub struct SureTty {
 }
 
 impl SureTty {
-    /// A terminal without keys, on which nothing was put.
+    /// A terminal without keys and without bytes put.
     pub fn new(alloc: Global) -> SureTty
         ensures no_keys { ⟦<SureTty as CharDriver>⟧.keys_left result ≡ [] }
         ensures no_bytes { ⟦<SureTty as CharDriver>⟧.bytes_put result ≡ Some [] }

@@ -21,7 +21,7 @@ pub struct TermFault;
 /// Why a byte was not put on a terminal.
 #[derive(Clone, Copy, Debug, PartialEq, Eq, Error)]
 pub enum PutFault {
-    /// The terminal failed. It counts it.
+    /// The terminal failed. The terminal counts it.
     #[error("the terminal failed")]
     Fault,
     /// Out of memory.
@@ -29,10 +29,10 @@ pub enum PutFault {
     OutOfMemory,
 }
 
-/// A terminal: keys to come, and bytes that are put on it (this project's own).
+/// A terminal: keys not given yet, and bytes that are put on it (this project's own).
 ///
-/// `keys_left` are the keys to come, in their order. `bytes_put` are the bytes put since the last
-/// `take`, if they are observed. `term_faults` counts the faults and never falls.
+/// `keys_left` are these keys, in their order. `bytes_put` are the bytes put since the last `take`,
+/// if they are observed. `term_faults` counts the faults and never falls.
 pub trait CharDriver: Drop {
     ghost keys_left: { Self → List Key };
 
@@ -40,7 +40,7 @@ pub trait CharDriver: Drop {
 
     ghost term_faults: { Self → ℕ };
 
-    /// Gives the terminal its keys. They are handed back exactly where keys are left.
+    /// Gives the terminal its keys. They are handed back exactly if keys are left.
     fn load(&mut self, keys: Vec<Key>) -> Result<(), Vec<Key>>
         ensures loaded { OnOk result (keys_left self.new ≡ keys.items) }
         ensures was_empty { OnOk result (keys_left self.old ≡ []) }
@@ -50,8 +50,8 @@ pub trait CharDriver: Drop {
         ensures put_kept { bytes_put self.new ≡ bytes_put self.old }
         ensures faults_kept { term_faults self.new ≡ term_faults self.old };
 
-    /// Takes the first key where it is due, that is where its tick is at most this one. The answer
-    /// is None exactly where there is no such key. A fault takes nothing.
+    /// Takes the first key if it is due: its tick is at most this one. Returns None exactly if
+    /// there is no such key. A fault takes nothing.
     fn key(&mut self, tick: u32) -> Result<Option<u8>, TermFault>
         ensures answered { IfOk result (λ byte. byte ≡ due_byte (keys_left self.old) tick) }
         ensures taken { OnOk result (keys_left self.new ≡ keys_after (keys_left self.old) tick) }
@@ -72,7 +72,7 @@ pub trait CharDriver: Drop {
         ensures never_falls { term_faults self.old ≤ term_faults self.new }
         ensures keys_kept { keys_left self.new ≡ keys_left self.old };
 
-    /// Hands over the bytes put since the last call of this, and leaves none.
+    /// Hands over the bytes put since the last call of this function, and leaves none.
     fn take(&mut self) -> Vec<u8>
         ensures handed_over { IfSome (bytes_put self.old) (λ bytes. result.items ≡ bytes) }
         ensures none_left { bytes_put self.new ≡ emptied (bytes_put self.old) }

@@ -1,4 +1,4 @@
--- The members of the scheduler by number: place p has what is kept of process p, or nothing.
+-- The members of the scheduler by number: place p has what the scheduler keeps of process p, or nothing.
 use Rattle.std.specs.Prelude.{◌≡◌, ℕ, ◌<◌, ◌≤◌, Bool, false, Option, Some, None, IsSome, option_map, option_and_then, unwrap_or, List, slice_index_or}
 use Rattle.os9_sched.specs.declared.member.Cause.{Cause}
 use Rattle.os9_sched.specs.declared.member.Wait.{Wait}
@@ -14,7 +14,7 @@ member_of members p = slice_index_or members p None
 abbrev pub IsMember : List (Option Member) → ℕ → Type 0
 IsMember members p = IsSome (member_of members p)
 
--- what is kept of a process that is in it
+-- what is kept of a process in the scheduler
 abbrev pub member_at : List (Option Member) → ℕ → Member
 member_at members p = unwrap_or (member_of members p) (record { priority = 0; standing = Going })
 

@@ -15,7 +15,7 @@ pub record Schedule : Type 0 where
   pub order : List Turn  -- the one chosen longest ago first, with their ages
   pub members : List (Option Member)  -- by process number, 0 to 32
 
--- what a scheduler always is: each process that is in it has one turn, and no other has one
+-- what always holds of a scheduler: each process in it has one turn, and no other process has a turn
 pub record IsSchedule (s : Schedule) : Type 0 where
   pub places : length s.members ≡ PROCESS_PLACES
   pub same : (p : ℕ) → has_turn s.order p ≡ is_some (member_of s.members p)
@@ -41,26 +41,26 @@ after_add s p priority = record {
 abbrev pub after_remove : Schedule → ℕ → Schedule
 after_remove s p = record { order = without_turn s.order p; members = slice_set s.members p None }
 
--- the scheduler where a process has this cause and tick, and rests
+-- the scheduler in which a process has this cause and tick, and rests
 abbrev pub after_wait : Schedule → ℕ → Wait → Schedule
 after_wait s p wait = with_standing s p (Resting wait)
 
--- the scheduler where a process with a cause is active, or rests; the cause stays
+-- the scheduler in which a process with a cause is active, or rests; the cause stays
 abbrev pub after_wake : Schedule → ℕ → Schedule
 after_wake s p = with_standing s p (woken (member_at s.members p).standing)
 
 abbrev pub after_rest : Schedule → ℕ → Schedule
 after_rest s p = with_standing s p (rested (member_at s.members p).standing)
 
--- the scheduler where a process is active without a cause
+-- the scheduler in which a process is active without a cause
 abbrev pub after_go : Schedule → ℕ → Schedule
 after_go s p = with_standing s p Going
 
--- the scheduler where each process whose tick is reached is active
+-- the scheduler in which each process whose tick is reached is active
 abbrev pub after_tick : Schedule → ℕ → Schedule
 after_tick s tick = record s { members = map (option_map (woken_at tick)) s.members }
 
--- Choose over the active members: who is chosen, and the scheduler then
+-- Choose over the active members: the chosen process, and the scheduler afterwards
 abbrev pub chosen : Schedule → Option Pid
 chosen s = (choose (is_active_in s.members) (priority_in s.members) s.order).chosen
 

@@ -1,4 +1,4 @@
--- Who is active, and what a process waits for. This project's own: the real system keeps a queue of
+-- Which processes are active, and what a process waits for. This project's own: the real system keeps a queue of
 -- active, of waiting and of sleeping processes (Level Two manual, process scheduling).
 use Rattle.std.specs.Prelude.{ℕ, nat_le, Bool, true, false, Option, Some, None, if◌then◌else◌}
 use Rattle.os9_sched.specs.declared.member.Wait.{Wait}

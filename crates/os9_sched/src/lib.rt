@@ -1,5 +1,5 @@
-//! The scheduler: the processes in the order in which they were chosen, with their ages, and who
-//! of them waits for what.
+//! The scheduler: the processes in the order in which they were chosen, with their ages, and what
+//! each waits for.
 #![tactic(auto)]
 
 pub use member::{Cause, Wait};

@@ -49,7 +49,7 @@ pub fn age_in(order: &[Turn], p: Pid) -> Option<u8>
     Some(turn.age)
 }
 
-/// The active process of greatest age; of several the one that comes first.
+/// The active process of greatest age; of several the first one.
 pub fn eldest(order: &[Turn], members: &[Option<Member>]) -> Option<Pid>
     ensures eldest { result ≡ eldest_lem (ready_turns (is_active_in_lem members.now) order.now) }
     ensures member { IfSome result (λ p. IsMember members.now p.0) }
@@ -68,7 +68,7 @@ fn first_of_age(order: &[Turn], members: &[Option<Member>], age: u8) -> Option<P
     Some(turn.process)
 }
 
-/// The greatest age that an active process has, if there is one.
+/// The greatest age of an active process, if there is one.
 fn greatest_age(order: &[Turn], members: &[Option<Member>]) -> u8
     ensures { result ≡ greatest_age_lem (ready_turns (is_active_in_lem members.now) order.now) }
 {
@@ -96,7 +96,7 @@ pub fn age(order: &mut [Turn], members: &[Option<Member>])
     }
 }
 
-/// Makes each process active whose tick is reached.
+/// Makes each process active if its tick is reached.
 pub fn wake_due(members: &mut [Option<Member>], tick: u32)
     ensures { members.new ≡ map (option_map (woken_at_lem tick)) members.old }
 {
@@ -105,7 +105,7 @@ pub fn wake_due(members: &mut [Option<Member>], tick: u32)
     }
 }
 
-/// The process of least number above this one that waits for this.
+/// The process of least number above `after` that waits for this.
 pub fn next_waiting(members: &[Option<Member>], cause: Cause, after: u8) -> Option<Pid>
     requires { length members.now ≡ PROCESS_PLACES }
     ensures found { IfSome result (λ p. IsNextWaiting members.now cause after p.0) }

@@ -17,7 +17,7 @@ pub enum Cause {
     Lock(u8, u32),
 }
 
-/// A cause, and the tick at which the wait is over whatever happens.
+/// A cause, and the tick at which the wait is over in any case.
 #[derive(Clone, Copy, Debug)]
 pub struct Wait {
     pub cause: Cause,
@@ -35,7 +35,7 @@ pub enum Standing {
     Resting(Wait),
 }
 
-/// What the scheduler keeps of a process beside its turn.
+/// What the scheduler keeps of a process, other than its turn.
 #[derive(Clone, Copy, Debug)]
 pub struct Member {
     pub priority: u8,
@@ -83,7 +83,7 @@ pub fn woken_at(tick: u32, member: Member) -> Member
     Member { standing, ..member }
 }
 
-/// Has a process of this standing a tick, and is it reached?
+/// Does a process of this standing have a tick that is reached?
 fn is_due(tick: u32, standing: Standing) -> bool
     ensures { result ≡ is_due_lem tick standing }
 {
@@ -91,7 +91,7 @@ fn is_due(tick: u32, standing: Standing) -> bool
     until.is_some_and(|until| until <= tick)
 }
 
-/// Does the process of this place wait for this?
+/// Does the process in this place wait for this?
 pub fn waits_for(place: Option<Member>, cause: Cause) -> bool
     ensures { IsTrue result ↔ (option_map (λ w. w.cause) (wait_at place) ≡ Some cause) }
 {

@@ -50,8 +50,8 @@ impl Sched {
         })
     }
 
-    /// Takes in a process, which is active without a cause. It counts as chosen now, and its age is
-    /// its priority.
+    /// Adds a process, which is active without a cause. It counts as chosen now, and its age is its
+    /// priority.
     pub fn add(&mut self, p: Pid, priority: u8)
         requires process { IsProcess p.0 }
         requires apart { member_of self.old.members p.0 ≡ None }
@@ -69,7 +69,7 @@ impl Sched {
         self.members[p.0 as usize] = Some(Member { priority, standing });
     }
 
-    /// Takes out a process, active or resting.
+    /// Removes a process, active or resting.
     pub fn remove(&mut self, p: Pid)
         requires { IsMember self.old.members p.0 }
         ensures schedule { self.new ≡ after_remove self.old p.0 }
@@ -98,7 +98,7 @@ impl Sched {
         age_in(&self.order, p).unwrap()
     }
 
-    /// Puts a process to rest that waits for this, until this tick if there is one.
+    /// Puts a process to rest: it waits for this, until this tick if there is one.
     pub fn wait(&mut self, p: Pid, cause: Cause, until: Option<u32>)
         requires { HasNoWait self.old.members p.0 }
         ensures schedule { self.new
@@ -137,7 +137,7 @@ impl Sched {
         self.set_standing(p, rested(member.standing));
     }
 
-    /// Makes each process active whose tick is this one or an earlier one.
+    /// Makes each process active if its tick is this one or an earlier one.
     pub fn wake_due(&mut self, tick: u32)
         ensures schedule { self.new ≡ after_tick self.old tick }
         ensures shape { IsSchedule self.new }
@@ -154,10 +154,10 @@ impl Sched {
         self.set_standing(p, Standing::Going);
     }
 
-    /// Chooses the active process of greatest age, among equals the one that was chosen longest ago;
-    /// None if no process is active. The age of the chosen process becomes its priority, that of
-    /// each other active one grows by 1 up to 255, and each resting one has its priority as its age,
-    /// also if none is active.
+    /// Chooses the active process of greatest age, among equals the one that was chosen longest
+    /// ago; None if no process is active. The age of the chosen process becomes its priority, that
+    /// of each other active one grows by 1 up to 255, and each resting one has its priority as its
+    /// age, even if none is active.
     pub fn dispatch(&mut self) -> Option<Pid>
         ensures chosen { result ≡ chosen self.old }
         ensures schedule { self.new ≡ after_dispatch self.old }
@@ -199,7 +199,7 @@ impl Sched {
         self.put(p, Member { standing, ..member });
     }
 
-    /// The ages after a dispatch, but for that of the process that is chosen.
+    /// The ages after a dispatch, except that of the chosen process.
     fn grow_older(&mut self)
         ensures schedule { self.new ≡ grown_older self.old }
         ensures shape { IsSchedule self.new }
@@ -207,7 +207,7 @@ impl Sched {
         age(&mut self.order, &self.members);
     }
 
-    /// Puts a process behind the others, with its priority as its age.
+    /// Puts a process after the others, with its priority as its age.
     fn put_last(&mut self, p: Pid)
         requires { IsMember self.old.members p.0 }
         ensures schedule { self.new ≡ with_last self.old p }
@@ -219,7 +219,7 @@ impl Sched {
     }
 }
 
-/// Puts a turn behind the others.
+/// Puts a turn after the others.
 fn push_turn(order: &mut Vec<Turn>, turn: Turn)
     requires room { vec_len order.old < vec_capacity order.old }
     ensures items { order.new.items ≡ order.old.items ++ turn ∷ [] }
@@ -228,7 +228,7 @@ fn push_turn(order: &mut Vec<Turn>, turn: Turn)
     let _ = order.push(turn);
 }
 
-/// Takes away the turn of a process.
+/// Removes the turn of a process.
 fn remove_turn(order: &mut Vec<Turn>, p: Pid)
     ensures items { order.new.items ≡ without_turn order.old.items p.0 }
     ensures capacity { vec_capacity order.new ≡ vec_capacity order.old }

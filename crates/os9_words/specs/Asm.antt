@@ -1,4 +1,4 @@
--- Which words are those of `asm` (this project's own).
+-- The words of `asm` (this project's own).
 use Rattle.std.specs.Prelude.{Option, Some, None, List, ℕ, [], slice_get}
 use Rattle.word_options.specs.Given.{Given}
 use Rattle.os9_words.specs.declared.asm_words.AsmWords.{AsmWords}
@@ -7,7 +7,7 @@ use Rattle.os9_words.specs.declared.asm_words.AsmWords.{AsmWords}
 abbrev pub asm_options : List (List ℕ)
 asm_options = []
 
--- where a source and a file for the module are given, and no more
+-- the words, if a source and a file for the module are given, and no more
 abbrev pub asm_with : (source out more : Option (List ℕ)) → Option AsmWords
 asm_with (Some source) (Some out) None = Some (record { source = source; out = out })
 asm_with _ _ _ = None

@@ -1,4 +1,4 @@
--- Which words are a command line (this project's own).
+-- The words of a command line (this project's own).
 use Rattle.std.specs.Prelude.{◌≡◌, ℕ, ◌<◌, ◌≤◌, true, nat_le, ◌&&◌, length, Option, Some, None, IsSome, option_and_then, option_map, Result, Ok, Err, ⊤, List, [], ◌∷◌, bytes_eq, codes, if◌then◌else◌}
 use Rattle.std.specs.Option.{option_map_or}
 use Rattle.os9_base.specs.declared.registers.TimePacket.{TimePacket}
@@ -28,7 +28,7 @@ abbrev pub run_with : (modules script slices : Option (List ℕ)) (blocks : Opti
     → Option Command
 run_with modules script slices blocks start = option_map Run (run_words_with modules script slices blocks start)
 
--- `run MODULES --slices SLICES`, with `--script SCRIPT`, `--blocks N` and `--time T` or not
+-- `run MODULES --slices SLICES`, optionally with `--script SCRIPT`, `--blocks N` and `--time T`
 abbrev pub run_of : Given → Option Command
 run_of words = option_map Run (run_words_of words)
 
@@ -36,8 +36,8 @@ run_of words = option_map Run (run_words_of words)
 abbrev pub most_images : ℕ
 most_images = 4
 
--- `boot` of these images, with this script, over these slices and blocks, from this time on, where one to four
--- images, a script, slices, a number of blocks and a time are given
+-- `boot` of these images, with this script, these slices and blocks, and this start; defined if one to four images, a
+-- script, slices, a number of blocks and a time are given
 abbrev pub boot_with : List (List ℕ) → (script slices : Option (List ℕ)) (blocks : Option ℕ) (start : Option TimePacket)
     → Option Command
 boot_with images (Some script) (Some slices) (Some blocks) (Some start) =
@@ -52,7 +52,7 @@ boot_with images (Some script) (Some slices) (Some blocks) (Some start) =
     else None
 boot_with _ _ _ _ _ = None
 
--- `boot IMAGE.. --script SCRIPT --slices SLICES`, with `--blocks N` and `--time T` or not
+-- `boot IMAGE.. --script SCRIPT --slices SLICES`, optionally with `--blocks N` and `--time T`
 abbrev pub boot_of : Given → Option Command
 boot_of words =
     boot_with words.arguments (value_of words (codes "script")) (value_of words (codes "slices")) (blocks_of words)
@@ -74,7 +74,7 @@ seed_of number = within 0 most_seed (number_of number)
 abbrev pub stress_of : Given → Option Command
 stress_of words = option_map Stress (option_and_then seed_of (only_argument words))
 
--- the command that the words spell, or nothing where they spell none
+-- the command that the words spell, or nothing if they do not spell one
 abbrev pub command_of : List (List ℕ) → Option Command
 command_of [] = None
 command_of (command ∷ words) =
@@ -100,7 +100,7 @@ pub record HasImages (run : RunWords) : Type 0 where
   pub few : length run.files ≤ most_images
   pub script : IsSome run.script
 
--- a machine has from 8 to 256 blocks, and starts at a date and time of 1900 to 2155
+-- a machine has from 8 to 256 blocks, and starts at a date and time in the years 1900 to 2155
 pub record SetsMachine (run : RunWords) : Type 0 where
   pub blocks : (8 ≤ run.blocks) × (run.blocks ≤ 256)
   pub time : is_time_packet run.start ≡ true
@@ -115,7 +115,7 @@ pub record IsBoot (boot : RunWords) : Type 0 where
   pub files : HasImages boot
   pub machine : SetsMachine boot
 
--- what each command has that words spell; the seed of a stress is one of 31 bits
+-- the properties of each command that words spell; the seed of a stress has 31 bits
 abbrev pub IsCommand : Command → Type 0
 IsCommand (Run run) = IsRun run
 IsCommand (Boot boot) = IsBoot boot
@@ -125,7 +125,7 @@ IsCommand (Vol vol) = IsVol vol
 IsCommand (Asm asm) = ⊤
 IsCommand (Debug debug) = IsRun debug.run
 
--- the fact holds where the words are refused
+-- the fact holds if the words are refused
 abbrev pub OnRefused : {T : Type 0} → Result T WordsFault → Type 0 → Type 0
 OnRefused (Ok _) fact = ⊤
 OnRefused (Err Refused) fact = fact

@@ -8,7 +8,7 @@ use Rattle.os9_words.specs.declared.stress_counts.StressCounts.{StressCounts}
 abbrev pub line_of : List ℕ → List ℕ
 line_of text = text ++ 10 ∷ []
 
--- the words are no command line
+-- the words are not a command line
 abbrev pub words_line : List ℕ
 words_line = line_of (codes "os9: words")
 
@@ -45,7 +45,7 @@ boot_bounds_line = line_of (codes "os9: boot bounds")
 abbrev pub boot_module_line : ℕ → ℕ → List ℕ
 boot_module_line at error = line_of (codes "os9: boot module " ++ decimal error ++ codes " at " ++ decimal at)
 
--- the boot file and its first process need more memory than there is
+-- the boot file and its first process need too much memory
 abbrev pub boot_too_large_line : List ℕ
 boot_too_large_line = line_of (codes "os9: boot too large")
 
@@ -57,7 +57,7 @@ no_first_line = line_of (codes "os9: boot no SysGo")
 abbrev pub drive_failed_line : ℕ → ℕ → List ℕ
 drive_failed_line drive fault = line_of (codes "os9: drive " ++ decimal drive ++ codes ": " ++ decimal fault)
 
--- the source in the file of this name is refused: this line of it, 0 for the whole, with the fault of this number
+-- the source in the file of this name is refused: its line of this number, or 0 for the whole, and the fault's number
 abbrev pub source_fault_line : List ℕ → ℕ → ℕ → List ℕ
 source_fault_line name line error =
     line_of (codes "os9: " ++ name ++ codes ": line " ++ decimal line ++ codes " error " ++ decimal error)
@@ -88,14 +88,14 @@ message_line (BadSource name line error) = source_fault_line name.now line error
 message_line (Refused name error) = refused_line name.now error
 message_line (TerminalFailed terminal) = terminal_failed_line terminal
 
--- what `check` counts: files that are no directories, directories with the root, free clusters and
+-- the counts of `check`: files other than directories, directories including the root, free clusters and
 -- lost clusters
 abbrev pub counts_line : ℕ → ℕ → ℕ → ℕ → List ℕ
 counts_line files directories free lost =
     line_of (codes "files " ++ decimal files ++ codes " dirs " ++ decimal directories
     ++ codes " free " ++ decimal free ++ codes " lost " ++ decimal lost)
 
--- what `stress` counts
+-- the counts of `stress`
 abbrev pub stress_line : StressCounts → List ℕ
 stress_line counts =
     line_of (codes "slices " ++ decimal counts.slices ++ codes " files " ++ decimal counts.files

@@ -1,4 +1,4 @@
--- What a text that is written to a stream of a host leaves.
+-- What a write of a text to a stream of a host changes.
 use Rattle.std.specs.Prelude.{◌≡◌, None, false, Result, List, ℕ, OnOk, OnErr}
 use Rattle.os9_base.specs.Count.{Rose}
 use Rattle.os9_outer.specs.Host.{OnFailed, UnlessFailed}
@@ -6,7 +6,7 @@ use Rattle.os9_outer.specs.Stream.{stream_with, GainsPrefix}
 use Rattle.os9_outer.specs.declared.host.Host.{Ghosts}
 use Rattle.os9_outer.specs.declared.host.HostFault.{HostFault}
 
--- of what can be observed of a host, only its error stream and the count of that stream's faults changed
+-- of all that can be observed of a host, only its error stream and the count of that stream's faults changed
 pub record ChangesErrOnly {Host : Type 0} (members : Ghosts Host) (before now : Host) : Type 0 where
   pub files : members.file_map now ≡ members.file_map before
   pub out : members.bytes_out now ≡ members.bytes_out before
@@ -19,11 +19,11 @@ pub record ChangesErrOnly {Host : Type 0} (members : Ghosts Host) (before now : 
 -- the text was written to the error stream, as far as the answer says
 pub record WritesErr {Host Value : Type 0} (members : Ghosts Host) (text : List ℕ) (answer : Result Value HostFault)
     (before now : Host) : Type 0 where
-  -- after Ok the whole text
+  -- after Ok, the whole text was written
   pub whole : OnOk answer (members.bytes_err now ≡ stream_with (members.bytes_err before) text)
-  -- and always its beginning
+  -- in every case, a prefix of it was written
   pub prefix : GainsPrefix (members.bytes_err before) text (members.bytes_err now)
-  -- whatever the error, it is counted
+  -- each error is counted
   pub fault_counted : OnErr answer (Rose (members.err_stream_faults before) (members.err_stream_faults now))
   pub count_kept : OnOk answer (members.err_stream_faults now ≡ members.err_stream_faults before)
   -- nothing else changed
@@ -32,11 +32,11 @@ pub record WritesErr {Host Value : Type 0} (members : Ghosts Host) (text : List 
 -- the text was written to the output stream, as far as the answer says
 pub record WritesOut {Host Value : Type 0} (members : Ghosts Host) (text : List ℕ) (answer : Result Value HostFault)
     (before now : Host) : Type 0 where
-  -- after Ok the whole text
+  -- after Ok, the whole text was written
   pub whole : OnOk answer (members.bytes_out now ≡ stream_with (members.bytes_out before) text)
-  -- and always its beginning
+  -- in every case, a prefix of it was written
   pub prefix : GainsPrefix (members.bytes_out before) text (members.bytes_out now)
-  -- the stream failed only with a count, and was then the last to fail
+  -- after `Failed`, the fault is counted, and the output stream was the last to fail
   pub fault_counted : OnFailed answer (Rose (members.host_faults before) (members.host_faults now))
   pub fault_unnamed : OnFailed answer (members.failed_name now ≡ None)
   pub fault_in_out : OnFailed answer (members.failed_in_read now ≡ false)

@@ -9,6 +9,6 @@ use Rattle.word_options.specs.Given.{Given, value_of}
 abbrev pub default_start : TimePacket
 default_start = record { year = 90; month = 1; day = 1; hour = 0; minute = 0; second = 0 }
 
--- the date and time at the start: T by `--time T`
+-- the date and time at the start: T with `--time T`
 abbrev pub time_of : Given → Option TimePacket
 time_of words = option_map_or time_in (value_of words (codes "time")) (Some default_start)

@@ -19,7 +19,7 @@ pub struct AsmWords {
     pub out: Word,
 }
 
-// Reads the words behind `asm`.
+// Reads the words after `asm`.
 pub(crate) fn read_asm(alloc: Global, words: &[String]) -> Result<AsmWords, WordsFault>
     ensures words { IfOk result (λ read. option_and_then asm_of_lem
         (words_give asm_options (map string_bytes words.now)) ≡ Some read) }

@@ -26,9 +26,9 @@ use time_text::read_time;
 /// The words of a command that runs programs.
 #[derive(Debug, Drop)]
 pub struct RunWords {
-    /// The file of modules of a run, or the images of a boot, that in D0 first.
+    /// The file of modules of a run, or the images of a boot, the image for D0 first.
     pub files: Words,
-    /// The file with the keys of the terminals, if they are given some.
+    /// The file with the keys of the terminals, if one is given.
     pub script: Option<Word>,
     /// The file with the list of slices.
     pub slices: Word,
@@ -41,29 +41,29 @@ pub struct RunWords {
 /// A command line.
 #[derive(Debug, Drop)]
 pub enum Command {
-    /// `run MODULES --slices SLICES`, with `--script SCRIPT`, `--blocks N` and `--time T` or not:
-    /// runs the program of a file of modules.
+    /// `run MODULES --slices SLICES`, optionally with `--script SCRIPT`, `--blocks N` and
+    /// `--time T`: runs the program of a file of modules.
     Run(RunWords),
-    /// `boot IMAGE.. --script SCRIPT --slices SLICES`, with `--blocks N` and `--time T` or not: runs
-    /// the program of the boot file of the first of one to four images.
+    /// `boot IMAGE.. --script SCRIPT --slices SLICES`, optionally with `--blocks N` and `--time T`:
+    /// runs the program of the boot file of the first of one to four images.
     Boot(RunWords),
     /// `check IMAGE`: tests the image in a file.
     Check(Word),
-    /// `stress N`: runs the programs of the load of this seed, which is below 2,147,483,648.
+    /// `stress N`: runs the programs of the load with seed N, which is below 2,147,483,648.
     Stress(u32),
-    /// `vol VERB IMAGE ..`, with `--time T` or not: looks into the image of a disk, or changes it.
+    /// `vol VERB IMAGE ..`, optionally with `--time T`: reads or changes the image of a disk.
     Vol(VolWords),
     /// `asm SOURCE OUT`: assembles the source in a file to the module in a file.
     Asm(AsmWords),
-    /// `debug MODULES --slices SLICES --commands COMMANDS`, with `--script SCRIPT`, `--blocks N` and
-    /// `--time T` or not: stands at any event of such a run, and shows its machine there.
+    /// `debug MODULES --slices SLICES --commands COMMANDS`, optionally with `--script SCRIPT`,
+    /// `--blocks N` and `--time T`: stops at any event of such a run, and shows its machine there.
     Debug(DebugWords),
 }
 
 /// Why words were not read.
 #[derive(Clone, Copy, Debug, PartialEq, Eq, Error)]
 pub enum WordsFault {
-    /// The words are no command line.
+    /// The words are not a command line.
     #[error("words")]
     Refused,
     /// Out of memory.
@@ -100,7 +100,7 @@ const MOST_SEED: u32 = 2_147_483_647;
 ///
 /// # Errors
 ///
-/// `Refused` where the words spell no command.
+/// `Refused` if the words do not spell a command.
 pub fn read_words(alloc: Global, words: &[String]) -> Result<Command, WordsFault>
     ensures command { IfOk result (λ command.
         command_of (map string_bytes words.now) ≡ Some command) }
@@ -122,7 +122,7 @@ pub fn read_words(alloc: Global, words: &[String]) -> Result<Command, WordsFault
     }
 }
 
-// Reads the words behind `run`.
+// Reads the words after `run`.
 fn read_run(alloc: Global, words: &[String]) -> Result<Command, WordsFault>
     ensures command { IfOk result (λ read. option_and_then run_of_lem
         (words_give run_options (map string_bytes words.now)) ≡ Some read) }
@@ -135,7 +135,7 @@ fn read_run(alloc: Global, words: &[String]) -> Result<Command, WordsFault>
     run_of(alloc, &given)
 }
 
-// Reads the words behind `boot`.
+// Reads the words after `boot`.
 fn read_boot(alloc: Global, words: &[String]) -> Result<Command, WordsFault>
     ensures command { IfOk result (λ read. option_and_then boot_of_lem
         (words_give run_options (map string_bytes words.now)) ≡ Some read) }
@@ -148,7 +148,7 @@ fn read_boot(alloc: Global, words: &[String]) -> Result<Command, WordsFault>
     boot_of(alloc, &given)
 }
 
-// Reads the words behind `check`.
+// Reads the words after `check`.
 fn read_check(alloc: Global, words: &[String]) -> Result<Command, WordsFault>
     ensures command { IfOk result (λ read. option_and_then check_of_lem
         (words_give check_options (map string_bytes words.now)) ≡ Some read) }
@@ -160,7 +160,7 @@ fn read_check(alloc: Global, words: &[String]) -> Result<Command, WordsFault>
     check_of(alloc, &given)
 }
 
-// Reads the words behind `stress`.
+// Reads the words after `stress`.
 fn read_stress(alloc: Global, words: &[String]) -> Result<Command, WordsFault>
     ensures command { IfOk result (λ read. option_and_then stress_of_lem
         (words_give stress_options (map string_bytes words.now)) ≡ Some read) }
@@ -171,7 +171,7 @@ fn read_stress(alloc: Global, words: &[String]) -> Result<Command, WordsFault>
     stress_of(&read_options(alloc, &[], words)?)
 }
 
-// Reads the words behind `vol`.
+// Reads the words after `vol`.
 fn read_tool(alloc: Global, words: &[String]) -> Result<Command, WordsFault>
     ensures command { IfOk result (λ read. option_map Vol (option_and_then vol_of_lem
         (words_give vol_options (map string_bytes words.now))) ≡ Some read) }
@@ -185,7 +185,7 @@ fn read_tool(alloc: Global, words: &[String]) -> Result<Command, WordsFault>
     }
 }
 
-// Reads the words behind `asm`.
+// Reads the words after `asm`.
 fn read_source(alloc: Global, words: &[String]) -> Result<Command, WordsFault>
     ensures command { IfOk result (λ read. option_map Asm (option_and_then asm_of_lem
         (words_give asm_options (map string_bytes words.now))) ≡ Some read) }
@@ -199,7 +199,7 @@ fn read_source(alloc: Global, words: &[String]) -> Result<Command, WordsFault>
     }
 }
 
-// Reads the words behind `debug`.
+// Reads the words after `debug`.
 fn read_session(alloc: Global, words: &[String]) -> Result<Command, WordsFault>
     ensures command { IfOk result (λ read. option_map Debug (option_and_then debug_of_lem
         (words_give debug_options (map string_bytes words.now))) ≡ Some read) }
@@ -213,7 +213,7 @@ fn read_session(alloc: Global, words: &[String]) -> Result<Command, WordsFault>
     }
 }
 
-// Reads the words behind a command, whose options have these names.
+// Reads the words after a command with options of these names.
 pub(crate) fn read_options<'a>(
     alloc: Global,
     names: &'a [&'a str],
@@ -232,7 +232,7 @@ pub(crate) fn read_options<'a>(
     }
 }
 
-// `run MODULES --slices SLICES`, with `--script SCRIPT`, `--blocks N` and `--time T` or not.
+// `run MODULES --slices SLICES`, optionally with `--script SCRIPT`, `--blocks N` and `--time T`.
 fn run_of(alloc: Global, given: &GivenWords<'_>) -> Result<Command, WordsFault>
     ensures command { IfOk result (λ read. run_of_lem given.now ≡ Some read) }
     ensures complete { IfOk result IsCommand }
@@ -264,7 +264,7 @@ pub(crate) fn run_given(alloc: Global, given: &GivenWords<'_>) -> Result<RunWord
     }
 }
 
-// `boot IMAGE.. --script SCRIPT --slices SLICES`, with `--blocks N` and `--time T` or not.
+// `boot IMAGE.. --script SCRIPT --slices SLICES`, optionally with `--blocks N` and `--time T`.
 fn boot_of(alloc: Global, given: &GivenWords<'_>) -> Result<Command, WordsFault>
     ensures command { IfOk result (λ read. boot_of_lem given.now ≡ Some read) }
     ensures complete { IfOk result IsCommand }

@@ -8,9 +8,9 @@ use os9_outer::host::{Host, HostFault};
 /// What `check` counts in an image.
 #[derive(Clone, Copy, Debug, PartialEq, Eq)]
 pub struct Counts {
-    /// Files that are no directories.
+    /// Files other than directories.
     pub files: u32,
-    /// Directories, with the root.
+    /// Directories, including the root.
     pub directories: u32,
     /// Free clusters.
     pub free: u32,
@@ -21,7 +21,8 @@ pub struct Counts {
 /// Writes the counts to the output stream: `files F dirs D free E lost X`, in decimal digits, and
 /// a line feed (this project's own).
 ///
-/// `Failed` comes only with a count. After a refusal a part of the line may be out.
+/// `Failed` is returned only with a counted fault. After an error a part of the line may already
+/// be written.
 pub fn put_counts<H: Host>(host: &mut H, counts: &Counts) -> Result<(), HostFault>
     ensures { WritesOut H.Host
         (counts_line counts.now.files counts.now.directories counts.now.free counts.now.lost)

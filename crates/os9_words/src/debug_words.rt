@@ -19,7 +19,7 @@ pub struct DebugWords {
     pub commands: Word,
 }
 
-// Reads the words behind `debug`.
+// Reads the words after `debug`.
 pub(crate) fn read_debug(alloc: Global, words: &[String]) -> Result<DebugWords, WordsFault>
     ensures words { IfOk result (λ read. option_and_then debug_of_lem
         (words_give debug_options (map string_bytes words.now)) ≡ Some read) }
@@ -32,8 +32,8 @@ pub(crate) fn read_debug(alloc: Global, words: &[String]) -> Result<DebugWords, 
     debug_of(alloc, &given)
 }
 
-// `debug MODULES --slices SLICES --commands COMMANDS`, with `--script SCRIPT`, `--blocks N` and
-// `--time T` or not.
+// `debug MODULES --slices SLICES --commands COMMANDS`, optionally with `--script SCRIPT`,
+// `--blocks N` and `--time T`.
 fn debug_of(alloc: Global, given: &GivenWords<'_>) -> Result<DebugWords, WordsFault>
     ensures words { IfOk result (λ read. debug_of_lem given.now ≡ Some read) }
     ensures complete { IfOk result (λ read. IsRun read.run) }

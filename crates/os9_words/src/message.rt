@@ -9,7 +9,7 @@ use os9_outer::host::{Host, HostFault};
 /// decimal digits.
 #[derive(Clone, Copy, Debug, PartialEq, Eq)]
 pub enum Message<'a> {
-    /// The words are no command line: `os9: words`.
+    /// The words are not a command line: `os9: words`.
     Words,
     /// The file of this name could not be read: `os9: cannot read NAME`.
     CannotRead(&'a str),
@@ -30,17 +30,18 @@ pub enum Message<'a> {
     /// The module that begins at this byte of the boot file is refused with this error:
     /// `os9: boot module E at O`.
     BadModule(u32, u8),
-    /// The boot file is too long, or it and the data area of its program need more than eight
+    /// The boot file is too long, or it needs, with the data area of its program, more than eight
     /// slots: `os9: boot too large`.
     TooLarge,
     /// The boot file has no program `SysGo`: `os9: boot no SysGo`.
     NoFirst,
     /// The drive of this number, from 0, failed with the fault of this number: `os9: drive D: E`.
     DriveFailed(u8, u8),
-    /// The source in the file of this name is refused: the line, from 1 or 0 for the whole, and the
-    /// number of the fault: `os9: NAME: line L error K`.
+    /// The source in the file of this name is refused. The line, from 1, or 0 for the whole source,
+    /// and the number of the fault: `os9: NAME: line L error K`.
     BadSource(&'a str, u64, u8),
-    /// A tool for the image in the file of this name is refused with this error: `os9: NAME: error E`.
+    /// A tool for the image in the file of this name is refused with this error:
+    /// `os9: NAME: error E`.
     Refused(&'a str, u8),
     /// The terminal of this number, from 0, failed: `os9: terminal D`.
     TerminalFailed(u8),
@@ -50,7 +51,8 @@ pub enum Message<'a> {
 ///
 /// # Errors
 ///
-/// Those of [`Host::err`], each counted as a fault of the error stream. A part of the line may be out then.
+/// Those of [`Host::err`], each counted as a fault of the error stream. A part of the line may
+/// already be written.
 pub fn report<H: Host>(host: &mut H, message: &Message) -> Result<(), HostFault>
     ensures { WritesErr H.Host (message_line message.now) result host.old host.new }
 {

@@ -10,7 +10,7 @@ pub(crate) fn report_text<H: Host>(host: &mut H, text: &[u8]) -> Result<(), Host
     host.err(text)
 }
 
-/// Writes a text in pieces to the error stream, and stops at the first that is not written.
+/// Writes the pieces of a text to the error stream, up to the first that cannot be written.
 pub(crate) fn report_pieces<H: Host>(host: &mut H, pieces: &[&[u8]]) -> Result<(), HostFault>
     ensures { WritesErr H.Host (flat_map (λ piece. piece.now) pieces.now) result host.old host.new }
 {
@@ -20,7 +20,7 @@ pub(crate) fn report_pieces<H: Host>(host: &mut H, pieces: &[&[u8]]) -> Result<(
     Ok(())
 }
 
-/// Writes a text in pieces to the output stream, and stops at the first that is not written.
+/// Writes the pieces of a text to the output stream, up to the first that cannot be written.
 pub(crate) fn put_pieces<H: Host>(host: &mut H, pieces: &[&[u8]]) -> Result<(), HostFault>
     ensures { WritesOut H.Host (flat_map (λ piece. piece.now) pieces.now) result host.old host.new }
 {

@@ -8,9 +8,9 @@ use os9_outer::host::{Host, HostFault};
 /// What `stress` counts in its run and in the volume that the run leaves.
 #[derive(Clone, Copy, Debug, PartialEq, Eq)]
 pub struct StressCounts {
-    /// Slices that were begun.
+    /// Slices begun.
     pub slices: u32,
-    /// Files that are no directories.
+    /// Files other than directories.
     pub files: u32,
     /// The sum of their sizes.
     pub bytes: u64,
@@ -23,7 +23,8 @@ pub struct StressCounts {
 /// Writes the counts to the output stream: `slices S files F bytes B free E lost L`, in decimal
 /// digits, and a line feed (this project's own).
 ///
-/// `Failed` comes only with a count. After a refusal a part of the line may be out.
+/// `Failed` is returned only with a counted fault. After an error a part of the line may already
+/// be written.
 pub fn put_stress_counts<H: Host>(host: &mut H, counts: &StressCounts) -> Result<(), HostFault>
     ensures { WritesOut H.Host (stress_line counts.now) result host.old host.new }
 {

@@ -15,14 +15,14 @@ use option_reader::GivenWords;
 use os9_base::registers::TimePacket;
 use std::alloc::{AllocError, Global};
 
-/// What `vol` is to do with an image.
+/// What `vol` does with an image.
 #[derive(Clone, Copy, Debug, PartialEq, Eq)]
 pub enum Verb {
     /// `format`: makes the image of a disk without files.
     Format,
-    /// `put`: makes a file on the disk of the bytes of a host's file.
+    /// `put`: makes a file on the disk from the bytes of a host's file.
     Put,
-    /// `get`: makes a host's file of the bytes of a file on the disk.
+    /// `get`: makes a host's file from the bytes of a file on the disk.
     Get,
     /// `mkdir`: makes a directory.
     Mkdir,
@@ -30,22 +30,22 @@ pub enum Verb {
     Delete,
     /// `dir`: lists a directory.
     Dir,
-    /// `repair`: frees the clusters that are lost.
+    /// `repair`: frees the lost clusters.
     Repair,
 }
 
 /// The words of `vol`.
 #[derive(Debug, Drop)]
 pub struct VolWords {
-    /// What is to be done.
+    /// The verb.
     pub verb: Verb,
     /// The file with the image.
     pub image: Word,
-    /// PATH and FILE, in this order, as far as the verb takes them.
+    /// PATH and FILE, in this order, if the verb takes them.
     pub rest: Words,
-    /// For `format` the sectors of the disk, from 16 to 524,280; else 0.
+    /// For `format` the sectors of the disk, from 16 to 524,280; otherwise 0.
     pub sectors: u32,
-    /// For `format` the sectors of a cluster, a power of two up to 64; else 1.
+    /// For `format` the sectors of a cluster, a power of two up to 64; otherwise 1.
     pub cluster: u16,
     /// The date and time of the command.
     pub start: TimePacket,
@@ -63,7 +63,7 @@ const MOST_CLUSTER: u32 = 64;
 /// The sectors of a cluster without `--cluster`.
 const DEFAULT_CLUSTER: u16 = 1;
 
-// Reads the words behind `vol`.
+// Reads the words after `vol`.
 pub(crate) fn read_vol(alloc: Global, words: &[String]) -> Result<VolWords, WordsFault>
     ensures words { IfOk result (λ read. option_and_then vol_of_lem
         (words_give vol_options (map string_bytes words.now)) ≡ Some read) }
@@ -76,7 +76,7 @@ pub(crate) fn read_vol(alloc: Global, words: &[String]) -> Result<VolWords, Word
     vol_of(alloc, &given)
 }
 
-// `vol VERB IMAGE ..`, with `--time T` or not.
+// `vol VERB IMAGE ..`, optionally with `--time T`.
 fn vol_of(alloc: Global, given: &GivenWords<'_>) -> Result<VolWords, WordsFault>
     ensures words { IfOk result (λ read. vol_of_lem given.now ≡ Some read) }
     ensures complete { IfOk result IsVol }
@@ -94,7 +94,7 @@ fn vol_of(alloc: Global, given: &GivenWords<'_>) -> Result<VolWords, WordsFault>
     }
 }
 
-// `vol format IMAGE SECTORS`, with `--cluster K` or not.
+// `vol format IMAGE SECTORS`, optionally with `--cluster K`.
 fn format_of(
     alloc: Global,
     given: &GivenWords<'_>,
@@ -126,7 +126,7 @@ fn format_of(
     }
 }
 
-// Another verb, with the words that it takes behind IMAGE.
+// Another verb, with the words that it takes after IMAGE.
 fn tool_of(
     alloc: Global,
     given: &GivenWords<'_>,
@@ -179,7 +179,7 @@ fn tool_words(
     })
 }
 
-// The arguments behind the verb and IMAGE, of so many.
+// The arguments after the verb and IMAGE, up to `count` arguments in all.
 fn rest_words(alloc: Global, given: &GivenWords<'_>, count: usize) -> Result<Words, AllocError>
     requires least { 2 ≤ count }
     requires most { count ≤ 4 }
@@ -218,7 +218,7 @@ fn verb_of(word: &str) -> Option<Verb>
     }
 }
 
-// How many words a verb takes behind IMAGE beside SECTORS.
+// The number of words that a verb takes after IMAGE, without SECTORS.
 fn rest_count(verb: Verb) -> usize
     ensures { result ≡ rest_count_lem verb }
 {
@@ -229,7 +229,7 @@ fn rest_count(verb: Verb) -> usize
     }
 }
 
-// Are there exactly so many arguments?
+// Are exactly `count` arguments given?
 fn has_arguments(given: &GivenWords<'_>, count: usize) -> bool
     requires some { 1 ≤ count }
     requires few { count ≤ 4 }
@@ -238,7 +238,7 @@ fn has_arguments(given: &GivenWords<'_>, count: usize) -> bool
     given.argument(count - 1).is_some() && given.argument(count).is_none()
 }
 
-// SECTORS, the only argument behind IMAGE.
+// SECTORS, the only argument after IMAGE.
 fn sectors_of(given: &GivenWords<'_>) -> Option<u32>
     ensures sectors { result ≡ sectors_in given.now.arguments }
     ensures least { IfSome result (λ sectors. 16 ≤ sectors) }
@@ -267,7 +267,7 @@ fn cluster_of(given: &GivenWords<'_>) -> Option<u16>
     }
 }
 
-// May a cluster have so many sectors?
+// Is this a valid number of sectors of a cluster?
 fn is_cluster_size(sectors: u32) -> bool
     ensures { result ≡ is_cluster_size_lem sectors }
 {

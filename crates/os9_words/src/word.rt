@@ -69,14 +69,14 @@ impl Words {
         Words { words }
     }
 
-    /// How many words there are.
+    /// The number of words.
     pub fn len(&self) -> u32
         ensures { result ≡ length self.now }
     {
         self.words.len() as u32
     }
 
-    /// The word at a place below their number.
+    /// The word at place `i`, which is below the number of words.
     pub fn word(&self, i: u32) -> &Word
         requires { i < length self.now }
         ensures { slice_get self.now i ≡ Some result.now }
@@ -84,7 +84,7 @@ impl Words {
         &self.words[i as usize]
     }
 
-    /// The word at a place, or nothing where there are no more than so many.
+    /// The word at place `i`, or nothing if there are at most `i` words.
     pub fn get(&self, i: u32) -> Option<&Word>
         ensures { option_map (λ word. word.now) result ≡ slice_get self.now i }
     {

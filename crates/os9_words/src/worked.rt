@@ -1,4 +1,4 @@
-//! Words with what they spell, as laws that the check computes from the definitions.
+//! Words with the commands that they spell, as laws that the check computes from the definitions.
 
 ghost use Rattle.std.specs.Prelude.{◌≡◌, [], ◌∷◌, Some, None, codes, option_map};
 ghost use Rattle.civil_time.specs.Rows.{at};
@@ -7,7 +7,7 @@ ghost use Rattle.os9_words.specs.Debug.{debug_with};
 ghost use Rattle.os9_words.specs.Run.{run_words_with};
 ghost use Rattle.os9_words.specs.declared.command.Command.TheVariants.{Asm, Debug, Stress};
 
-/// Command lines in both forms of an option, and in any order.
+/// Command lines with both forms of an option, in any order.
 pub fn runs_are_read()
     ensures one_word { command_of (codes "run" ∷ codes "h" ∷ codes "--slices=s" ∷ [])
         ≡ run_with (Some (codes "h")) None (Some (codes "s")) (Some 64)
@@ -30,7 +30,7 @@ pub fn scripts_are_read()
         (Some (at 90 1 1 0 0 0)) }
 {}
 
-/// Command lines of a boot: the images in their order, also one name twice.
+/// Command lines of a boot: the images in their order; a name may occur twice.
 pub fn boots_are_read()
     ensures one_image { command_of (codes "boot" ∷ codes "a" ∷ codes "--script=t"
         ∷ codes "--slices=s" ∷ [])
@@ -42,7 +42,7 @@ pub fn boots_are_read()
         (Some 8) (Some (at 90 1 1 0 0 0)) }
 {}
 
-/// Words of a boot without a script, without an image, and with one too many.
+/// Words of a boot without a script, without an image, and with one image too many.
 pub fn boots_are_refused()
     ensures no_script { command_of (codes "boot" ∷ codes "a" ∷ codes "--slices=s" ∷ []) ≡ None }
     ensures no_image { command_of (codes "boot" ∷ codes "--script=t" ∷ codes "--slices=s" ∷ [])
@@ -67,7 +67,7 @@ pub fn times_are_read()
         ∷ codes "--time=1990-01-01" ∷ []) ≡ None }
 {}
 
-/// Command lines of a stress, and the least number that is none of its seeds.
+/// Command lines of a stress, and the least number that is not a seed.
 pub fn stresses_are_read()
     ensures least { command_of (codes "stress" ∷ codes "0" ∷ []) ≡ Some (Stress 0) }
     ensures most { command_of (codes "stress" ∷ codes "2147483647" ∷ [])
@@ -80,7 +80,7 @@ pub fn stresses_are_read()
         ≡ None }
 {}
 
-/// Command lines of an assembly: a source and a file for the module, and nothing more.
+/// Command lines of an assembly: a source and a file for the module, and no other word.
 pub fn assemblies_are_read()
     ensures two_files { command_of (codes "asm" ∷ codes "s" ∷ codes "m" ∷ [])
         ≡ Some (Asm (record { source = codes "s"; out = codes "m" })) }
@@ -105,7 +105,7 @@ pub fn sessions_are_read()
         (Some (at 90 1 1 0 0 0))) (Some (codes "-c"))) }
 {}
 
-/// Words that are no command line of a debugger, and those of a run with a file of commands.
+/// Words that are not a command line of a debugger, and those of a run with a file of commands.
 pub fn sessions_are_refused()
     ensures no_commands { command_of (codes "debug" ∷ codes "h" ∷ codes "--slices=s" ∷ [])
         ≡ None }
@@ -115,7 +115,7 @@ pub fn sessions_are_refused()
         ∷ codes "--commands=c" ∷ []) ≡ None }
 {}
 
-/// Words that are no command line.
+/// Words that are not a command line.
 pub fn words_are_refused()
     ensures no_words { command_of [] ≡ None }
     ensures twice { command_of (codes "run" ∷ codes "h" ∷ codes "--slices=s" ∷ codes "--script=t"

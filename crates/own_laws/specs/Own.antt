@@ -12,18 +12,18 @@ pub record NameAppeared (m : Inner) : Type 0 where
   pub maps : (q object : ℕ) → HasRecord m q → NamesBlock (map_at m.memory q) object → object < length m.memory.objects
   pub groups : (object : ℕ) → IsOfModule m.memory object → object < length m.memory.objects
 
--- an object is a process's own: its map names it, no other process's map does, and it is of no entered module's group
+-- an object is a process's own: its map names it, no other process's map does, and no entered module's group has it
 pub record IsOwn (m : Inner) (p object : ℕ) : Type 0 where
   pub appeared : object < length m.memory.objects
   pub named : NamesBlock (map_at m.memory p) object
   pub alone : (q : ℕ) → q ≢ p → HasRecord m q → NamesBlock (map_at m.memory q) object → ⊥
   pub in_no_module : IsOfModule m.memory object → ⊥
 
--- or it is of an entered module's group
+-- an object is a process's own, or an entered module's group has it
 abbrev pub IsOwnOrShared : Inner → ℕ → ℕ → Type 0
 IsOwnOrShared m p object = IsOwn m p object ⊎ IsOfModule m.memory object
 
--- an object is of the data area of a process: a slot of the low area of its map names it
+-- an object is in the data area of a process: a slot of the low area of its map names it
 abbrev pub IsOfArea : Inner → ℕ → ℕ → Type 0
 IsOfArea m p object =
     (slot : ℕ) × (slot < (map_at m.memory p).low) × (block_at (map_at m.memory p) slot ≡ Some object)
@@ -34,7 +34,7 @@ pub record AppearsIn (m : Inner) (p object : ℕ) (n : Inner) : Type 0 where
   pub named : NamesBlock (map_at n.memory p) object
   pub appears : Appears m.memory n.memory object
 
--- a process that lives still lives, the object is its own still, and has the same bytes
+-- a living process still lives, and the object is still its own, with the same bytes
 pub record KeepsOwnObject (m : Inner) (p object : ℕ) (n : Inner) : Type 0 where
   pub lives : IsLiving n.records p
   pub own : IsOwn n p object

@@ -20,10 +20,10 @@ ghost use Rattle.machine_model.specs.Start.{Boot, Starts};
 ghost use Rattle.machine_model.specs.State.{State};
 
 /// An object that appears in the map of a process is its own at once, or belongs to the group of a
-/// module, as the blocks of a loaded file do; if no module is entered, it is its own. An object that
-/// appears in its data area is its own in every event except F$Load, which maps a group and gives no
-/// area: so the blocks that F$Fork, F$Chain and F$Mem give a process are its own until it gives them
-/// up.
+/// module, as the blocks of a loaded file do. If no module is entered, it is its own. An object
+/// that appears in its data area is its own in every event except F$Load, which maps a group and
+/// gives no area. So the blocks that F$Fork, F$Chain and F$Mem give a process are its own until it
+/// gives them up.
 pub fn what_appears_is_its_own()
     ensures own { (s t : State) (end : EventEnd) (p object : ℕ) → Event s end t
         → NameAppeared s.inner → AppearsIn s.inner p object t.inner
@@ -44,9 +44,9 @@ pub fn names_have_appeared()
         → NameAppeared t.inner }
 {}
 
-/// What is a process's own, as a block of its data area, stays its own with the same bytes in each
-/// slice in which it is not chosen, whatever the others do: no other map comes to name it. Its own
-/// events leave it so too, while its map names it.
+/// A process's own object, such as a block of its data area, stays its own with the same bytes in
+/// each slice that does not choose the process, whatever the others do: no other map gets to name
+/// it. The process's own events keep it its own too, while its map names it.
 pub fn what_is_its_own_is_left_to_a_process()
     ensures event { (s t : State) (end : EventEnd) (q p object : ℕ) → s.chosen ≡ Some q → p ≢ q
         → Event s end t → IsLiving s.inner.records p → IsOwn s.inner p object
@@ -60,9 +60,9 @@ pub fn what_is_its_own_is_left_to_a_process()
         → KeepsOwnObject s.inner p object t.inner }
 {}
 
-/// The blocks of data areas are their processes' own: other processes, of any number, do not name
-/// them, nor does a module. That holds of the first process from the start on, and of two processes
-/// side by side.
+/// The blocks of data areas are their processes' own: no other process, of any number, and no
+/// module names them. This holds for the first process from the start on, and for two processes at
+/// the same time.
 pub fn data_areas_are_own()
     ensures start { (boot : Boot) (s : State) → Starts boot s
         → (object : ℕ) → IsOfArea s.inner 2 object → IsOwn s.inner 2 object }

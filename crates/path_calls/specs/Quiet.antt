@@ -22,7 +22,7 @@ effect_of (comes effect) io = effect
 effect_of (reads read) io = leaves (fails 0) io
 effect_of (writes write) io = leaves (fails 0) io
 
--- an attempt of a process that reaches no device ends so, and leaves the processes and the state so
+-- an attempt of a process that reaches no device ends in this way, and leaves these processes and this state
 abbrev pub Ends : IoStep → Inner → Io → ℕ → CallEnd → ProcState → Io → Type 0
 Ends step m io p end processes new =
     Comes m p (result_of m p (effect_of step io)) end processes × (new ≡ io_after p (effect_of step io))

@@ -11,7 +11,7 @@ use os9_base::call::CallEnd;
 use os9_base::registers::{Pid, Regs};
 use proc_state::state::ProcState;
 
-/// The call is refused with this number. Nothing is kept of it.
+/// Refuses the call with this number. Nothing is kept of it.
 pub fn refuse(io: &mut IoState, p: Pid, number: u8) -> CallEnd
     requires process { p.0 < 33 }
     requires first { kept_at io.old p.0 ≡ None }

@@ -1,5 +1,5 @@
-//! The calls on paths that reach no device: numbers are doubled and closed, and asked for their
-//! status.
+//! The calls on paths that reach no device: they duplicate and close path numbers, and ask for the
+//! status of a path.
 #![tactic(auto)]
 
 pub mod ends;

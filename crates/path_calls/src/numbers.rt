@@ -22,12 +22,12 @@ use os9_base::registers::{Pid, Regs};
 use proc_state::state::ProcState;
 
 /// I$Dup: gives a path another number (System Programmer's Manual, I$Dup). Takes the number of the
-/// path in A; answers its new number, the least free one, in A.
+/// path in A; returns its new number, the least free one, in A.
 ///
 /// # Errors
 ///
 /// E$BPNum exactly if the number names no path, else E$PthFul exactly if the process's sixteen
-/// numbers are in use. Nothing has changed then.
+/// numbers are in use. A refused call changes nothing.
 pub fn i_dup(s: &mut ProcState, io: &mut IoState, p: Pid) -> CallEnd
     requires lives { IsLiving s.old.table p.0 }
     requires first { kept_at io.old p.0 ≡ None }
@@ -56,12 +56,12 @@ fn double(s: &mut ProcState, io: &mut IoState, p: Pid) -> CallEnd
     }
 }
 
-/// I$Close: closes a path number (System Programmer's Manual, I$Close). Takes the number in A, which
-/// is free then. The path goes with its last number, and a pipe with its path.
+/// I$Close: closes a path number (System Programmer's Manual, I$Close). Takes the number in A, and
+/// frees it. A path ends with its last number, and a pipe with its path.
 ///
 /// # Errors
 ///
-/// E$BPNum exactly if the number names no path. Nothing has changed then.
+/// E$BPNum exactly if the number names no path. A refused call changes nothing.
 pub fn i_close(s: &mut ProcState, io: &mut IoState, p: Pid) -> CallEnd
     requires lives { IsLiving s.old.table p.0 }
     requires first { kept_at io.old p.0 ≡ None }

@@ -27,8 +27,8 @@ use proc_state::state::ProcState;
 ///
 /// # Errors
 ///
-/// E$BPNum exactly if the number names no path, else E$UnkSvc: no status of a terminal or a pipe can
-/// be set. Nothing has changed then.
+/// E$BPNum exactly if the number names no path, else E$UnkSvc: no status of a terminal or a pipe
+/// can be set. A refused call changes nothing.
 pub fn i_setstt(s: &mut ProcState, io: &mut IoState, p: Pid) -> CallEnd
     requires lives { IsLiving s.old.table p.0 }
     requires first { kept_at io.old p.0 ≡ None }
@@ -54,15 +54,15 @@ fn set_status(s: &mut ProcState, io: &mut IoState, p: Pid) -> CallEnd
     }
 }
 
-/// I$GetStt: asks for the status of a path (System Programmer's Manual, I$GetStt). Takes the path in
-/// A and the code in B. SS.Opt stores 32 bytes at X, SS.Ready answers in B how many bytes may be read
-/// at once, at most 255, and SS.EOF answers B 0.
+/// I$GetStt: asks for the status of a path (System Programmer's Manual, I$GetStt). Takes the path
+/// in A and the code in B. SS.Opt stores 32 bytes at X, SS.Ready returns in B the number of bytes
+/// that may be read at once, at most 255, and SS.EOF returns 0 in B.
 ///
 /// # Errors
 ///
 /// E$BPNum exactly if the number names no path, else E$UnkSvc exactly if the code is another one;
-/// else of SS.Opt E$BPAddr exactly if one of the bytes is in no named slot or past `FFFF`, and of
-/// SS.Ready E$NotRdy exactly if no byte is there. Nothing has changed then.
+/// else for SS.Opt E$BPAddr exactly if one of the bytes is in no named slot or past `FFFF`, and for
+/// SS.Ready E$NotRdy exactly if no byte is there. A refused call changes nothing.
 pub fn i_getstt(s: &mut ProcState, io: &mut IoState, p: Pid) -> CallEnd
     requires lives { IsLiving s.old.table p.0 }
     requires first { kept_at io.old p.0 ≡ None }
@@ -88,7 +88,7 @@ fn get_status(s: &mut ProcState, io: &mut IoState, p: Pid) -> CallEnd
     }
 }
 
-/// Asks for the status of a path on this, by the code in B.
+/// Asks for the status of a path on this target, by the code in B.
 fn get_status_of(s: &mut ProcState, io: &mut IoState, p: Pid, target: Target) -> CallEnd
     requires lives { IsLiving s.old.table p.0 }
     requires first { kept_at io.old p.0 ≡ None }
@@ -108,7 +108,7 @@ fn get_status_of(s: &mut ProcState, io: &mut IoState, p: Pid, target: Target) ->
     }
 }
 
-/// SS.Opt: stores the options of a path on this.
+/// SS.Opt: stores the options of a path on this target.
 fn get_options(s: &mut ProcState, io: &mut IoState, p: Pid, target: Target) -> CallEnd
     requires lives { IsLiving s.old.table p.0 }
     requires first { kept_at io.old p.0 ≡ None }
@@ -124,7 +124,7 @@ fn get_options(s: &mut ProcState, io: &mut IoState, p: Pid, target: Target) -> C
     answer(s, io, p, regs)
 }
 
-/// The options of a path on this: the first byte tells what it is.
+/// The options of a path on this target: the first byte says what it is.
 fn options(target: Target) -> [u8; OPTION_BYTES]
     ensures { result ≡ options_lem target }
 {
@@ -137,7 +137,7 @@ fn options(target: Target) -> [u8; OPTION_BYTES]
     bytes
 }
 
-/// SS.Ready: how many bytes a path on this has for a read.
+/// SS.Ready: the number of bytes that a path on this target has for a read.
 fn get_ready(s: &mut ProcState, io: &mut IoState, p: Pid, target: Target) -> CallEnd
     requires lives { IsLiving s.old.table p.0 }
     requires first { kept_at io.old p.0 ≡ None }

@@ -35,7 +35,7 @@ pub(crate) fn free_numbers(
     Ok(own)
 }
 
-// The least number of a process that is free.
+// The least free number of a process.
 pub(crate) fn free_number(numbers: &[Option<SysPath>]) -> Option<u8>
     requires { length numbers.now ≡ 16 }
     ensures number { result ≡ position is_none numbers.now }
@@ -45,7 +45,7 @@ pub(crate) fn free_number(numbers: &[Option<SysPath>]) -> Option<u8>
     Some(place as u8)
 }
 
-// The least system path that there is not.
+// The least free system path.
 pub(crate) fn free_path(descs: &[Option<Desc>]) -> Option<SysPath>
     requires { length descs.now ≡ 65 }
     ensures number { option_map (λ s. s.0) result
@@ -80,7 +80,7 @@ pub(crate) fn is_held(own: &[[Option<SysPath>; PROCESS_PATHS]], s: SysPath) -> b
     own.iter().any(|numbers| has_image(numbers, s))
 }
 
-// What a child is given of these numbers: the first three.
+// The numbers that a child gets of these: the first three.
 pub(crate) fn inherited(
     numbers: &[Option<SysPath>; PROCESS_PATHS],
 ) -> [Option<SysPath>; PROCESS_PATHS]

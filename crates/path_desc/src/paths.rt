@@ -40,13 +40,13 @@ impl Paths {
         })
     }
 
-    /// Begins a path of a process, from 2 to 32, with this descriptor. It gets the least system path
-    /// that there is not, and the least number of the process that is free, which is the answer.
+    /// Begins a path of a process, from 2 to 32, with this descriptor. It gets the least free
+    /// system path and the least free number of the process, and returns that number.
     ///
     /// # Errors
     ///
-    /// `PathsFull` if the process's sixteen numbers or the 64 system paths are in use. Nothing changes
-    /// then.
+    /// `PathsFull` if the process's sixteen numbers or the 64 system paths are in use. A refused
+    /// call changes nothing.
     pub fn begin(&mut self, p: Pid, d: Desc) -> Result<u8, PathsFull>
         requires { p.0 < 33 }
         ensures number { result_ok result ≡ new_number self.old p.0 }
@@ -81,7 +81,7 @@ impl Paths {
     ///
     /// # Errors
     ///
-    /// `PathsFull` if the process's sixteen numbers are in use. Nothing changes then.
+    /// `PathsFull` if the process's sixteen numbers are in use. A refused call changes nothing.
     pub fn dup(&mut self, p: Pid, n: u8) -> Result<u8, PathsFull>
         requires { IsOpen self.old p.0 n }
         ensures number { result_ok result ≡ free_number_lem self.old p.0 }
@@ -117,8 +117,8 @@ impl Paths {
         self.descs[s.0 as usize].unwrap()
     }
 
-    /// The descriptors, by the numbers of their system paths from 0 on: None for a path that is not
-    /// there.
+    /// The descriptors, by the numbers of their system paths from 0 on. None for a path that does
+    /// not exist.
     pub fn descs(&self) -> &[Option<Desc>]
         ensures descs { result.now ≡ self.now.descs }
         ensures shape { ArePaths self.now }
@@ -135,8 +135,8 @@ impl Paths {
         self.descs[s.0 as usize] = Some(d);
     }
 
-    /// Gives a process that has no path images of the numbers 0, 1 and 2 of another (Level Two manual,
-    /// F$Fork).
+    /// Gives a process, which has no path yet, images of the numbers 0, 1 and 2 of another process
+    /// (Level Two manual, F$Fork).
     pub fn inherit(&mut self, from: Pid, to: Pid)
         requires parent { from.0 < 33 }
         requires child { to.0 < 33 }
@@ -146,8 +146,8 @@ impl Paths {
         self.own[to.0 as usize] = inherited(&self.own[from.0 as usize]);
     }
 
-    /// Frees a number of a process. The answer is the path's descriptor if this was its last image: the
-    /// path goes then (Level Two manual, I$Close).
+    /// Frees a number of a process. Returns the path's descriptor if this was its last image; the
+    /// path ends then (Level Two manual, I$Close).
     pub fn close(&mut self, p: Pid, n: u8) -> Option<Desc>
         requires { IsOpen self.old p.0 n }
         ensures last { result ≡ closed_desc self.old p.0 n }

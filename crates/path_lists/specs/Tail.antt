@@ -10,14 +10,14 @@ use Rattle.path_lists.specs.declared.names.Step.{Step}
 use Rattle.path_lists.specs.declared.names.Step.TheVariants.{Another, Last}
 use Rattle.path_lists.specs.declared.names.Tail.{Tail}
 
--- what stands behind a name, as path lists have it
+-- what follows a name, as path lists have it
 abbrev pub behind_of : Behind → PathList.Behind
 behind_of Behind.Another = PathList.another
 behind_of Behind.Slash = PathList.a_slash
 behind_of Behind.Nothing = PathList.nothing
 behind_of Behind.Unreadable = PathList.unreadable
 
--- the last of some names is that of a directory itself or of the one above it
+-- the last of some names means a directory itself or its parent
 abbrev pub last_is_dots : List (List ℕ) → Bool
 last_is_dots names = option_map_or is_dots (slice_get names (length names - 1)) false
 
@@ -26,23 +26,23 @@ abbrev pub tail_of : Result Names NameFault → Result Tail NameFault
 tail_of (Ok found) = Ok (record { dots = last_is_dots found.names; slash = found.slash; next = found.next })
 tail_of (Err fault) = Err fault
 
--- how the names end that begin with one: `rest` is how those from an address on end
+-- how names end after the first one: `rest` is how the names from an address on end
 abbrev pub tail_after : (ℕ → Result Tail NameFault) → Result Step NameFault → Result Tail NameFault
 tail_after rest (Ok (Another next)) = rest next
 tail_after rest (Ok (Last tail)) = Ok tail
 tail_after rest (Err fault) = Err fault
 
--- another name begins behind this address, if one does
+-- the next name, if one follows, begins after this address
 abbrev pub GoesUp : ℕ → Result Step NameFault → Type 0
 GoesUp at (Ok (Another next)) = (at < next) × (next < 65536)
 GoesUp at (Ok (Last tail)) = ⊤
 GoesUp at (Err fault) = ⊤
 
--- a name that is the last one, and ends before this address
+-- a last name that ends before this address
 abbrev pub last_step : List ℕ → Bool → ℕ → Step
 last_step name slash next = Last (record { dots = is_dots name; slash = slash; next = next })
 
--- a name that ends before an address, by what stands behind it
+-- a name that ends before an address, by what follows it
 abbrev pub step_by : List ℕ → ℕ → PathList.Behind → Result Step NameFault
 step_by name next PathList.another = Ok (Another (next + 1))
 step_by name next PathList.a_slash = Ok (last_step name true next)

@@ -1,5 +1,5 @@
-//! Path lists in the memory of a process: where each leads is told by its device and its end. They
-//! are read name by name, and no byte is read that need not be.
+//! Path lists in the memory of a process: the device and the end of each say where it leads. They
+//! are read name by name, and only the bytes that are required are read.
 #![tactic(auto)]
 
 pub mod list;

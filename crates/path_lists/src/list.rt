@@ -14,24 +14,24 @@ use os9_base::name::Name;
 use os9_base::registers::Pid;
 use user_names::name_fault::NameFault;
 
-/// What a path list says of where it leads.
+/// What a path list says about the place to which it leads.
 #[derive(Clone, Copy, Debug)]
 pub struct Listed {
     /// The name of the device at which it starts, if it names one.
     pub device: Option<Name>,
-    /// Names are looked up from there on.
+    /// Names are looked up after that.
     pub has_names: bool,
-    /// The last of them is that of a directory itself or of the one above it.
+    /// The last of them names a directory itself or its parent.
     pub dots: bool,
-    /// The list ends before a slash.
+    /// A slash follows the last name.
     pub slash: bool,
-    /// The address just past it.
+    /// The address just past the list.
     pub next: u32,
 }
 
 impl Listed {
-    /// The address at which the first of the names stands that are looked up, by that of the list;
-    /// None exactly if there are none.
+    /// The address of the first name that is looked up, for a list at this address. None exactly if
+    /// no name is looked up.
     pub fn first_name(&self, at: u16) -> Option<u16>
         ensures { (cells : Cells) (list : PathList) → path_list cells at ≡ Ok list
             → self.now ≡ listed list → NamesFrom cells result list.names }
@@ -46,8 +46,8 @@ impl Listed {
     }
 }
 
-/// The address at which the first name stands behind that of the device, which is so long; None
-/// exactly if it would be past `FFFF`.
+/// The address of the first name after that of the device, which has this length. None exactly if
+/// it would be past `FFFF`.
 fn behind_device(at: u16, len: u8) -> Option<u16>
     ensures { MatchOption result (65536 ≤ at + len + 2) (λ first. first ≡ at + len + 2) }
 {
@@ -55,12 +55,12 @@ fn behind_device(at: u16, len: u8) -> Option<u16>
 }
 
 /// Reads the path list at an address of a process (System Programmer's Manual, I$Open): names with
-/// slashes between them. A slash before the first one makes it that of a device.
+/// slashes between them. After a leading slash the first name is that of a device.
 ///
 /// # Errors
 ///
-/// `Unreadable` exactly if a byte that has to be read is in no named slot or past `FFFF`, else
-/// `NoName` exactly if a name that has to stand there is none.
+/// `Unreadable` exactly if a byte that must be read is in no named slot or past `FFFF`, else
+/// `NoName` exactly if there is no name where one is required.
 pub fn read_path_list(memory: &mut Memory, p: Pid, at: u16) -> Result<Listed, NameFault>
     requires { p.0 < 33 }
     ensures list { result ≡ listed_of (path_list (cells_of memory.old p.0) at) }
@@ -73,7 +73,7 @@ pub fn read_path_list(memory: &mut Memory, p: Pid, at: u16) -> Result<Listed, Na
     }
 }
 
-/// Reads the list that starts at a device, behind the slash at this address.
+/// Reads the list that starts at a device, after the slash at this address.
 fn read_behind_slash(memory: &mut Memory, p: Pid, at: u16) -> Result<Listed, NameFault>
     requires { p.0 < 33 }
     ensures list { result
@@ -86,7 +86,7 @@ fn read_behind_slash(memory: &mut Memory, p: Pid, at: u16) -> Result<Listed, Nam
     read_from_device(memory, p, at + 1)
 }
 
-/// Reads the list whose first name is that of a device.
+/// Reads the list whose first name is the name of a device.
 fn read_from_device(memory: &mut Memory, p: Pid, at: u16) -> Result<Listed, NameFault>
     requires { p.0 < 33 }
     ensures list { result ≡ listed_of (device_list (names_from (cells_of memory.old p.0) at)) }
@@ -98,7 +98,7 @@ fn read_from_device(memory: &mut Memory, p: Pid, at: u16) -> Result<Listed, Name
     }
 }
 
-/// Reads what stands behind the name of this device.
+/// Reads what follows the name of this device.
 fn read_behind_device(
     memory: &mut Memory,
     p: Pid,
@@ -132,7 +132,7 @@ fn read_relative(memory: &mut Memory, p: Pid, at: u16) -> Result<Listed, NameFau
     with_names(None, read_tail(memory, p, at))
 }
 
-/// The list that starts at this device, or at none, and goes on with names that end so.
+/// The list that starts at this device, or at none, and whose names have this tail.
 fn with_names(device: Option<Name>, tail: Result<Tail, NameFault>) -> Result<Listed, NameFault>
     ensures { result ≡ listed_with device tail }
 {

@@ -15,7 +15,7 @@ use user_names::name_fault::NameFault;
 #[derive(Clone, Copy, Debug)]
 pub struct Named {
     pub name: Name,
-    /// The address at which another name begins, if one stands behind it.
+    /// The address of the next name, if one follows.
     pub next: Option<u16>,
 }
 
@@ -23,8 +23,8 @@ pub struct Named {
 ///
 /// # Errors
 ///
-/// `Unreadable` exactly if a byte that has to be read is in no named slot or past `FFFF`, else
-/// `NoName` exactly if no name stands there.
+/// `Unreadable` exactly if a byte that must be read is in no named slot or past `FFFF`, else
+/// `NoName` exactly if no name is there.
 pub fn read_name(memory: &mut Memory, p: Pid, at: u16) -> Result<Named, NameFault>
     requires { p.0 < 33 }
     ensures names { (left : ℕ) → name_list (names_at (cells_of memory.old p.0) at (suc left))
@@ -39,7 +39,7 @@ pub fn read_name(memory: &mut Memory, p: Pid, at: u16) -> Result<Named, NameFaul
     with_next(name, step)
 }
 
-/// The name, with what stands behind it.
+/// The name, with what follows it.
 fn with_next(name: Name, step: Result<Step, NameFault>) -> Result<Named, NameFault>
     ensures { result ≡ named_by name step }
 {

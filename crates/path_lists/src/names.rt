@@ -14,42 +14,42 @@ use user_names::name_fault::NameFault;
 /// How the names from an address on end.
 #[derive(Clone, Copy, Debug, PartialEq, Eq)]
 pub struct Tail {
-    /// The last one is that of a directory itself or of the one above it.
+    /// The last one names a directory itself or its parent.
     pub dots: bool,
-    /// A slash stands behind it.
+    /// A slash follows the last name.
     pub slash: bool,
-    /// The address behind it.
+    /// The address just past the names.
     pub next: u32,
 }
 
-/// What stands behind a name.
+/// What follows a name.
 #[derive(Clone, Copy, Debug, PartialEq, Eq)]
 pub enum Behind {
-    /// A slash, and a character of a name behind it.
+    /// A slash, and a character of a name after it.
     Another,
-    /// A slash, and no character of a name behind it.
+    /// A slash, and no character of a name after it.
     Slash,
     /// Anything else, or the name has bit 7.
     Nothing,
-    /// A byte that has to be read is not there.
+    /// A byte that must be read is not there.
     Unreadable,
 }
 
-/// A name of a path list, and what it is behind.
+/// A step over a name of a path list.
 #[derive(Clone, Copy, Debug, PartialEq, Eq)]
 pub enum Step {
     /// Another name begins at this address.
     Another(u16),
-    /// It is the last one, and the names end so.
+    /// It is the last one, and the names end with this tail.
     Last(Tail),
 }
 
-/// How the names from an address on end: one stands there at least.
+/// How the names from an address on end. At least one name must be there.
 ///
 /// # Errors
 ///
-/// `Unreadable` exactly if a byte that has to be read is in no named slot or past `FFFF`, else
-/// `NoName` exactly if a name that has to stand there is none.
+/// `Unreadable` exactly if a byte that must be read is in no named slot or past `FFFF`, else
+/// `NoName` exactly if there is no name where one is required.
 pub fn read_tail(memory: &mut Memory, p: Pid, start: u16) -> Result<Tail, NameFault>
     requires { p.0 < 33 }
     ensures tail { (left : ℕ) → 65536 ≤ left + start
@@ -66,7 +66,7 @@ pub fn read_tail(memory: &mut Memory, p: Pid, start: u16) -> Result<Tail, NameFa
     }
 }
 
-/// Reads the name at an address, and what stands behind it.
+/// Reads the name at an address, and what follows it.
 fn read_step(memory: &mut Memory, p: Pid, at: u16) -> Result<Step, NameFault>
     requires { p.0 < 33 }
     ensures step { (left : ℕ) → tail_of (names_at (cells_of memory.old p.0) at (suc left))
@@ -78,7 +78,7 @@ fn read_step(memory: &mut Memory, p: Pid, at: u16) -> Result<Step, NameFault>
     step_over(memory, p, at, &name)
 }
 
-/// What stands behind this name at an address.
+/// What follows this name at an address.
 pub(crate) fn step_over(memory: &Memory, p: Pid, at: u16, name: &Name) -> Result<Step, NameFault>
     requires { p.0 < 33 }
     ensures exact { result ≡ step_by name.now (at + length name.now)
@@ -102,7 +102,7 @@ pub(crate) fn step_over(memory: &Memory, p: Pid, at: u16, name: &Name) -> Result
     Ok(Step::Last(Tail { dots, slash, next }))
 }
 
-/// What stands behind a name of this length at an address.
+/// What follows a name of this length at an address.
 fn what_follows(memory: &Memory, p: Pid, at: u16, len: u8) -> Behind
     requires process { p.0 < 33 }
     requires some { 0 < len }
@@ -127,7 +127,7 @@ fn is_marked(byte: Option<u8>) -> bool
     matches!(byte, Some(128..=255))
 }
 
-/// What a slash with this byte behind it is.
+/// What a slash means if this byte follows it.
 fn behind_slash(byte: Option<u8>) -> Behind
     ensures { behind_of result ≡ behind_slash_lem byte }
 {
@@ -145,7 +145,7 @@ fn is_name_character(character: u8) -> bool
     matches!(character, b'a'..=b'z' | b'A'..=b'Z' | b'0'..=b'9' | b'_' | b'.')
 }
 
-/// Is it the name of a directory itself or of the one above it?
+/// Does it name a directory itself or its parent?
 fn is_dots(name: &Name) -> bool
     ensures { result ≡ is_dots_lem name.now }
 {

@@ -11,21 +11,21 @@ use Rattle.io_state.specs.Sound.{IsNoRead}
 use Rattle.proc_state.specs.Tie.{Comes}
 use Rattle.proc_state.specs.declared.state.ProcState.{ProcState}
 
--- an attempt of a process that comes to this effect ends so, and leaves the processes and the state so
+-- an attempt of a process with this effect ends in this way, and leaves these processes and this state
 abbrev pub Leaves : IoEffect → Inner → ℕ → CallEnd → ProcState → Io → Type 0
 Leaves effect m p end processes new = Comes m p (result_of m p effect) end processes × (new ≡ io_after p effect)
 
--- a call that ends in this way is told so; where it is done its process has these registers
+-- a call with this end returns in this way; if it is done its process has these registers
 abbrev pub IsTold : IoEnd → Regs → CallEnd → Type 0
 IsTold (answers it) regs end = (end ≡ Done) × (it ≡ regs)
 IsTold (fails number) regs end = end ≡ Error number
 IsTold (keeps kept) regs end = end ≡ Wait
 
--- an attempt of a process that comes to this effect is told so, and leaves the state so; its process has these
--- registers where it is done
+-- an attempt of a process with this effect returns in this way, and leaves this state; its process has these registers
+-- if it is done
 abbrev pub Settles : IoEffect → Regs → ℕ → CallEnd → Io → Type 0
 Settles effect regs p end new = IsTold effect.end regs end × (new ≡ io_after p effect)
 
--- no call of a process waits, or the one that does is no read of a terminal
+-- no call of a process is pending, or the pending call is not a read of a terminal
 abbrev pub ReadsNoTerminal : Io → ℕ → Type 0
 ReadsNoTerminal io p = IfSome (kept_at io p) (IsNoRead io)

@@ -15,7 +15,7 @@ use os9_base::call::CallEnd;
 use os9_base::registers::{Pid, Regs};
 use proc_state::state::ProcState;
 
-/// The call is refused with this number. Nothing is kept of it.
+/// Refuses the call with this number. Nothing is kept of it.
 pub(crate) fn refuse(io: &mut IoState, p: Pid, number: u8) -> CallEnd
     requires process { p.0 < 33 }
     requires no_read { ReadsNoTerminal io.old p.0 }
@@ -63,7 +63,7 @@ pub(crate) fn answer(s: &mut ProcState, io: &mut IoState, p: Pid, regs: Regs) ->
     CallEnd::Done
 }
 
-/// A call after an attempt that moved so many bytes more.
+/// A call after an attempt that moved `count` more bytes.
 pub(crate) fn moved_on(call: Kept, count: u16) -> Kept
     requires { call.moved + count ≤ 65535 }
     ensures { result ≡ moved_on_lem call count }

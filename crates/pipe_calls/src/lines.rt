@@ -12,7 +12,7 @@ pub(crate) fn has_return(bytes: &[u8]) -> bool
     return_place(bytes).is_some()
 }
 
-/// Where the first carriage return stands.
+/// The place of the first carriage return.
 fn return_place(bytes: &[u8]) -> Option<usize>
     ensures { result ≡ return_place_lem bytes.now }
 {

@@ -29,14 +29,13 @@ use os9_base::errors::{E_EOF, E_WRITE};
 use os9_base::registers::{Pid, Regs};
 use proc_state::state::ProcState;
 
-/// An attempt of I$Read on a pipe by a process with these registers, whose buffer at X has to be
-/// there. It is done with what the pipe holds, which is stored at X and counted in Y; it waits while
-/// that is nothing.
+/// An attempt of I$Read on a pipe by a process with these registers, whose buffer at X must be in
+/// named slots. It is done with what the pipe holds, which is stored at X and counted in Y. It
+/// waits while the pipe is empty.
 ///
 /// # Errors
 ///
-/// E$EOF exactly if the pipe holds nothing, and no other process that holds the path is outside the
-/// same wait.
+/// E$EOF exactly if the pipe is empty, and no other process outside the same wait holds the path.
 pub fn read_pipe(
     s: &mut ProcState,
     io: &mut IoState,
@@ -61,7 +60,7 @@ pub fn read_pipe(
     take_bytes(s, io, p, regs, call, moved, &bytes)
 }
 
-/// An I$Read ends by what the pipe answered; the bytes that it moved stand at the front of these.
+/// Ends an I$Read by the pipe's answer. The bytes that it moved are at the front of the buffer.
 fn take_bytes(
     s: &mut ProcState,
     io: &mut IoState,
@@ -93,15 +92,16 @@ fn take_bytes(
     }
 }
 
-/// An attempt of I$ReadLn on a pipe by a process with these registers, whose buffer at X has to be
-/// there. It stores the first line, or what there is of it, behind what earlier attempts moved. It is
-/// done with a carriage return, or with the last byte that it asks for, and answers the count of all
-/// that was moved in Y; it waits before that. A process that is alone is answered what was moved.
+/// An attempt of I$ReadLn on a pipe by a process with these registers, whose buffer at X must be in
+/// named slots. It stores the first line, or the available part of it, after the bytes that earlier
+/// attempts moved. It is done with a carriage return, or with the last byte that it asks for, and
+/// returns the count of all moved bytes in Y. It waits before that. If the process is alone, it
+/// returns what was moved.
 ///
 /// # Errors
 ///
-/// E$EOF exactly if the pipe holds nothing, no other process that holds the path is outside the same
-/// wait, and nothing was moved before.
+/// E$EOF exactly if the pipe is empty, no other process outside the same wait holds the path, and
+/// nothing was moved before.
 pub fn read_pipe_line(
     s: &mut ProcState,
     io: &mut IoState,
@@ -127,7 +127,7 @@ pub fn read_pipe_line(
     take_line(s, io, p, regs, alone, call, moved, &bytes)
 }
 
-/// An I$ReadLn ends by what the pipe answered; the bytes that it moved stand at the front of these.
+/// Ends an I$ReadLn by the pipe's answer. The bytes that it moved are at the front of the buffer.
 fn take_line(
     s: &mut ProcState,
     io: &mut IoState,
@@ -162,7 +162,7 @@ fn take_line(
     }
 }
 
-/// An I$ReadLn that took these bytes, after which the call stands so, is done or waits.
+/// An I$ReadLn that took these bytes is done or waits; `call` is the call after them.
 fn end_line(
     s: &mut ProcState,
     io: &mut IoState,
@@ -188,7 +188,7 @@ fn end_line(
     keep(io, p, call)
 }
 
-/// Is an I$ReadLn over that took these bytes, after which the call stands so?
+/// Is an I$ReadLn over that took these bytes? `call` is the call after them.
 fn is_over(taken: &[u8], alone: bool, call: Kept) -> bool
     ensures over { result ≡ (has_return_lem taken.now || (is_complete call || alone)) }
     ensures left { result ≡ false → call.moved ≢ call.count }

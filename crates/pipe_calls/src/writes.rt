@@ -19,14 +19,14 @@ use os9_base::call::CallEnd;
 use os9_base::errors::{E_EOF, E_WRITE};
 use os9_base::registers::Pid;
 
-/// An attempt of a process to write these bytes into a pipe, of which earlier attempts moved some. It
-/// is done with the last of them, and waits before that. The caller sets the registers where it is
+/// An attempt of a process to write these bytes into a pipe, of which earlier attempts moved some.
+/// It is done with the last byte, and waits before that. The caller sets the registers if it is
 /// done.
 ///
 /// # Errors
 ///
-/// E$Write exactly if a byte is left, and no other process that holds the path is outside the same
-/// wait. What was moved stays in the pipe.
+/// E$Write exactly if a byte is left, and no other process outside the same wait holds the path.
+/// The moved bytes stay in the pipe.
 pub fn write_pipe(io: &mut IoState, p: Pid, pipe: u8, call: Kept, bytes: &[u8]) -> CallEnd
     requires process { p.0 < 33 }
     requires pipe { IsPipe io.old.pipes pipe }
@@ -40,7 +40,7 @@ pub fn write_pipe(io: &mut IoState, p: Pid, pipe: u8, call: Kept, bytes: &[u8]) 
     write_rest(io, p, pipe, alone, call, &bytes[call.moved as usize..])
 }
 
-/// An attempt to write what is left of the bytes of a call.
+/// An attempt to write the remaining bytes of a call.
 fn write_rest(io: &mut IoState, p: Pid, pipe: u8, alone: bool, call: Kept, rest: &[u8]) -> CallEnd
     requires process { p.0 < 33 }
     requires pipe { IsPipe io.old.pipes pipe }
@@ -54,7 +54,7 @@ fn write_rest(io: &mut IoState, p: Pid, pipe: u8, alone: bool, call: Kept, rest:
     settle(io, p, alone, call, moved)
 }
 
-/// A write ends by what the pipe answered.
+/// Ends a write by the pipe's answer.
 fn settle(io: &mut IoState, p: Pid, alone: bool, call: Kept, moved: PipeAns) -> CallEnd
     requires process { p.0 < 33 }
     requires few { call.moved + moved_count moved ≤ call.count }
@@ -71,8 +71,8 @@ fn settle(io: &mut IoState, p: Pid, alone: bool, call: Kept, moved: PipeAns) -> 
     }
 }
 
-/// A write that moved bytes is done if they were the last; else it is refused if no other process
-/// that holds the path is outside the same wait, and waits if one is.
+/// A write that moved bytes is done if they were the last. Else it waits if another process outside
+/// the same wait holds the path, and is refused if none does.
 fn go_on(io: &mut IoState, p: Pid, alone: bool, call: Kept) -> CallEnd
     requires process { p.0 < 33 }
     requires may { call.moved ≢ call.count → MayWait io.old.paths p.0 call }

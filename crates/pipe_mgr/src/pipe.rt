@@ -8,7 +8,7 @@ use io_model::pipe::{PIPE_BYTES, PipeAns};
 use std::alloc::{AllocError, Global};
 use std::marker::Model;
 
-// The place of one pipe: its ring is there also while no pipe has the number.
+// The place of one pipe: its ring exists even while no pipe has the number.
 #[derive(Drop)]
 pub(crate) struct Pipe {
     is_open: bool,
@@ -85,7 +85,8 @@ impl Pipe {
         self.read(alone, &mut into[..most])
     }
 
-    // How many bytes the first line has, its carriage return among them; all bytes if there is none.
+    // The length of the first line with its carriage return; all bytes if there is no carriage
+    // return.
     fn line_len(&self) -> usize
         requires { IsSome self.now }
         ensures len { result ≡ line_length (unwrap_or self.now []) }
@@ -114,7 +115,7 @@ impl Pipe {
     }
 }
 
-// Where the first carriage return stands.
+// The place of the first carriage return.
 fn return_place(ring: &HeapCircularBuffer<u8>) -> Option<usize>
     ensures { result ≡ return_place_lem ring.now.items }
 {

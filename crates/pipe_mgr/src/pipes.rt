@@ -38,7 +38,7 @@ impl Pipes {
         })
     }
 
-    /// Makes an empty pipe of the least number that no pipe has. None if there are 16 pipes.
+    /// Makes an empty pipe with the least free number. None if there are 16 pipes.
     pub fn begin(&mut self) -> Option<PipeId>
         ensures number { option_map (λ id. id.0) result ≡ free_pipe_lem self.old }
         ensures made { self.new ≡ pipes_after_begin self.old }
@@ -49,7 +49,7 @@ impl Pipes {
         Some(id)
     }
 
-    /// A pipe goes, with the bytes that it holds.
+    /// Ends a pipe, and drops the bytes that it holds.
     pub fn finish(&mut self, id: PipeId)
         requires { IsPipe self.old id.0 }
         ensures gone { self.new ≡ without_pipe self.old id.0 }
@@ -58,7 +58,7 @@ impl Pipes {
         self.pipes[id.0 as usize].close();
     }
 
-    /// How many bytes a pipe holds, at most 256.
+    /// The number of bytes that a pipe holds, at most 256.
     pub fn held(&self, id: PipeId) -> u16
         requires { IsPipe self.now id.0 }
         ensures held { result ≡ length (held_bytes self.now id.0) }
@@ -67,9 +67,9 @@ impl Pipes {
         self.pipes[id.0 as usize].len()
     }
 
-    /// An attempt of I$Read of at most as many bytes as `into` has, at least one (Level Two manual,
-    /// I$Read). It moves what the pipe holds, as far as it fits, to the start of `into`. `alone` if
-    /// whoever else holds the pipe's path waits for a byte too.
+    /// An attempt of I$Read of at most the length of `into`, at least one byte (Level Two manual,
+    /// I$Read). It moves the bytes that the pipe holds, as far as they fit, to the start of `into`.
+    /// `alone` is true if every other process with the pipe's path waits for a byte too.
     pub fn read(&mut self, id: PipeId, alone: bool, into: &mut [u8]) -> PipeAns
         requires pipe { IsPipe self.old id.0 }
         requires some { 0 < length into.old }
@@ -82,8 +82,8 @@ impl Pipes {
         self.pipes[id.0 as usize].read(alone, into)
     }
 
-    /// An attempt of I$ReadLn (Level Two manual, I$ReadLn): as [`Pipes::read`], but it moves nothing
-    /// that follows the first carriage return.
+    /// An attempt of I$ReadLn (Level Two manual, I$ReadLn): as [`Pipes::read`], but it moves no
+    /// byte after the first carriage return.
     pub fn read_line(&mut self, id: PipeId, alone: bool, into: &mut [u8]) -> PipeAns
         requires pipe { IsPipe self.old id.0 }
         requires some { 0 < length into.old }
@@ -97,9 +97,9 @@ impl Pipes {
         self.pipes[id.0 as usize].read_line(alone, into)
     }
 
-    /// An attempt of I$Write of these bytes, at least one (Level Two manual, I$Write). It moves as many
-    /// as there is room for, the first ones first. `alone` if whoever else holds the pipe's path waits
-    /// for room too.
+    /// An attempt of I$Write of these bytes, at least one (Level Two manual, I$Write). It moves the
+    /// first bytes, as far as there is room. `alone` is true if every other process with the pipe's
+    /// path waits for room too.
     pub fn write(&mut self, id: PipeId, alone: bool, from: &[u8]) -> PipeAns
         requires pipe { IsPipe self.old id.0 }
         requires some { 0 < length from.now }
@@ -112,7 +112,7 @@ impl Pipes {
     }
 }
 
-// The least number that no pipe has.
+// The least free number of a pipe.
 fn free_pipe(pipes: &[Pipe]) -> Option<PipeId>
     requires { length pipes.now ≡ 17 }
     ensures number { option_map (λ id. id.0) result ≡ free_pipe_lem pipes.now }
@@ -122,7 +122,7 @@ fn free_pipe(pipes: &[Pipe]) -> Option<PipeId>
     Some(PipeId((place + 1) as u8))
 }
 
-// A place for each pipe, and none of them open.
+// A place for each pipe, all of them closed.
 fn closed_pipes(alloc: Global) -> Result<Vec<Pipe>, AllocError>
     ensures { IfOk result (λ pipes. pipes.items ≡ replicate 17 None) }
 {

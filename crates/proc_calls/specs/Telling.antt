@@ -1,4 +1,4 @@
--- Who is told the end of a call, and what a process waits for.
+-- Which processes receive the end of a call, and what a process waits for.
 use Rattle.std.specs.Prelude.{◌≡◌, ℕ, true, false, Option, List}
 use Rattle.os9_base.specs.declared.call.CallEnd.{CallEnd}
 use Rattle.os9_base.specs.declared.call.CallEnd.TheVariants.{Done, Error, Wait, Ended, NoMemory}
@@ -21,8 +21,8 @@ pub record KeepsTurns (before after : ProcState) : Type 0 where
   pub table : after.table ≡ before.table
   pub sched : after.sched ≡ before.sched
 
--- A process waits for this: the scheduler has it from the first attempt that waits on, and a further one changes
--- nothing of it.
+-- A process waits for this: the scheduler has it from the first waiting attempt on, and a further attempt does not
+-- change it.
 pub record WaitsFor (before after : ProcState) (p : ℕ) (wait : Waiting) : Type 0 where
   pub first : is_waiting (record_at before.table p).life ≡ false → after.sched ≡ after_wait before.sched p wait
   pub further : is_waiting (record_at before.table p).life ≡ true → after.sched ≡ before.sched

@@ -15,9 +15,9 @@ use os9_base::registers::{Pid, Regs};
 use proc_rules::record::Reap;
 use proc_state::state::ProcState;
 
-/// F$Wait: waits for the end of a child (System Programmer's Manual, F$Wait). Answers the number of
-/// the ended child of least number in A and its status in B, and the child's record goes. The call
-/// waits while no child has ended.
+/// F$Wait: waits for the end of a child (System Programmer's Manual, F$Wait). Returns the number of
+/// the ended child of least number in A and its status in B, and removes the child's record. The
+/// call waits while no child has ended.
 ///
 /// # Errors
 ///
@@ -54,7 +54,7 @@ pub fn f_exit(s: &mut ProcState, p: Pid) -> CallEnd
     CallEnd::Ended
 }
 
-/// The ended child of least number, and its status. The child's record goes.
+/// Removes the record of the ended child of least number; returns its number and status.
 fn reap(s: &mut ProcState, p: Pid) -> Result<(Pid, u8), Reap>
     requires lives { IsLiving s.old.table p.0 }
     ensures child { result ≡ reaped s.old.table p.0 }

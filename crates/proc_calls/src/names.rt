@@ -16,14 +16,14 @@ use os9_base::registers::{Pid, Regs};
 use proc_state::state::ProcState;
 use user_names::name_fault::NameFault;
 
-/// F$PrsNam: parses the name at the address in X; one slash before it is passed (System Programmer's
-/// Manual, F$PrsNam). Answers the address of its first character in X, that behind its last one in
-/// Y, its length in B, and the byte at Y in A.
+/// F$PrsNam: parses the name at the address in X, and skips one slash before it (System
+/// Programmer's Manual, F$PrsNam). Returns the address of its first character in X, the address
+/// after its last one in Y, its length in B, and the byte at Y in A.
 ///
 /// # Errors
 ///
 /// E$BPAddr exactly if a byte that has to be read is in no named slot or past `FFFF`, else E$BNam
-/// exactly if the bytes are no name; else E$BPAddr exactly if the byte at Y is not there.
+/// exactly if the bytes are not a name; else E$BPAddr exactly if the byte at Y is missing.
 pub fn f_prsnam(s: &mut ProcState, p: Pid) -> CallEnd
     requires lives { IsLiving s.old.table p.0 }
     ensures call { (m : Inner) → Represents s.old m
@@ -37,7 +37,7 @@ pub fn f_prsnam(s: &mut ProcState, p: Pid) -> CallEnd
     }
 }
 
-/// The name at this address is parsed.
+/// Parses the name at this address.
 fn parses_name(s: &mut ProcState, p: Pid, first: u16) -> CallEnd
     requires lives { IsLiving s.old.table p.0 }
     ensures call { (m : Inner) → Represents s.old m
@@ -61,7 +61,7 @@ fn parses_name(s: &mut ProcState, p: Pid, first: u16) -> CallEnd
     }
 }
 
-/// The address behind one slash, if there is one; None if it would be past `FFFF`.
+/// The address after one slash, if there is one; None if it would be past `FFFF`.
 fn past_slash(memory: &Memory, p: Pid, at: u16) -> Option<u16>
     requires { p.0 < 33 }
     ensures some { IfSome result
@@ -74,10 +74,10 @@ fn past_slash(memory: &Memory, p: Pid, at: u16) -> Option<u16>
     }
 }
 
-/// F$CmpNam: compares two names, the case of letters ignored (System Programmer's Manual,
+/// F$CmpNam: compares two names, regardless of the case of letters (System Programmer's Manual,
 /// F$CmpNam). Takes the length of the first name in B, its address in X, and the address of the
 /// second one, whose last character has bit 7, in Y. The bytes are read pair by pair until the
-/// answer is known.
+/// result is known.
 ///
 /// # Errors
 ///
@@ -96,8 +96,8 @@ pub fn f_cmpnam(s: &mut ProcState, p: Pid) -> CallEnd
     }
 }
 
-/// Is the name at X, of the length in B, that at Y? None if a byte that has to be read is not
-/// there.
+/// Does the name at X, of the length in B, agree with that at Y? None if a byte that has to be read
+/// is missing.
 fn compares(s: &ProcState, p: Pid) -> Option<bool>
     requires lives { IsLiving s.now.table p.0 }
     ensures { (m : Inner) → Represents s.now m → result
@@ -107,8 +107,8 @@ fn compares(s: &ProcState, p: Pid) -> Option<bool>
     same_names(&s.memory, p, regs.x, regs.y, regs.b)
 }
 
-/// Is the first name, of this length, the second one? None if a byte that has to be read is not
-/// there.
+/// Does the first name, of this length, agree with the second one? None if a byte that has to be
+/// read is missing.
 fn same_names(memory: &Memory, p: Pid, one: u16, other: u16, length: u8) -> Option<bool>
     requires { p.0 < 33 }
     ensures { result ≡ same_names_lem (cells_of memory.now p.0) one other length }
@@ -126,14 +126,14 @@ fn same_names(memory: &Memory, p: Pid, one: u16, other: u16, length: u8) -> Opti
     Some(false)
 }
 
-/// Is a character of the first name that of the second one?
+/// Does a character of the first name agree with one of the second name?
 fn agrees(one: u8, other: u8) -> bool
     ensures { result ≡ agrees_lem one other }
 {
     lower(one) == lower(other % 128)
 }
 
-/// A letter in lower case, any other character as it is.
+/// A letter in lower case, or any other character unchanged.
 fn lower(character: u8) -> u8
     ensures { result ≡ lower_lem character }
 {

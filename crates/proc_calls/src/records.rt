@@ -19,8 +19,8 @@ use process_table::Table;
 /// The user that may act on every process.
 const SUPERUSER: u16 = 0;
 
-/// F$ID: asks for the process number and the user (System Programmer's Manual, F$ID). Answers the
-/// number in A and the user in Y.
+/// F$ID: returns the process number and the user (System Programmer's Manual, F$ID): the number in
+/// A and the user in Y.
 pub fn f_id(s: &mut ProcState, p: Pid) -> CallEnd
     requires lives { IsLiving s.old.table p.0 }
     ensures call { (m : Inner) → Represents s.old m → Comes m p.0 (f_id_lem m p.0) result s.new }

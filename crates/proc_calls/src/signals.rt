@@ -18,8 +18,9 @@ use proc_state::state::ProcState;
 /// The signal that ends a sleep, S$Wake. It is never pending.
 const WAKE: u8 = 1;
 
-/// F$Icpt: gives the process a routine for its signals, at the address in X, and the address that
-/// it finds in U (System Programmer's Manual, F$Icpt). A routine of 0 takes the intercept away.
+/// F$Icpt: sets a routine for the signals of the process, at the address in X, and the address that
+/// the routine finds in U (System Programmer's Manual, F$Icpt). A routine of 0 removes the
+/// intercept.
 pub fn f_icpt(s: &mut ProcState, p: Pid) -> CallEnd
     requires lives { IsLiving s.old.table p.0 }
     ensures call { (m : Inner) → Represents s.old m
@@ -32,12 +33,13 @@ pub fn f_icpt(s: &mut ProcState, p: Pid) -> CallEnd
 }
 
 /// F$Send: sends the signal in B to the process in A (System Programmer's Manual, F$Send). Signal 1
-/// wakes the process if it sleeps, and is dropped if it does not; any other is pending from then on.
+/// wakes the process if it sleeps, and is dropped if it does not; any other is pending from then
+/// on.
 ///
 /// # Errors
 ///
 /// E$IPrcID exactly if no such process lives, or it is another user's and the caller is not user 0;
-/// else E$USigP exactly if a signal is pending there and the one that is sent is not 1.
+/// else E$USigP exactly if a signal is already pending there and the one sent is not 1.
 pub fn f_send(s: &mut ProcState, p: Pid) -> CallEnd
     requires lives { IsLiving s.old.table p.0 }
     ensures call { (m : Inner) → Represents s.old m
@@ -59,7 +61,7 @@ pub fn f_send(s: &mut ProcState, p: Pid) -> CallEnd
     }
 }
 
-/// A wake comes for a process, if it sleeps.
+/// Records a wake for a process, if it sleeps.
 fn wake(s: &mut ProcState, p: Pid)
     requires lives { IsLiving s.old.table p.0 }
     ensures tied { (m : Inner) → Represents s.old m → Represents s.new (woken m p.0) }
@@ -72,7 +74,7 @@ fn wake(s: &mut ProcState, p: Pid)
     }
 }
 
-/// Has the call that is not done this code?
+/// Does the unfinished call have this code?
 fn is_call(call: Option<u8>, code: u8) -> bool
     ensures { result ≡ is_call_lem call code }
 {

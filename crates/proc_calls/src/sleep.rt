@@ -15,9 +15,9 @@ use proc_rules::own::Own;
 use proc_rules::record::Life;
 use proc_state::state::ProcState;
 
-/// F$Sleep: sleeps for the ticks in X, or for ever if X is 0 (System Programmer's Manual,
-/// F$Sleep). The sleep ends at its tick or with signal 1, and answers in X the ticks that were left
-/// then, 0 of a sleep for ever.
+/// F$Sleep: sleeps for the ticks in X, or for ever if X is 0 (System Programmer's Manual, F$Sleep).
+/// The sleep ends at its tick or with signal 1. Returns in X the ticks left then, 0 for a sleep for
+/// ever.
 pub fn f_sleep(s: &mut ProcState, p: Pid) -> CallEnd
     requires lives { IsLiving s.old.table p.0 }
     ensures call { (m : Inner) → Represents s.old m
@@ -70,7 +70,7 @@ fn sleeps_on(s: &mut ProcState, p: Pid) -> CallEnd
     CallEnd::Done
 }
 
-/// The tick that ends a sleep of so many ticks that begins now; None if it is for ever.
+/// The tick that ends a sleep of `ticks` ticks that begins now; None if it is for ever.
 fn sleep_end(tick: u32, ticks: u16) -> Option<u32>
     requires { tick ≤ LAST_TICK }
     ensures end { result ≡ sleep_end_lem tick ticks }
@@ -82,7 +82,7 @@ fn sleep_end(tick: u32, ticks: u16) -> Option<u32>
     Some(tick + u32::from(ticks))
 }
 
-/// May a sleep end? Its tick is reached, or a wake came.
+/// May a sleep end? Its tick is reached, or a wake has arrived.
 fn may_wake(tick: u32, own: Own) -> bool
     ensures { result ≡ may_wake_lem tick own }
 {

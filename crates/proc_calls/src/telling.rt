@@ -1,4 +1,4 @@
-//! A call tells its end to its process.
+//! A call reports its end to its process.
 
 ghost use Rattle.std.specs.Prelude.{◌≡◌};
 ghost use Rattle.os9_base.specs.declared.call.CallEnd.TheVariants.{Wait};
@@ -13,8 +13,8 @@ use os9_base::registers::Pid;
 use os9_sched::Wait as Waiting;
 use proc_state::state::ProcState;
 
-/// Tells a process what its call came to. It goes on if the call is done or refused, and waits for
-/// this if the call waits.
+/// Reports the end of a call to its process. It goes on if the call is done or refused, and waits
+/// for `wait` if the call waits.
 pub fn tell(s: &mut ProcState, p: Pid, end: CallEnd, wait: Waiting)
     requires lives { LivesOn end s.old.table p.0 }
     ensures told { (m : Inner) (call : CallResult) → Comes m p.0 call end s.old

@@ -13,8 +13,8 @@ bits_of byte =
     bit_at byte 7 ∷ bit_at byte 6 ∷ bit_at byte 5 ∷ bit_at byte 4 ∷ bit_at byte 3 ∷ bit_at byte 2 ∷ bit_at byte 1
     ∷ bit_at byte 0 ∷ []
 
--- one step of the division: the register moves up by one place, and where the bit that leaves it differs from the
--- message's bit, the polynomial is subtracted
+-- one step of the division: the register moves up by one place, and the polynomial is subtracted if the bit that leaves
+-- it differs from the message's bit
 unfoldable pub divided_once : ℕ → ℕ → ℕ
 divided_once register bit =
     if register / 2 ^ 23 == bit then register * 2 % 2 ^ 24 else bit_xor (register * 2 % 2 ^ 24) polynomial
@@ -27,6 +27,6 @@ divided register bits = fold divided_once register bits
 abbrev pub crc_register : ℕ → List ℕ → ℕ
 crc_register register bytes = divided register (flat_map bits_of bytes)
 
--- the CRC of a list of bytes: what the division leaves from FFFFFF, complemented
+-- the CRC of a list of bytes: the complement of the register after the division, which begins with FFFFFF
 abbrev pub crc_of : List ℕ → ℕ
 crc_of bytes = 0xFFFFFF - crc_register 0xFFFFFF bytes

@@ -19,19 +19,19 @@ module_error BadSync = E_BMID
 module_error BadParity = E_BMHP
 module_error BadCrc = E_BMCRC
 
--- the error of a module that the directory does not take: it is known, else no place is left
+-- the error of a module that the directory refuses: it is known, or else no place is left
 abbrev pub entry_refusal : List (Option ModuleEntry) → ModuleInfo → Option ℕ
 entry_refusal entries info =
     if is_known entries info then Some E_KWNMOD else (if module_room entries == 0 then Some E_DIRFUL else None)
 
--- the list with one module more, at the least number that no entry has
+-- the list with one more module, at the least number that no entry has
 abbrev pub with_module : List (Option ModuleEntry) → ModuleInfo → List ℕ → Bool → List (Option ModuleEntry)
 with_module entries info group is_boot =
     option_map_or (λ number. with_module_entry entries number (new_entry info group is_boot)) (free_number entries)
     entries
 
--- The modules of a file from a place on are entered as one group, each tried by all rules before the next: what comes
--- of it is the list of entries, or the place and the error of the first module that is refused.
+-- The modules of a file from a place on are entered as one group, each tested by all rules before the next one. The
+-- outcome is the list of entries, or the place and the error of the first refused module.
 pub data EntersModules (file group : List ℕ) (is_boot : Bool) : ℕ → List (Option ModuleEntry)
     → Result (List (Option ModuleEntry)) (ℕ × ℕ) → Type 0 where
   -- only zero bytes are left
@@ -41,11 +41,11 @@ pub data EntersModules (file group : List ℕ) (is_boot : Bool) : ℕ → List (
   broken : {from at : ℕ} {fault : ModuleFault} {entries : List (Option ModuleEntry)}
       → step_from file from ≡ Fault at fault
       → EntersModules file group is_boot from entries (Err (at, module_error fault))
-  -- the directory does not take the next module
+  -- the directory refuses the next module
   refused : {from number : ℕ} {info : ModuleInfo} {entries : List (Option ModuleEntry)}
       → step_from file from ≡ Module info → entry_refusal entries info ≡ Some number
       → EntersModules file group is_boot from entries (Err (info.at, number))
-  -- the next module is entered, and then those behind it
+  -- the next module is entered, and then those after it
   entered : {from : ℕ} {info : ModuleInfo} {entries : List (Option ModuleEntry)}
       {outcome : Result (List (Option ModuleEntry)) (ℕ × ℕ)} → step_from file from ≡ Module info
       → entry_refusal entries info ≡ None

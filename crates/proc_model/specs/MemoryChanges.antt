@@ -1,5 +1,5 @@
--- The changes of memory that the system calls are made of (Level Two manual, "Memory management"; F$Link, F$Load,
--- F$UnLink, F$UnLoad, F$Fork, F$Chain, F$Mem). A change that is refused says why, and there is no other state then.
+-- The changes of memory that make up the system calls (Level Two manual, "Memory management"; F$Link, F$Load, F$UnLink,
+-- F$UnLoad, F$Fork, F$Chain, F$Mem). A refused change says why, and gives no other state.
 use Rattle.std.specs.Prelude.{ℕ, ◌+◌, ◌-◌, nat_lt, nat_le, ◌||◌, Bool, false, Option, Some, option_map, Result, Ok, Err, List, [], ◌∷◌, ◌++◌, length, replicate, if◌then◌else◌}
 use Rattle.std.specs.List.{range_with_len}
 use Rattle.std.specs.Option.{option_map_or}
@@ -15,16 +15,16 @@ use Rattle.proc_model.specs.Slots.{Slots, no_slots, is_free_run, highest_free_ru
 
 -- ---- the data area of a process (F$Mem)
 
--- so many numbers for new objects
+-- this many numbers for new objects
 abbrev pub new_numbers : MemoryState → ℕ → List ℕ
 new_numbers m count = range_with_len (length m.objects) count
 
--- the memory with so many new objects, whose bytes are zeros
+-- the memory with this many new objects, whose bytes are zeros
 abbrev pub with_new_objects : MemoryState → ℕ → MemoryState
 with_new_objects m count = record m { objects = m.objects ++ replicate count zero_object }
 
--- The data area grows by so many new objects, in the slots that follow it. It is refused with 207 where one of these
--- slots is named or there are fewer, else with 237 where fewer blocks are free.
+-- The data area grows by this many new objects, in the slots that follow it. The change is refused with 207 if one of
+-- these slots is named or there are fewer slots, else with 237 if fewer blocks are free.
 abbrev pub grown : MemoryState → ℕ → ℕ → Result MemoryState MemoryFault
 grown m process count =
     if is_free_run (map_at m process) (map_at m process).low count
@@ -32,11 +32,11 @@ grown m process count =
     else Ok (with_map (with_new_objects m count) process (with_low (map_at m process) (new_numbers m count))))
     else Err MemFull
 
--- the map of whose data area at most so many slots are kept
+-- the map with at most this many slots of its data area
 abbrev pub map_cut : {Block : Type 0} → Slots Block → ℕ → Slots Block
 map_cut slots count = if nat_lt count slots.low then cut_low_to slots count else slots
 
--- at most so many slots of the data area are kept
+-- at most this many slots of the data area are kept
 abbrev pub cut : MemoryState → ℕ → ℕ → MemoryState
 cut m process count = with_map m process (map_cut (map_at m process) count)
 
@@ -46,8 +46,8 @@ cleared m process = with_map m process no_slots
 
 -- ---- groups in maps (F$Link, F$UnLink)
 
--- A group is mapped into the highest free slots: the first of them, and the memory then; nothing where there is no
--- run of as many.
+-- A group is mapped into the highest free slots: the first of them, and the memory afterwards; nothing if there is no
+-- free run of this length.
 abbrev pub group_mapped : MemoryState → ℕ → List ℕ → Option (ℕ × MemoryState)
 group_mapped m process group =
     option_map (λ first. (first, with_map m process (with_group (map_at m process) first group)))
@@ -58,13 +58,13 @@ abbrev pub map_ungrouped : Slots ℕ → List ℕ → Slots ℕ
 map_ungrouped slots group =
     option_map_or (λ first. map_without_group slots first (length group)) (group_slot slots group) slots
 
--- a group leaves the map of a process
+-- a group is removed from the map of a process
 abbrev pub group_unmapped : MemoryState → ℕ → List ℕ → MemoryState
 group_unmapped m process group = with_map m process (map_ungrouped (map_at m process) group)
 
 -- ---- links and entries (F$Link, F$UnLink, F$UnLoad, F$Load)
 
--- one link more of an entered module
+-- one more link of an entered module
 abbrev pub linked : MemoryState → ℕ → MemoryState
 linked m number =
     record m {
@@ -73,17 +73,17 @@ linked m number =
           (module_entry_at m.modules number) m.modules;
     }
 
--- One link less of an entered module. Its group's entries go with the last link of them all, but not those of the
--- boot file.
+-- One link less of an entered module. The entries of its group are removed with the last link of them all, but not
+-- those of the boot file.
 abbrev pub unlinked : MemoryState → ℕ → MemoryState
 unlinked m number = record m { modules = without_link m.modules (Some number) }
 
--- the group of an entered module goes with this link
+-- the group of an entered module leaves memory with this link
 abbrev pub is_group_leaving : MemoryState → ℕ → Bool
 is_group_leaving m number = option_map_or (is_leaving m.modules number) (module_entry_at m.modules number) false
 
--- The file of a module is loaded into new objects as a group, and the module is entered. It is refused with 237 where
--- fewer blocks are free than the file needs.
+-- The file of a module is loaded into new objects as a group, and the module is entered. The change is refused with 237
+-- if fewer blocks are free than the file needs.
 abbrev pub entered : MemoryState → List ℕ → ModuleInfo → Bool → Result MemoryState MemoryFault
 entered m file info is_boot =
     if wants_blocks m (file_blocks file)
@@ -109,12 +109,12 @@ entered_beside m number info =
 abbrev pub first_slots : List ℕ → List ℕ → Slots ℕ
 first_slots area group = with_group (with_low no_slots area) (8 - length group) group
 
--- the memory with a new data area of so many objects, and the group, in the map of a process
+-- the memory in which the map of a process has a new data area of this many objects, and the group
 abbrev pub with_first_slots : MemoryState → ℕ → List ℕ → ℕ → MemoryState
 with_first_slots m process group count =
     with_map (with_new_objects m count) process (first_slots (new_numbers m count) group)
 
--- a module can not be linked once more
+-- a module has all the links that it can have
 abbrev pub has_most_links : ModuleEntry → Bool
 has_most_links entry = nat_le MOST_LINKS entry.links
 
@@ -127,21 +127,21 @@ started_with m process count entry =
     then Err NoRam
     else Ok (with_first_slots m process entry.group count))
 
--- The memory of a process begins anew with an entered module and a data area of so many blocks. It is refused with
--- 207 where the module has all the links that it can have or the slots are too few, else with 237 where fewer blocks
--- are free, those of the data area that it had counted as free.
+-- The memory of a process begins anew with an entered module and a data area of this many blocks. The change is refused
+-- with 207 if the module has all the links that it can have or the slots are too few, else with 237 if fewer blocks are
+-- free, counting the blocks of its old data area as free.
 abbrev pub started : MemoryState → ℕ → ℕ → ℕ → Result MemoryState MemoryFault
 started m process number count =
     option_map_or (started_with m process count) (module_entry_at m.modules number) (Err MemFull)
 
 -- ---- bytes
 
--- the writes that put these bytes at the addresses from one on
+-- the writes that put these bytes at consecutive addresses, from this one on
 abbrev pub writes_from : ℕ → List ℕ → List (ℕ × ℕ)
 writes_from address [] = []
 writes_from address (byte ∷ bytes) = (address, byte) ∷ writes_from (address + 1) bytes
 
--- a process writes through its map, an address and a byte each, in order
+-- a process writes through its map: pairs of an address and a byte, in order
 abbrev pub written : MemoryState → ℕ → List (ℕ × ℕ) → MemoryState
 written m process writes = record m { objects = with_writes m.objects (map_at m process).places writes }
 

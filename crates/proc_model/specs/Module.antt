@@ -35,7 +35,7 @@ module_attributes bytes = slice_index bytes 7
 abbrev pub is_program : List ℕ → Bool
 is_program bytes = module_kind bytes / 16 == 1
 
--- how long the header is
+-- the length of the header
 abbrev pub header_length : List ℕ → ℕ
 header_length bytes = if is_program bytes then 13 else 9
 
@@ -47,7 +47,7 @@ program_word bytes at = if is_program bytes then header_word bytes at else 0
 abbrev pub module_entry : List ℕ → ℕ
 module_entry bytes = program_word bytes 9
 
--- how many bytes of data memory the program needs; 0 for another type
+-- the number of bytes of data memory that the program needs; 0 for another type
 abbrev pub module_storage : List ℕ → ℕ
 module_storage bytes = program_word bytes 11
 
@@ -55,7 +55,7 @@ module_storage bytes = program_word bytes 11
 abbrev pub crc_offset : List ℕ → ℕ
 crc_offset bytes = module_size bytes - 3
 
--- the name, if a name lies between the name's offset and the CRC
+-- the name, if there is one between the name's offset and the CRC
 abbrev pub module_name : List ℕ → Option (List ℕ)
 module_name bytes = stored_name (slice_range bytes (name_offset bytes) (crc_offset bytes))
 
@@ -67,7 +67,7 @@ has_sync bytes = header_word bytes 0 == 0x87CD
 abbrev pub has_size : List ℕ → Bool
 has_size bytes = nat_le (header_length bytes + 4) (module_size bytes) && nat_le (module_size bytes) (length bytes)
 
--- a name stands behind the header and before the CRC
+-- a name lies after the header and before the CRC
 abbrev pub has_module_name : List ℕ → Bool
 has_module_name bytes = nat_le (header_length bytes) (name_offset bytes) && is_some (module_name bytes)
 
@@ -83,7 +83,7 @@ keeps_header_rule bytes = has_sync bytes && has_size bytes && has_module_name by
 abbrev pub keeps_parity_rule : List ℕ → Bool
 keeps_parity_rule bytes = fold bit_xor 0 (take 9 bytes) == 255
 
--- the number that the CRC's three bytes are
+-- the number in the CRC's three bytes
 abbrev pub crc_field : List ℕ → ℕ
 crc_field bytes = big_number 3 (drop (crc_offset bytes) bytes)
 
@@ -103,7 +103,7 @@ pub record IsModule (bytes : List ℕ) : Type 0 where
   pub whole : module_size bytes ≡ length bytes
   pub accepted : module_fault bytes ≡ None
 
--- what the header at the front of the bytes says, where they stand at this place of their file
+-- what the header at the front of the bytes says, with this place of the bytes in their file
 abbrev pub info_at : ℕ → List ℕ → ModuleInfo
 info_at at bytes = record {
   name = unwrap_or (module_name bytes) [];
@@ -115,7 +115,7 @@ info_at at bytes = record {
   storage = module_storage bytes;
 }
 
--- the first place from this one on where a byte other than zero stands, or the end
+-- the first place from this one on with a nonzero byte, or the end
 abbrev pub next_place : List ℕ → ℕ → ℕ
 next_place file from = from + position_or_len (λ byte. not (byte == 0)) (drop from file)
 
@@ -126,11 +126,11 @@ step_at file at =
     then End
     else option_map_or (λ fault. Fault at fault) (module_fault (drop at file)) (Module (info_at at (drop at file)))
 
--- what stands next in a file from a place on, with zero bytes passed over
+-- what begins next in a file from a place on, after any zero bytes
 abbrev pub step_from : List ℕ → ℕ → ModuleStep
 step_from file from = step_at file (next_place file from)
 
--- a fact of the module that was found, if one was
+-- a fact about the module that was found, if one was
 abbrev pub IfModule : ModuleStep → (ModuleInfo → Type 0) → Type 0
 IfModule (Module info) P = P info
 IfModule End P = Unit {0}

@@ -37,25 +37,25 @@ names_agree a b = bytes_eq (map lower a) (map lower b)
 abbrev pub revision_of : ModuleInfo → ℕ
 revision_of info = info.attr % 16
 
--- two modules have the same name and the same type, the language left aside
+-- two modules have the same name and the same type, regardless of the language
 abbrev pub are_namesakes : ModuleInfo → ModuleInfo → Bool
 are_namesakes a b = names_agree a.name b.name && (a.kind / 16 == b.kind / 16)
 
--- a module is known where an entry of its name and type has its revision or a greater one
+-- a module is known if an entry of its name and type has the same revision or a greater one
 abbrev pub is_known : List (Option ModuleEntry) → ModuleInfo → Bool
 is_known entries info =
     some_entry (λ entry. are_namesakes info entry.info && nat_le (revision_of info) (revision_of entry.info)) entries
 
--- a module is shadowed where an entry of its name and type has a greater revision
+-- a module is shadowed if an entry of its name and type has a greater revision
 abbrev pub is_shadowed : List (Option ModuleEntry) → ModuleInfo → Bool
 is_shadowed entries info =
     some_entry (λ entry. are_namesakes info entry.info && nat_lt (revision_of info) (revision_of entry.info)) entries
 
--- a half of a byte is the one that is wanted, where 0 wants any
+-- a half of a byte matches the wanted one; 0 matches any
 abbrev pub half_matches : ℕ → ℕ → Bool
 half_matches wanted half = (wanted == 0) || (wanted == half)
 
--- a type and language are those that are wanted
+-- a type and language match the wanted ones
 abbrev pub kind_matches : ℕ → ℕ → Bool
 kind_matches wanted kind = half_matches (wanted / 16) (kind / 16) && half_matches (wanted % 16) (kind % 16)
 
@@ -64,11 +64,11 @@ abbrev pub answers_to : List (Option ModuleEntry) → List ℕ → ℕ → Modul
 answers_to entries name kind entry =
     names_agree name entry.info.name && kind_matches kind entry.info.kind && not (is_shadowed entries entry.info)
 
--- what is found by a name and a type and language: the least number of such an entry
+-- the module for a name and a type and language: the least number of such an entry
 abbrev pub found_module : List (Option ModuleEntry) → List ℕ → ℕ → Option ℕ
 found_module entries name kind = position (passes (answers_to entries name kind)) entries
 
--- how many more entries there may be
+-- the number of entries that can still be added
 abbrev pub module_room : List (Option ModuleEntry) → ℕ
 module_room entries = count_by is_none entries
 
@@ -90,7 +90,7 @@ new_entry info group is_boot = record {
 abbrev pub with_module_entry : List (Option ModuleEntry) → ℕ → ModuleEntry → List (Option ModuleEntry)
 with_module_entry entries number entry = slice_set entries number (Some entry)
 
--- an entry with one link more, and with one link less, or none
+-- an entry with one more link, and with one less, or none
 abbrev pub entry_linked : ModuleEntry → ModuleEntry
 entry_linked entry = record entry { links = entry.links + 1 }
 
@@ -117,8 +117,8 @@ modules_without_group entries group = map (place_without_group group) entries
 abbrev pub with_unlinked : List (Option ModuleEntry) → ℕ → ModuleEntry → List (Option ModuleEntry)
 with_unlinked entries number entry = with_module_entry entries number (entry_unlinked entry)
 
--- the group of the entry of this number leaves memory with this link: it is not the boot file's, and none of its
--- entries has a link then
+-- the group of the entry of this number leaves memory with this link: it is not the boot file's, and then none of its
+-- entries has a link
 abbrev pub is_leaving : List (Option ModuleEntry) → ℕ → ModuleEntry → Bool
 is_leaving entries number entry = not entry.is_boot && not (is_in_use (with_unlinked entries number entry) entry.group)
 

@@ -2,7 +2,7 @@
 use Rattle.std.specs.Prelude.{◌≡◌, ℕ, ◌+◌, ◌*◌, ◌/◌, ◌%◌, ◌<◌, Option, Some, None, option_and_then, List, [], ◌∷◌, ◌++◌, length, map, take, drop, replicate, slice_get, slice_set}
 use Rattle.std.specs.List.{range_with_len}
 
--- what a slot of a map names: the place of an object in the list of all that appeared so far, or nothing
+-- what a slot of a map names: the place of an object in the list of all objects so far, or nothing
 abbrev pub slot_of : List (Option ℕ) → ℕ → Option ℕ
 slot_of places slot = option_and_then (λ place. place) (slice_get places slot)
 
@@ -28,24 +28,24 @@ with_object_byte objects at byte (Some number) = with_byte_in (slice_get objects
 abbrev pub with_cell : List (List ℕ) → List (Option ℕ) → ℕ → ℕ → List (List ℕ)
 with_cell objects places address byte = with_object_byte objects (address % 8192) byte (slot_of places (address / 8192))
 
--- the objects after these writes, an address and a byte each, in order
+-- the objects after these writes: pairs of an address and a byte, in order
 abbrev pub with_writes : List (List ℕ) → List (Option ℕ) → List (ℕ × ℕ) → List (List ℕ)
 with_writes objects places [] = objects
 with_writes objects places (write ∷ writes) = with_writes (with_cell objects places write.0 write.1) places writes
 
--- a map names objects that are there, and no object in two of its slots
+-- a map names existing objects, and no object in two of its slots
 pub record NamesObjects (objects : List (List ℕ)) (places : List (Option ℕ)) : Type 0 where
   pub there : (slot number : ℕ) → slot_of places slot ≡ Some number → number < length objects
   pub apart : (slot other number : ℕ) → slot_of places slot ≡ Some number → slot_of places other ≡ Some number
       → slot ≡ other
 
--- ---- objects that are new
+-- ---- new objects
 
 -- a new object
 abbrev pub zero_object : List ℕ
 zero_object = replicate 8192 0
 
--- how many blocks of 8,192 bytes so many bytes are
+-- the number of blocks of 8,192 bytes for this number of bytes
 abbrev pub block_count : ℕ → ℕ
 block_count bytes = (bytes + 8191) / 8192
 

@@ -1,10 +1,10 @@
--- The map of a process: the eight slots of 8,192 bytes that it sees (Level Two manual, "Memory
--- management"). What stands in a slot is a block of the pool or, in the machine, an object.
+-- The map of a process: the eight slots of 8,192 bytes that it sees (Level Two manual, "Memory management"). A slot
+-- holds a block of the pool or, in the machine, an object.
 use Rattle.std.specs.Prelude.{◌≡◌, ℕ, zero, suc, ◌+◌, ◌-◌, ◌<◌, ◌≤◌, ◌==◌, ◌&&◌, nat_le, Bool, false, Option, Some, None, is_none, option_and_then, List, ◌++◌, length, take, drop, replicate, map, position, slice_get, slice_index, slice_index_or, slice_range, slice_set, if◌then◌else◌}
 use Rattle.std.specs.List.{filter_map, list_all}
 
--- the eight places, the length of the low area, which begins at slot 0, and for each slot the length
--- of the group that begins there, if one does
+-- the eight places, the length of the low area, which begins at slot 0, and for each slot the length of the group that
+-- begins there, if one does
 pub record Slots (Block : Type 0) : Type 0 where
   pub places : List (Option Block)
   pub low : ℕ
@@ -14,7 +14,7 @@ pub record Slots (Block : Type 0) : Type 0 where
 abbrev pub no_slots : {Block : Type 0} → Slots Block
 no_slots = record { places = replicate 8 None; low = 0; groups = replicate 8 None }
 
--- what stands in a slot
+-- the content of a slot
 abbrev pub block_at : {Block : Type 0} → Slots Block → ℕ → Option Block
 block_at slots slot = slice_index_or slots.places slot None
 
@@ -26,7 +26,7 @@ group_of slots slot = slice_index_or slots.groups slot None
 abbrev pub NamesBlock : {Block : Type 0} → Slots Block → Block → Type 0
 NamesBlock slots block = (slot : ℕ) × (block_at slots slot ≡ Some block)
 
--- what every map is: eight slots, none of which names what another one names
+-- what holds of every map: it has eight slots, and no two of them name the same block
 pub record IsMap {Block : Type 0} (slots : Slots Block) : Type 0 where
   pub eight_places : length slots.places ≡ 8
   pub eight_groups : length slots.groups ≡ 8
@@ -59,7 +59,7 @@ highest_run_upto slots len (suc first) = if is_free_run slots (suc first) len th
 abbrev pub highest_free_run : {Block : Type 0} → Slots Block → ℕ → Option ℕ
 highest_free_run slots len = highest_run_upto slots len 8
 
--- a group begins at a slot: its length is kept there, and its blocks stand in the slots from there on
+-- a group begins at a slot: its length is kept there, and its blocks are in the slots from there on
 pub record BeginsAt (slots : Slots ℕ) (group : List ℕ) (first : ℕ) : Type 0 where
   pub length_is : group_of slots first ≡ Some (length group)
   pub stands : (k : ℕ) → k < length group → block_at slots (first + k) ≡ Some (slice_index group k)
@@ -69,7 +69,7 @@ abbrev pub place_names : ℕ → Option ℕ → Bool
 place_names block None = false
 place_names block (Some other) = other == block
 
--- the slot at which a group begins in a map, if it does: that of its first block
+-- the slot at which a group begins in a map, if it does: the slot of its first block
 abbrev pub group_slot : Slots ℕ → List ℕ → Option ℕ
 group_slot slots group = option_and_then (λ first. position (place_names first) slots.places) (slice_get group 0)
 
@@ -89,7 +89,7 @@ blocks_between slots first end = blocks_in (slice_range slots.places first end)
 abbrev pub filled_places : {Block : Type 0} → List Block → List (Option Block)
 filled_places blocks = map (λ block. Some block) blocks
 
--- the map with these blocks in the slots that follow the low area, which has them too then
+-- the map with these blocks in the slots that follow the low area, which then includes them
 abbrev pub with_low : {Block : Type 0} → Slots Block → List Block → Slots Block
 with_low slots blocks =
     record slots {
@@ -98,7 +98,7 @@ with_low slots blocks =
       low = slots.low + length blocks;
     }
 
--- the map of whose low area the first so many slots are kept
+-- the map with only this many of the first slots of its low area
 abbrev pub cut_low_to : {Block : Type 0} → Slots Block → ℕ → Slots Block
 cut_low_to slots len =
     record slots { places = put_places slots.places len (replicate (slots.low - len) None); low = len }

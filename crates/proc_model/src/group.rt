@@ -6,7 +6,7 @@ pub struct BlockId(pub u16);
 
 /// The consecutive blocks that hold one file of modules: the first `len` of `blocks`, in order.
 ///
-/// The places from `len` on mean nothing.
+/// The places from `len` on have no meaning.
 #[derive(Clone, Copy, Debug)]
 pub struct Group {
     pub blocks: [BlockId; 7],

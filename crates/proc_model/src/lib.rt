@@ -1,5 +1,5 @@
-//! What modules, the module list and processes are: the definitions that the crates above cite,
-//! and the types that these definitions speak of.
+//! What modules, the module list and processes are: the definitions that the crates above cite, and
+//! the types in these definitions.
 #![tactic(auto)]
 
 pub mod group;

@@ -3,7 +3,7 @@ use thiserror::Error;
 /// The most links of a module.
 pub const MOST_LINKS: u16 = 65_535;
 
-/// Why memory does not change as a call wants it to (Level Two manual, "Memory management").
+/// Why a change of memory is refused (Level Two manual, "Memory management").
 #[derive(Clone, Copy, Debug, PartialEq, Eq, Error)]
 pub enum MemoryFault {
     /// The map has too few free slots, or the module has all the links that it can have: error 207.

@@ -1,7 +1,7 @@
 use os9_base::name::Name;
 use thiserror::Error;
 
-/// The rules that a module can break, in the order in which they are tested.
+/// The rules that a module can break, in the order of their tests.
 #[derive(Clone, Copy, Debug, PartialEq, Eq, Error)]
 pub enum ModuleFault {
     /// The header rule, error 205: sync bytes, size, name and execution offset.
@@ -33,17 +33,17 @@ pub struct ModuleInfo {
     pub attr: u8,
     /// Where the program begins, from the module's first byte on; 0 for a type other than 1.
     pub entry: u16,
-    /// How many bytes of data memory the program needs; 0 for a type other than 1.
+    /// The number of bytes of data memory that the program needs; 0 for a type other than 1.
     pub storage: u16,
 }
 
-/// What stands next in a file of modules.
+/// The next item in a file of modules.
 #[derive(Clone, Copy, Debug)]
 pub enum ModuleStep {
     /// A module.
     Module(ModuleInfo),
     /// Only zero bytes are left.
     End,
-    /// Bytes that are refused: where they begin, and the first rule that they break.
+    /// Refused bytes: where they begin, and the first rule that they break.
     Fault(u32, ModuleFault),
 }

@@ -1,4 +1,4 @@
--- The end of a process, and what its parent is given of it (System Programmer's Manual, F$Exit and F$Wait).
+-- The end of a process, and what its parent receives (System Programmer's Manual, F$Exit and F$Wait).
 use Rattle.std.specs.Prelude.{ℕ, ◌==◌, ◌&&◌, not, Bool, Option, Some, None, Result, Ok, Err, List, map, position, replicate, slice_set, if◌then◌else◌}
 use Rattle.std.specs.List.{list_any}
 use Rattle.std.specs.Option.{option_map_or}
@@ -15,7 +15,7 @@ use Rattle.proc_rules.specs.Records.{record_passes, has_ended, record_at, withou
 abbrev pub is_child : ℕ → Record → Bool
 is_child parent r = r.parent.0 == parent
 
--- a record is of a child of this process that has ended
+-- a record is of an ended child of this process
 abbrev pub is_ended_child : ℕ → Record → Bool
 is_ended_child parent r = is_child parent r && has_ended r.life
 
@@ -33,17 +33,17 @@ end_status Running = 0
 end_status Waiting = 0
 end_status (Ended status) = status
 
--- the number and the status of a child that has ended
+-- the number and the status of an ended child
 abbrev pub child_and_status : List (Option Record) → ℕ → Pid × ℕ
 child_and_status records child = (record { 0 = child }, end_status (record_at records child).life)
 
--- what a parent is given that waits: the ended child of least number, and its status
+-- what a waiting parent receives: the ended child of least number, and its status
 abbrev pub reaped : List (Option Record) → ℕ → Result (Pid × ℕ) Reap
 reaped records parent =
     option_map_or (λ child. Ok (child_and_status records child)) (ended_child records parent)
     (if has_child records parent then Err NotYet else Err NoChild)
 
--- the records after it: without the child that was given
+-- the records afterwards: without the child that was returned
 abbrev pub after_reap : List (Option Record) → ℕ → List (Option Record)
 after_reap records parent = option_map_or (without_record records) (ended_child records parent) records
 
@@ -51,7 +51,7 @@ after_reap records parent = option_map_or (without_record records) (ended_child 
 abbrev pub ended_record : Record → ℕ → Option Record
 ended_record r status = if r.parent.0 == 0 then None else Some (record r { life = Ended status })
 
--- what it leaves of any other: an ended child's record goes, and a living child has no parent any more
+-- what it leaves of any other record: an ended child's is removed, and a living child has no parent any more
 abbrev pub orphaned : ℕ → Option Record → Option Record
 orphaned parent None = None
 orphaned parent (Some r) =

@@ -61,7 +61,7 @@ is_living records p = record_passes (λ r. not (has_ended r.life)) (record_of re
 abbrev pub IsLiving : List (Option Record) → ℕ → Type 0
 IsLiving records p = is_living records p ≡ true
 
--- what the list of records always is: it has 33 places, and there are no processes 0 and 1
+-- what always holds of the list of records: it has 33 places, and there are no processes 0 and 1
 pub record AreRecords (records : List (Option Record)) : Type 0 where
   pub places : length records ≡ PROCESS_PLACES
   pub from_two : (p : ℕ) → p < 2 → record_of records p ≡ None
@@ -70,7 +70,7 @@ pub record AreRecords (records : List (Option Record)) : Type 0 where
 abbrev pub with_record : List (Option Record) → ℕ → Record → List (Option Record)
 with_record records p r = slice_set records p (Some r)
 
--- the records without that of a process
+-- the records without the one of a process
 abbrev pub without_record : List (Option Record) → ℕ → List (Option Record)
 without_record records p = slice_set records p None
 
@@ -98,6 +98,6 @@ abbrev pub waiting_or_running : Bool → Life
 waiting_or_running true = Waiting
 waiting_or_running false = Running
 
--- the records where a process waits, or runs
+-- the records in which a process waits, or runs
 abbrev pub with_waiting : List (Option Record) → ℕ → Bool → List (Option Record)
 with_waiting records p waits = with_record records p (record (record_at records p) { life = waiting_or_running waits })

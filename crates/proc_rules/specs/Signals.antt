@@ -1,4 +1,4 @@
--- Signals as the records of processes have them (System Programmer's Manual, F$Send and F$Icpt).
+-- Signals in the records of processes (System Programmer's Manual, F$Send and F$Icpt).
 use Rattle.std.specs.Prelude.{ℕ, ◌==◌, ◌&&◌, ◌||◌, not, Bool, is_some, Option, Some, None, List, if◌then◌else◌}
 use Rattle.proc_rules.specs.declared.record.Intercept.{Intercept}
 use Rattle.proc_rules.specs.declared.record.Record.{Record}
@@ -24,7 +24,7 @@ send_fault records user to signal =
 abbrev pub with_signal : List (Option Record) → ℕ → Option ℕ → List (Option Record)
 with_signal records p signal = with_record records p (record (record_at records p) { signal = signal })
 
--- the records after a signal was sent that is not refused
+-- the records after a signal that is not refused
 abbrev pub with_sent : List (Option Record) → ℕ → ℕ → List (Option Record)
 with_sent records to signal = if signal == wake_signal then records else with_signal records to (Some signal)
 

@@ -13,29 +13,29 @@ without_turn order p = filter (λ t. not (t.process.0 == p)) order
 abbrev pub with_turn : List Turn → Pid → ℕ → List Turn
 with_turn order p priority = order ++ record { process = p; age = priority } ∷ []
 
--- the turns of those that are Ready
+-- the turns of the Ready processes
 abbrev pub ready_turns : (ℕ → Bool) → List Turn → List Turn
 ready_turns is_ready order = filter (λ t. is_ready t.process.0) order
 
--- the greatest age in some turns
+-- the greatest age in these turns
 abbrev pub greatest_age : List Turn → ℕ
 greatest_age turns = fold (λ most t. max most t.age) 0 turns
 
--- the first of greatest age in some turns
+-- the first process of greatest age in these turns
 abbrev pub eldest : List Turn → Option Pid
 eldest turns = option_map (λ t. t.process) (find (λ t. t.age == greatest_age turns) turns)
 
--- the turn of one that is not chosen: its age grows by 1 up to 255 if it is Ready, and else is its priority
+-- the turn of a process that is not chosen: its age grows by 1 up to 255 if it is Ready, and otherwise is its priority
 abbrev pub aged : (ℕ → Bool) → (ℕ → ℕ) → Turn → Turn
 aged is_ready priority t = record t { age = if is_ready t.process.0 then min 255 (t.age + 1) else priority t.process.0 }
 
--- the order after this one was chosen, or nobody
+-- the order after this process was chosen, or nobody
 abbrev pub after_choice : (ℕ → Bool) → (ℕ → ℕ) → List Turn → Option Pid → List Turn
 after_choice is_ready priority order None = map (aged is_ready priority) order
 after_choice is_ready priority order (Some p) =
     with_turn (map (aged is_ready priority) (without_turn order p.0)) p (priority p.0)
 
--- a choice: who is chosen, if anybody is, and the order then
+-- a choice: the chosen process, if there is one, and the order afterwards
 pub record Choice : Type 0 where
   pub chosen : Option Pid
   pub order : List Turn
@@ -76,13 +76,13 @@ pub record IsToChoose (is_ready : ℕ → Bool) (order : List Turn) (p : Pid) : 
 abbrev pub NobodyReady : (ℕ → Bool) → List Turn → Type 0
 NobodyReady is_ready order = AllByRecursion (λ q. is_ready q.process.0 ≡ false) order
 
--- so many choices one after another, each with the same readiness and priorities: who is chosen in each
+-- the chosen processes of this number of choices in a row, each with the same readiness and priorities
 abbrev pub choices : (ℕ → Bool) → (ℕ → ℕ) → ℕ → List Turn → List (Option Pid)
 choices is_ready priority zero order = []
 choices is_ready priority (suc n) order =
     (choose is_ready priority order).chosen ∷ choices is_ready priority n (choose is_ready priority order).order
 
--- the order after so many choices
+-- the order after this number of choices
 abbrev pub after_choices : (ℕ → Bool) → (ℕ → ℕ) → ℕ → List Turn → List Turn
 after_choices is_ready priority zero order = order
 after_choices is_ready priority (suc n) order = after_choices is_ready priority n (choose is_ready priority order).order

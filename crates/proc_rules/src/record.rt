@@ -11,13 +11,13 @@ use thiserror::Error;
 pub enum Life {
     /// It runs instructions.
     Running,
-    /// It waits in a call, of which an attempt was made.
+    /// It waits in a call that has been attempted.
     Waiting,
-    /// It has ended with this status, which no parent has been given yet.
+    /// It has ended with this status, which no parent has received yet.
     Ended(u8),
 }
 
-/// What F$Icpt gives a process for its signals (System Programmer's Manual, F$Icpt).
+/// What F$Icpt sets for the signals of a process (System Programmer's Manual, F$Icpt).
 #[derive(Clone, Copy, Debug, PartialEq, Eq)]
 pub struct Intercept {
     /// The address of the routine that receives a signal; never 0.
@@ -31,9 +31,9 @@ pub struct Intercept {
 pub struct Record {
     /// The process that may wait for this one; 0 if there is none.
     pub parent: Pid,
-    /// The number of the user whose process it is; 0 is the superuser.
+    /// The number of the user who owns the process; 0 is the superuser.
     pub user: u16,
-    /// The age that the process has after each time that it is chosen.
+    /// The age of the process after each time that it is chosen.
     pub priority: u8,
     /// The registers, as the next instruction finds them.
     pub regs: Regs,
@@ -43,7 +43,7 @@ pub struct Record {
     pub signal: Option<u8>,
 }
 
-/// Why no ended child is given to its parent (System Programmer's Manual, F$Wait).
+/// Why a parent receives no ended child (System Programmer's Manual, F$Wait).
 #[derive(Clone, Copy, Debug, PartialEq, Eq, Error)]
 pub enum Reap {
     /// No process has this parent: error 226.
@@ -65,8 +65,8 @@ pub enum SendFault {
     Pending,
 }
 
-/// A parent is given its ended children by their numbers, each once, and the numbers are used
-/// again. Processes 3 and 4 are the children of process 2.
+/// A parent receives its ended children in the order of their numbers, each once, and the numbers
+/// are used again. Processes 3 and 4 are the children of process 2.
 pub fn an_ended_child_is_given_once()
     ensures not_yet { reaped family 2 ≡ Err Reap.NotYet }
     ensures least_first { reaped family_ended 2 ≡ Ok (record { 0 = 3 }, 9) }
@@ -84,7 +84,7 @@ pub fn a_parent_ends_before_its_children()
         ≡ Some (record { 0 = 0 }) }
 {}
 
-/// A second signal is refused while one is pending, also signal 0, and signal 1 is never pending.
+/// A second signal is refused while one is pending, even signal 0, and signal 1 is never pending.
 /// The processes are user 7's.
 pub fn one_signal_is_pending()
     ensures sent { (record_at (after_send family 0 3 7) 3).signal ≡ Some 7 }

@@ -10,11 +10,11 @@ pub struct Turn {
     pub age: u8,
 }
 
-/// A priority beside which a process of priority 1 comes seldom.
+/// A priority of one process with which another of priority 1 is seldom chosen.
 pub const HIGH_PRIORITY: u8 = 200;
 
-/// Who is chosen is Ready, no Ready process is older, and each one that was chosen longer ago is
-/// younger. Nobody is chosen only if nobody is Ready.
+/// The chosen process is Ready, no Ready process is older, and each one that was chosen longer ago
+/// is younger. Nobody is chosen only if nobody is Ready.
 pub fn the_eldest_is_chosen()
     ensures chosen { (is_ready : ℕ → Bool) (priority : ℕ → ℕ) (order : List Turn) →
         IfSome (choose is_ready priority order).chosen (IsToChoose is_ready order) }
@@ -22,8 +22,8 @@ pub fn the_eldest_is_chosen()
         IfNone (choose is_ready priority order).chosen (NobodyReady is_ready order) }
 {}
 
-/// Of processes 2 and 3 that are Ready all the time, process 3 is chosen as soon as its age has
-/// grown to the priority of process 2, since it was chosen longer ago; then it begins anew.
+/// Processes 2 and 3 are Ready all the time. Process 3 is chosen as soon as its age has grown to
+/// the priority of process 2, since it was chosen longer ago; then it begins anew.
 pub fn low_priority_comes_in_its_turn()
     ensures every_fourth { choices (λ p. true) (two_priorities 5 2) 8 (two_turns 5 2)
         ≡ (replicate 3 (Some (record { 0 = 2 })) ++ (Some (record { 0 = 3 }) ∷ []))

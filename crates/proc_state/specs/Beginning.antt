@@ -5,7 +5,7 @@ use Rattle.proc_rules.specs.Records.{after_make}
 use Rattle.proc_rules.specs.Turns.{with_turn}
 use Rattle.call_rules.specs.Inner.{Inner}
 
--- the state with a new process, whose number is the least that is free
+-- the state with a new process, whose number is the least free one
 abbrev pub with_made : Inner → Pid → Pid → ℕ → ℕ → Inner
 with_made s p parent user priority =
     record s { records = after_make s.records parent user priority; order = with_turn s.order p priority }

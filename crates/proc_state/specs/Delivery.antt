@@ -1,4 +1,4 @@
--- What the delivery of a signal comes to, and where its frame lies.
+-- The result of the delivery of a signal, and the place of its frame.
 use Rattle.std.specs.Prelude.{ℕ, ◌-◌, Option, Some, None, Result, Ok, Err, if◌then◌else◌}
 use Rattle.os9_base.specs.declared.call.CallEnd.{CallEnd}
 use Rattle.os9_base.specs.declared.call.CallEnd.TheVariants.{Done, Ended}
@@ -10,6 +10,6 @@ abbrev pub delivery_end : Result Inner ℕ → CallEnd
 delivery_end (Ok t) = Done
 delivery_end (Err status) = Ended
 
--- the lowest address of the frame of a process with this stack pointer, if it has room
+-- the lowest address of the frame of a process with this stack pointer, if there is room
 abbrev pub frame_place : Inner → ℕ → ℕ → Option ℕ
 frame_place m p s = if has_no_room m p (stack_top s) then None else Some (stack_top s - 12)

@@ -1,4 +1,4 @@
--- The processes of a machine before the first one begins, and how many live.
+-- The processes of a machine before the first one begins, and the number of living ones.
 use Rattle.std.specs.Prelude.{ℕ, Option, None, List, [], replicate, count_by, not}
 use Rattle.os9_base.specs.declared.limits.TheConstants.{PROCESS_PLACES}
 use Rattle.proc_model.specs.Memory.{first_memory}
@@ -6,7 +6,7 @@ use Rattle.proc_rules.specs.declared.record.Record.{Record}
 use Rattle.proc_rules.specs.Records.{record_passes, has_ended}
 use Rattle.call_rules.specs.Inner.{Inner, no_own}
 
--- the state of a machine with so many blocks, in which there is no process and no slice was begun
+-- the state of a machine with this number of blocks, without processes, before the first slice
 abbrev pub first_inner : ℕ → Inner
 first_inner blocks = record {
   memory = first_memory blocks;
@@ -16,6 +16,6 @@ first_inner blocks = record {
   tick = 0;
 }
 
--- how many processes live
+-- the number of living processes
 abbrev pub living_count : List (Option Record) → ℕ
 living_count records = count_by (record_passes (λ r. not (has_ended r.life))) records

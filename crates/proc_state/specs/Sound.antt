@@ -1,4 +1,4 @@
--- What holds of the processes at all times.
+-- What always holds of the processes.
 use Rattle.std.specs.Prelude.{◌≡◌, ℕ, ◌+◌, ◌≤◌, Option, Some, IsSome, is_some, List, All, slice_get}
 use Rattle.std.specs.Option.{ForSome}
 use Rattle.proc_model.specs.declared.module.ModId.{ModId}
@@ -22,6 +22,6 @@ ArePrimaries owns entries =
     (p : ℕ) (own : Own) (id : ModId) → slice_get owns p ≡ Some own → own.primary ≡ Some id
     → IsSome (module_entry_at entries id.0)
 
--- no sleep ends more than 65,535 ticks later than this one
+-- no sleep ends more than 65,535 ticks after this one
 abbrev pub AreSleeps : List Own → ℕ → Type 0
 AreSleeps owns tick = All (λ own. ForSome own.until (λ until. until ≤ tick + 65535)) owns

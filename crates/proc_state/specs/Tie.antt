@@ -1,4 +1,4 @@
--- How the kernel's processes are tied to those of the machine.
+-- How the kernel's processes represent those of the machine.
 use Rattle.std.specs.Prelude.{◌≡◌, ℕ, Bool, true, false, Option, Some, None, Result, Ok, Err, List, take}
 use Rattle.guest_memory.specs.Tie.{Represents as RepresentsMemory, IsSame as IsSameMemory}
 use Rattle.os9_base.specs.declared.call.CallEnd.{CallEnd}
@@ -9,7 +9,7 @@ use Rattle.call_rules.specs.End.{ended}
 use Rattle.call_rules.specs.Inner.{Inner}
 use Rattle.proc_state.specs.declared.state.ProcState.{ProcState}
 
--- the state of the machine's processes that these processes are, with this memory
+-- the state of the machine's processes that these processes represent, with this memory
 abbrev pub inner_of : ProcState → MemoryState → Inner
 inner_of state memory = record {
   memory = memory;
@@ -19,20 +19,20 @@ inner_of state memory = record {
   tick = state.tick;
 }
 
--- the processes are those of the machine: their memory represents its memory, and all else is equal
+-- the processes represent those of the machine: their memory represents its memory, and all else is equal
 pub record Represents (state : ProcState) (m : Inner) : Type 0 where
   pub memory : RepresentsMemory state.memory m.memory
   pub is : m ≡ inner_of state m.memory
 
--- a call of a process came to this: it is done, refused or waits, and its process is not told yet; or the process has
--- ended
+-- the result of a call of a process: it is done, refused or waits, and its process does not have the result yet; or the
+-- process has ended
 abbrev pub Comes : Inner → ℕ → CallResult → CallEnd → ProcState → Type 0
 Comes m p (done t) end new = (end ≡ Done) × Represents new t
 Comes m p (refused number) end new = (end ≡ Error number) × Represents new m
 Comes m p (waits t) end new = (end ≡ Wait) × Represents new t
 Comes m p (ends status) end new = (end ≡ Ended) × Represents new (ended m p status)
 
--- the processes are the same but for the room of the buffer
+-- the processes are the same except for the buffer
 pub record IsSame (before after : ProcState) : Type 0 where
   pub memory : IsSameMemory before.memory after.memory
   pub table : after.table ≡ before.table
@@ -41,19 +41,19 @@ pub record IsSame (before after : ProcState) : Type 0 where
   pub tick : after.tick ≡ before.tick
   pub represents : (m : Inner) → Represents before m → Represents after m
 
--- so many bytes at the front of a buffer, if they were read
+-- the first bytes of a buffer, this many, if they were read
 abbrev pub bytes_read : Bool → ℕ → List ℕ → Option (List ℕ)
 bytes_read true count buffer = Some (take count buffer)
 bytes_read false count buffer = None
 
--- a call that is done or refused came to this
+-- the result of a call that is done or refused
 abbrev pub Answers : Inner → CallResult → Result (Unit {0}) ℕ → ProcState → Type 0
 Answers m (done t) result new = (result ≡ Ok tt) × Represents new t
 Answers m (refused number) result new = (result ≡ Err number) × Represents new m
 Answers m (waits t) result new = ⊥
 Answers m (ends status) result new = ⊥
 
--- how such a call ends
+-- the end of such a call
 abbrev pub end_of : Result (Unit {0}) ℕ → CallEnd
 end_of (Ok _) = Done
 end_of (Err number) = Error number

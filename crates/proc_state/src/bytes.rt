@@ -14,8 +14,8 @@ use guest_memory::memory::Memory;
 use os9_base::registers::Pid;
 
 impl ProcState {
-    /// Reads so many bytes of a process from an address on into the front of the buffer, and
-    /// answers whether each of them is in a named slot and none past `FFFF`.
+    /// Reads `count` bytes of a process from an address on into the front of the buffer. Returns
+    /// whether each of them is in a named slot and none past `FFFF`.
     pub fn read_bytes(&mut self, p: Pid, at: u16, count: u16) -> bool
         requires { p.0 < 33 }
         ensures read { (m : Inner) → Represents self.old m
@@ -26,7 +26,7 @@ impl ProcState {
         read_front(&mut self.memory, p, at, count, &mut self.buffer)
     }
 
-    /// Is each of so many bytes of a process from an address on in a named slot, and none past
+    /// Is each of `count` bytes of a process from an address on in a named slot, and none past
     /// `FFFF`?
     pub fn is_named(&self, p: Pid, at: u16, count: u16) -> bool
         requires { p.0 < 33 }
@@ -38,7 +38,7 @@ impl ProcState {
     }
 
     /// Reads the bytes of a process from an address on, up to and with the first carriage return,
-    /// but at most `most`, into the front of the buffer, and answers how many they are; None where
+    /// but at most `most`, into the front of the buffer. Returns the number of bytes, or None if
     /// one of them is in no named slot or past `FFFF`.
     pub fn read_line(&mut self, p: Pid, at: u16, most: u16) -> Option<usize>
         requires { p.0 < 33 }
@@ -52,7 +52,7 @@ impl ProcState {
     }
 }
 
-/// Reads so many bytes of a process from an address on into the front of a buffer, if each of them
+/// Reads `count` bytes of a process from an address on into the front of a buffer, if each of them
 /// is in a named slot and none past `FFFF`.
 fn read_front(memory: &mut Memory, p: Pid, at: u16, count: u16, into: &mut [u8]) -> bool
     requires process { p.0 < 33 }

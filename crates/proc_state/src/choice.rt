@@ -40,7 +40,7 @@ impl ProcState {
         }
     }
 
-    /// Makes a process active if it is Ready, and lets it rest if it is not.
+    /// Makes a process active if it is Ready, and puts it to rest otherwise.
     fn settle_one(&mut self, p: Pid, io: &IoReady)
         requires { p.0 < 33 }
         ensures active { is_active_in self.new.sched.members p.0

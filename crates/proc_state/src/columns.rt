@@ -1,4 +1,4 @@
-//! What there is of one process.
+//! The data of one process.
 
 ghost use Rattle.std.specs.Prelude.{◌≡◌, ℕ, ◌+◌, ◌<◌, ◌≤◌, IsSome, slice_index_or};
 ghost use Rattle.std.specs.Option.{ForSome};
@@ -34,8 +34,8 @@ impl ProcState {
         self.table.set_regs(p, regs);
     }
 
-    /// What a process has beside its record and its memory. Its primary module, if it has one, is
-    /// entered.
+    /// The data of a process other than its record and its memory. Its primary module, if it has
+    /// one, is entered.
     pub fn own(&self, p: Pid) -> Own
         requires { p.0 < 33 }
         ensures own { result ≡ slice_index_or self.now.own.items p.0 no_own }
@@ -47,8 +47,8 @@ impl ProcState {
         self.own[p.0 as usize]
     }
 
-    /// Sets what a process has beside its record and its memory. Its primary module, if it has one,
-    /// is entered, and its sleep, if it sleeps, ends at most 65,535 ticks later.
+    /// Sets the data of a process other than its record and its memory. Its primary module, if it
+    /// has one, is entered, and its sleep, if it sleeps, ends at most 65,535 ticks later.
     pub fn set_own(&mut self, p: Pid, own: Own)
         requires process { p.0 < 33 }
         requires entered { ForSome own.primary

@@ -19,10 +19,10 @@ use os9_base::registers::{Pid, Regs};
 use proc_rules::record::Intercept;
 
 impl ProcState {
-    /// Delivers the pending signal of a process. The answer is `Done` where the routine of its
-    /// intercept begins, with the registers pushed on its stack, and `Ended` where the process has
-    /// ended: with the signal, if it has no intercept or the signal is 0, else with `E$PrcAbt`, if
-    /// its stack has no room for them.
+    /// Delivers the pending signal of a process. Returns `Done` if the routine of its intercept
+    /// begins, with the registers pushed on its stack. Returns `Ended` if the process has ended:
+    /// with the signal, if it has no intercept or the signal is 0, else with `E$PrcAbt`, if its
+    /// stack has no room for them.
     pub fn deliver(&mut self, p: Pid) -> CallEnd
         requires lives { IsLiving self.old.table p.0 }
         requires pending { IsSome (record_at self.old.table p.0).signal }
@@ -80,8 +80,8 @@ impl ProcState {
         }
     }
 
-    /// The lowest address of the frame of a process with this stack pointer; None if it would go
-    /// round, or its bytes are not all in named slots.
+    /// The lowest address of the frame of a process with this stack pointer; None if the frame
+    /// would wrap around, or its bytes are not all in named slots.
     fn frame_place(&mut self, p: Pid, stack: u16) -> Option<u16>
         requires { p.0 < 33 }
         ensures place { (m : Inner) → Represents self.old m
@@ -101,8 +101,8 @@ impl ProcState {
         }
     }
 
-    /// Pushes the registers of a process as a frame that begins here, and begins the routine of its
-    /// intercept. A call that waits is over.
+    /// Pushes the registers of a process as a frame at this address, and begins the routine of its
+    /// intercept. A pending call is over.
     fn push_frame(&mut self, p: Pid, intercept: Intercept, signal: u8, frame: u16)
         requires lives { IsLiving self.old.table p.0 }
         requires fits { FitsIn (cells_of self.old.memory p.0) frame 12 }
@@ -117,7 +117,7 @@ impl ProcState {
         self.set_regs(p, routine_regs(regs, intercept, signal, frame));
     }
 
-    /// Stores bytes in the memory of a process, from an address on, where they fit.
+    /// Stores bytes in the memory of a process, from an address on; they fit there.
     pub fn store(&mut self, p: Pid, at: u16, bytes: &[u8])
         requires process { p.0 < 33 }
         requires fits { FitsIn (cells_of self.old.memory p.0) at (length bytes.now) }
@@ -128,7 +128,7 @@ impl ProcState {
         self.memory.store(p, at, bytes);
     }
 
-    /// The registers with which a process goes on before a frame is pushed: a call that waits ends
+    /// The registers with which a process goes on before a frame is pushed: a pending call ends
     /// with the signal.
     fn interrupted_regs(&self, p: Pid, signal: u8) -> Regs
         requires { IsLiving self.now.table p.0 }
@@ -144,7 +144,8 @@ impl ProcState {
         }
     }
 
-    /// The signal of a process is pending no more, and its call that waits, if one does, is over.
+    /// The signal of a process is not pending any more, and its pending call, if there is one, is
+    /// over.
     fn interrupt(&mut self, p: Pid, signal: u8)
         requires { IsLiving self.old.table p.0 }
         ensures tied { (m : Inner) → Represents self.old m
@@ -159,7 +160,7 @@ impl ProcState {
         }
     }
 
-    /// The signal of a process is pending no more.
+    /// The signal of a process is not pending any more.
     fn take_signal(&mut self, p: Pid)
         requires { IsLiving self.old.table p.0 }
         ensures tied { (m : Inner) → Represents self.old m

@@ -14,7 +14,7 @@ use crate::state::ProcState;
 use os9_base::registers::Pid;
 use proc_rules::own::Own;
 
-/// What a process has that is none.
+/// The data of a process that does not exist.
 pub(crate) const NO_OWN: Own = Own {
     size: 0,
     primary: None,
@@ -36,7 +36,7 @@ impl ProcState {
         self.leave(p, status);
     }
 
-    /// Gives up the link of a process that has this to its primary module, if it has one.
+    /// Gives up the link of a process with this data to its primary module, if it has one.
     pub fn unlink_primary(&mut self, own: Own)
         requires { ForSome own.primary
             (λ id. IsSome (module_entry_at (modules_of self.old.memory) id.0)) }
@@ -49,7 +49,7 @@ impl ProcState {
         }
     }
 
-    /// A process lives no more, and has nothing.
+    /// A process does not live any more, and has nothing.
     fn leave(&mut self, p: Pid, status: u8)
         requires { IsLiving self.old.table p.0 }
         ensures { (m : Inner) → Represents self.old m

@@ -7,20 +7,20 @@ ghost use Rattle.call_rules.specs.Delivery.{frame_bytes as frame_bytes_lem, rout
 use os9_base::registers::Regs;
 use proc_rules::record::Intercept;
 
-/// The bytes of a frame.
+/// The size of a frame in bytes.
 pub const FRAME_BYTES: u16 = 12;
 
 /// The condition code E, of a frame with all registers.
 const ENTIRE: u8 = 128;
 
-/// The end of what lies below a stack pointer: that of 0 is at the end of memory.
+/// The end of the bytes below a stack pointer: for 0 it is the end of memory.
 pub fn stack_top(stack: u16) -> u32
     ensures { result ≡ stack_top_lem stack }
 {
     if stack == 0 { 65_536 } else { u32::from(stack) }
 }
 
-/// The bytes of a frame, as they lie from its lowest address on: E is set in it.
+/// The bytes of a frame, from its lowest address on: E is set in it.
 pub fn frame_bytes(regs: Regs) -> [u8; 12]
     ensures { result ≡ frame_bytes_lem regs }
 {
@@ -59,7 +59,7 @@ fn low(word: u16) -> u8
     (word % 256) as u8
 }
 
-/// The registers after a call that is refused with this number.
+/// The registers after a refused call with this number.
 pub fn refused_regs(regs: Regs, number: u8) -> Regs
     ensures { result ≡ refused_regs_lem regs number }
 {

@@ -1,5 +1,5 @@
-//! The processes of the machine: their memory, their records, their turns, and what each has of its
-//! own.
+//! The processes of the machine: their memory, their records, their turns, and the other data of
+//! each.
 #![tactic(auto)]
 
 mod bytes;

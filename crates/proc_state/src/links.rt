@@ -1,4 +1,4 @@
-//! Links to modules, as all processes have them.
+//! Links to modules, counted over all processes.
 
 ghost use Rattle.std.specs.Prelude.{◌≡◌, IsSome, map};
 ghost use Rattle.guest_memory.specs.Tie.{modules_of};
@@ -13,7 +13,7 @@ use proc_model::module::ModId;
 use proc_rules::own::Own;
 
 impl ProcState {
-    /// Gives up one link of an entered module, if it has one (F$UnLink, F$UnLoad). Where its group
+    /// Gives up one link of an entered module, if it has one (F$UnLink, F$UnLoad). If its group
     /// leaves memory with it, no process has a primary module of the group any more.
     pub fn unlink_module(&mut self, id: ModId)
         requires { IsSome (module_entry_at (modules_of self.old.memory) id.0) }
@@ -26,7 +26,7 @@ impl ProcState {
     }
 }
 
-/// Takes from each process a primary module that is not entered.
+/// Removes from each process a primary module that is not entered.
 fn keep_entered(owns: &mut [Own], modules: &Dir)
     ensures { owns.new ≡ map (still_primary_lem modules.now) owns.old }
 {
@@ -35,7 +35,7 @@ fn keep_entered(owns: &mut [Own], modules: &Dir)
     }
 }
 
-/// What a process has without a primary module that is not entered.
+/// The data of a process without a primary module that is not entered.
 fn still_primary(own: Own, modules: &Dir) -> Own
     ensures { result ≡ still_primary_lem modules.now own }
 {

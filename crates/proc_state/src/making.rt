@@ -11,9 +11,8 @@ use os9_base::registers::Pid;
 
 impl ProcState {
     /// Makes a process with the least number from 2 to 32 that no record has (F$Fork). It runs, its
-    /// registers are all 0, it has no memory and nothing of its own yet, and it counts as chosen
-    /// now. A parent of 0 is none. The answer is None if there are 31 records, and nothing has
-    /// changed then.
+    /// registers are all 0, it has no memory and no other data yet, and it counts as chosen now. A
+    /// parent of 0 means none. Returns None if there are 31 records; nothing has changed then.
     pub fn make(&mut self, parent: Pid, user: u16, priority: u8) -> Option<Pid>
         ensures number { option_map (λ p. p.0) result ≡ free_process self.old.table }
         ensures made { (m : Inner) → Represents self.old m

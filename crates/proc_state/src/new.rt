@@ -1,4 +1,4 @@
-//! The processes of a machine before the first one begins, and how many live.
+//! The processes of a machine before the first one begins, and the number of living ones.
 
 ghost use Rattle.std.specs.Prelude.{◌≡◌, ◌≤◌, IfOk, length, replicate, vec_len};
 ghost use Rattle.proc_rules.specs.Records.{is_living};
@@ -18,12 +18,12 @@ use proc_rules::record::Life;
 use process_table::Table;
 use std::alloc::{AllocError, Global};
 
-/// The bytes of the longest range of a process's memory: all of it.
+/// The size of the longest range of a process's memory: all of it.
 const MOST_BYTES: usize = 65_536;
 
 impl ProcState {
-    /// The processes of a machine with 8 to 256 blocks, of which there are none yet. Only this call
-    /// takes memory.
+    /// The state of a machine with 8 to 256 blocks and without processes. Only this call takes
+    /// memory.
     pub fn new(alloc: Global, blocks: u16) -> Result<ProcState, OutOfMemory>
         requires least { 8 ≤ blocks }
         requires most { blocks ≤ 256 }
@@ -39,7 +39,7 @@ impl ProcState {
         })
     }
 
-    /// How many processes live.
+    /// The number of living processes.
     pub fn living(&self) -> u8
         ensures here { result ≡ living_count_lem self.now.table }
         ensures tied { (m : Inner) → Represents self.now m → result ≡ living_count_lem m.records }
@@ -48,7 +48,7 @@ impl ProcState {
     }
 }
 
-/// Places for processes that have nothing.
+/// Places for processes without data.
 fn empty_places(alloc: Global) -> Result<Vec<Own>, AllocError>
     ensures { IfOk result (λ places. places.items ≡ replicate PROCESS_PLACES no_own) }
 {
@@ -59,7 +59,7 @@ fn empty_places(alloc: Global) -> Result<Vec<Own>, AllocError>
     Ok(places)
 }
 
-/// How many processes of a table live.
+/// The number of living processes in a table.
 fn living_count(table: &Table) -> u8
     requires { length table.now ≡ PROCESS_PLACES }
     ensures { result ≡ living_count_lem table.now }

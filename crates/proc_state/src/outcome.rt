@@ -8,7 +8,7 @@ ghost use Rattle.proc_state.specs.Tie.{Answers, Comes, end_of};
 
 use os9_base::call::CallEnd;
 
-/// How a call ends that is done, or is refused with a number.
+/// The end of a call that is done, or is refused with a number.
 pub fn call_end(outcome: Result<(), u8>) -> CallEnd
     ensures end { result ≡ end_of outcome }
     ensures comes { (m : Inner) (p : ℕ) (call : CallResult) (new : ProcState)

@@ -39,7 +39,7 @@ impl ProcState {
         }
     }
 
-    /// Has a child of this process ended for which it waits, or may its sleep end?
+    /// Has a child ended that this process waits for, or may its sleep end?
     fn may_go_on(&self, p: Pid) -> bool
         requires { p.0 < 33 }
         ensures { result ≡ may_go_on_lem (inner_of self.now (first_memory 0)) p.0 }
@@ -52,7 +52,7 @@ impl ProcState {
     }
 }
 
-/// Is this the code of the call that is not done?
+/// Does the unfinished call have this code?
 fn is_call(call: Option<u8>, code: u8) -> bool
     ensures { result ≡ is_call_lem call code }
 {
@@ -62,7 +62,7 @@ fn is_call(call: Option<u8>, code: u8) -> bool
     }
 }
 
-/// May the sleep of a process end: is its tick reached, or did a wake come?
+/// May the sleep of a process end: is its tick reached, or has a wake arrived?
 fn may_wake(tick: u32, own: Own) -> bool
     ensures { result ≡ may_wake_lem tick own }
 {

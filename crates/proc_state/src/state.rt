@@ -18,9 +18,9 @@ pub struct ProcState {
     pub table: Table,
     /// Their turns.
     pub sched: Sched,
-    /// What each process has beside its record and its memory, by process number.
+    /// The data of each process other than its record and its memory, by process number.
     pub own: Vec<Own>,
-    /// The slices that were begun.
+    /// The number of slices begun.
     pub tick: u32,
     /// Room for the longest range of a process's memory.
     pub buffer: Vec<u8>,

@@ -39,8 +39,8 @@ impl ProcState {
         self.go_on(p, refused_regs(regs, number));
     }
 
-    /// A process waits in its call for this, until this tick if there is one. One that waits already
-    /// keeps what it waits for.
+    /// A process waits in its call for this, until this tick if there is one. A process that
+    /// already waits keeps what it waits for.
     pub fn wait(&mut self, p: Pid, cause: Cause, until: Option<u32>)
         requires { IsLiving self.old.table p.0 }
         ensures tied { (m : Inner) → Represents self.old m
@@ -81,7 +81,7 @@ impl ProcState {
         );
     }
 
-    /// A process waits no more.
+    /// A process does not wait any more.
     fn run(&mut self, p: Pid)
         requires { IsLiving self.old.table p.0 }
         ensures tied { (m : Inner) → Represents self.old m

@@ -1,22 +1,22 @@
 use hex::{FromHexError, decode};
 use std::alloc::{AllocError, Global};
 
-/// The most zero bytes that a row has behind its file of modules.
+/// The most zero bytes of a row after its file of modules.
 const MOST_ZEROS: usize = 65_536;
 
-/// The most times that bytes stand in a field.
+/// The greatest number of times that bytes are repeated in a field.
 const MOST_TIMES: usize = 1_000_001;
 
-/// A call of a terminal that fails.
+/// A failing call of a terminal.
 #[derive(Debug, Drop)]
 pub(crate) struct FailingCall {
-    /// 0 of TERM, 1 to 3 of T1 to T3.
+    /// 0 for TERM, 1 to 3 for T1 to T3.
     pub(crate) terminal: u8,
     /// Its number among the calls of `key` and `put` of that terminal, from 1.
     pub(crate) call: u64,
 }
 
-/// A command line with its files, and what the program answers to it.
+/// A command line with its files, and the program's answer to it.
 #[derive(Drop)]
 pub(crate) struct Row {
     /// The words, separated by single spaces. They name the files `modules`, `slices` and `script`,
@@ -27,27 +27,27 @@ pub(crate) struct Row {
     pub(crate) script: Vec<u8>,
     pub(crate) status: u8,
     pub(crate) out: Vec<u8>,
-    /// The line on the error stream, without its line feed; none where it is empty.
+    /// The line on the error stream, without its line feed; none if it is empty.
     pub(crate) err: String,
-    /// The calls of terminals that fail in the run.
+    /// The failing calls of terminals in the run.
     pub(crate) failing: Vec<FailingCall>,
     pub(crate) images: Images,
-    /// The numbers of the calls of the host that fail, from 1.
+    /// The numbers of the failing calls of the host, from 1.
     pub(crate) host_failing: Vec<u64>,
 }
 
-/// The images of a boot. One without bytes is not there.
+/// The images of a boot. One without bytes does not exist.
 #[derive(Drop)]
 pub(crate) struct Images {
     pub(crate) d0: Vec<u8>,
     pub(crate) d1: Vec<u8>,
 }
 
-/// The row of a line: the words, the file of modules, the number of zero bytes behind it, the slice
-/// text, the script of keys, the status, the bytes written, the line on the error stream, the calls
-/// of terminals that fail, two images and the calls of the host that fail, separated by tabs, with
-/// `-` for what is empty. Bytes are hexadecimal digits (`bytes`). The last four fields may be
-/// missing. None where the line has other fields.
+/// The row of a line: the words, the file of modules, the number of zero bytes after it, the slice
+/// text, the script of keys, the status, the bytes written, the line on the error stream, the
+/// failing calls of terminals, two images and the failing calls of the host, separated by tabs,
+/// with `-` for an empty field. Bytes are hexadecimal digits (`bytes`). The last four fields may be
+/// missing. None if the line has other fields.
 pub(crate) fn parse(alloc: Global, line: &str) -> Result<Option<Row>, AllocError> {
     let mut fields = line.split('\t');
     let Some(words) = fields.next() else {
@@ -97,7 +97,7 @@ pub(crate) fn parse(alloc: Global, line: &str) -> Result<Option<Row>, AllocError
     }))
 }
 
-/// The images of two fields, or None where they are none.
+/// The images of two fields, or None if they are not images.
 fn both_images(
     alloc: Global,
     d0: Option<&str>,
@@ -112,7 +112,7 @@ fn both_images(
     Ok(Some(Images { d0, d1 }))
 }
 
-/// The numbers of a field such as `5,2`, or None where it is no such list.
+/// The numbers of a field such as `5,2`, or None if it is not such a list.
 fn numbers(alloc: Global, field: &str) -> Result<Option<Vec<u64>>, AllocError> {
     let mut numbers = Vec::new(alloc);
     if text(field).is_empty() {
@@ -127,13 +127,13 @@ fn numbers(alloc: Global, field: &str) -> Result<Option<Vec<u64>>, AllocError> {
     Ok(Some(numbers))
 }
 
-/// The field, where `-` is what is empty.
+/// The field; `-` is an empty one.
 fn text(field: &str) -> &str {
     if field == "-" { "" } else { field }
 }
 
-/// The bytes of a field, or None where it is no hexadecimal digits. Its pieces are separated by
-/// commas; a piece `DIGITS*N` is its bytes N times, and no bytes where N is no number.
+/// The bytes of a field, or None if it is not hexadecimal digits. Its pieces are separated by
+/// commas; a piece `DIGITS*N` is its bytes N times, and no bytes if N is not a number.
 fn bytes(alloc: Global, field: &str) -> Result<Option<Vec<u8>>, AllocError> {
     let mut all = Vec::new(alloc);
     for piece in text(field).split(',') {
@@ -149,7 +149,7 @@ fn bytes(alloc: Global, field: &str) -> Result<Option<Vec<u8>>, AllocError> {
     Ok(Some(all))
 }
 
-/// The bytes of hexadecimal digits, or None where they are none.
+/// The bytes of hexadecimal digits, or None if they are not such digits.
 fn decoded(alloc: Global, digits: &str) -> Result<Option<Vec<u8>>, AllocError> {
     match decode(alloc, digits) {
         Ok(bytes) => Ok(Some(bytes)),
@@ -158,7 +158,7 @@ fn decoded(alloc: Global, digits: &str) -> Result<Option<Vec<u8>>, AllocError> {
     }
 }
 
-/// Puts bytes behind others so many times.
+/// Appends bytes to others this number of times.
 fn push_times(all: &mut Vec<u8>, bytes: &[u8], times: usize) -> Result<(), AllocError> {
     for _ in 0..times.min(MOST_TIMES) {
         all.extend_from_slice(bytes)?;
@@ -166,7 +166,7 @@ fn push_times(all: &mut Vec<u8>, bytes: &[u8], times: usize) -> Result<(), Alloc
     Ok(())
 }
 
-/// The calls of a field such as `TERM 5,T1 2`, or None where it is no such list.
+/// The calls of a field such as `TERM 5,T1 2`, or None if it is not such a list.
 fn failing_calls(alloc: Global, field: &str) -> Result<Option<Vec<FailingCall>>, AllocError> {
     let mut calls = Vec::new(alloc);
     if text(field).is_empty() {

@@ -24,7 +24,7 @@ pub(crate) struct Shown {
     status: u8,
     out: Vec<u8>,
     err: Vec<u8>,
-    /// The files are as they were.
+    /// The files are unchanged.
     kept: bool,
 }
 
@@ -44,8 +44,8 @@ impl Shown {
 }
 
 /// Runs the words of a row over a host in memory that has its files, four drives without an image
-/// and four terminals, whose calls fail as the row says. What it writes to a file is what it read
-/// there, so the files are to be as they were.
+/// and four terminals, whose calls fail as the row says. It writes to a file only what it read
+/// there, so the files must be unchanged.
 pub(crate) fn run(alloc: Global, row: &Row) -> Result<Shown, AllocError> {
     let mut drives = Vec::new(alloc);
     add_drive(&mut drives, Box::new(alloc, SureDrive::new())?)?;
@@ -55,7 +55,7 @@ pub(crate) fn run(alloc: Global, row: &Row) -> Result<Shown, AllocError> {
     run_over(alloc, row, drives)
 }
 
-/// The same over these drives, of which there are four without an image.
+/// The same over these drives, four without an image.
 fn run_over(
     alloc: Global,
     row: &Row,
@@ -71,7 +71,7 @@ fn run_over(
     run_on(alloc, row, Devices { drives, terms })
 }
 
-/// Puts a drive without an image behind others.
+/// Appends a drive without an image.
 fn add_drive(
     drives: &mut Vec<Box<dyn BlockDriver>>,
     drive: Box<dyn BlockDriver>,
@@ -86,7 +86,7 @@ fn add_drive(
     Ok(())
 }
 
-/// Puts a terminal without keys behind others.
+/// Appends a terminal without keys.
 fn add_terminal(
     terms: &mut Vec<Box<dyn CharDriver>>,
     term: Box<dyn CharDriver>,
@@ -157,7 +157,7 @@ fn terminal(alloc: Global, row: &Row, number: u8) -> Result<ScriptTty, AllocErro
     Ok(ScriptTty::new(alloc, plan(alloc, row, number)?))
 }
 
-/// The calls of a terminal that fail.
+/// The failing calls of a terminal.
 fn plan(alloc: Global, row: &Row, terminal: u8) -> Result<Vec<u64>, AllocError> {
     let mut calls = Vec::new(alloc);
     for failing in row.failing.as_slice() {

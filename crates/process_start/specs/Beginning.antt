@@ -1,4 +1,4 @@
--- The first process, while it begins.
+-- The first process, as it begins.
 use Rattle.std.specs.Prelude.{◌≡◌, ℕ, Option, Result, Ok, Err, IsErr, List}
 use Rattle.proc_model.specs.declared.memory.MemoryFault.{MemoryFault}
 use Rattle.proc_model.specs.Memory.{MemoryState}
@@ -18,19 +18,20 @@ nobody_in memory = with_memory (first_inner 0) memory
 abbrev pub HasNobody : ProcState → Type 0
 HasNobody processes = (memory : MemoryState) × Represents processes (nobody_in memory)
 
--- the machine with the first process, which begins so
+-- the machine with the first process, which has this beginning
 abbrev pub with_first : MemoryState → Beginning → Inner
 with_first memory start =
     with_regs_of (with_made (with_own (nobody_in memory) first_process.0 start.own) first_process no_parent superuser
     first_priority) first_process.0 start.regs
 
--- what comes of the first process: it has begun in this memory, with the program of a module; or it has no room
+-- the result of beginning the first process: it has begun in this memory, with the program of a module; or there is no
+-- room for it
 abbrev pub Begins : Result MemoryState MemoryFault → ℕ → ModuleEntry → Result (Unit {0}) ℕ → ProcState → Type 0
 Begins (Ok memory) number entry result new =
     (result ≡ Ok tt) × Represents new (only_process memory (first_start number entry))
 Begins (Err fault) number entry result new = IsErr result
 
--- a machine with so many blocks has the boot file, whose first program has this number; no process has begun
+-- a machine with this number of blocks has the boot file, whose first program has this number; no process has begun
 pub record HasFirstIn (file : List ℕ) (blocks number : ℕ) (processes : ProcState) : Type 0 where
   pub entries : List (Option ModuleEntry)
   pub entry : ModuleEntry

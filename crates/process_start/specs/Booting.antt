@@ -22,20 +22,20 @@ pub record HasGroup (file : List ℕ) (number : ℕ) (m : MemoryState) : Type 0 
 abbrev pub IsBooting : List ℕ → ℕ → Memory → Type 0
 IsBooting file number memory = (m : MemoryState) × Represents memory m × HasGroup file number m
 
--- the memory with other entries of modules, and with one module of the boot file more
+-- the memory with other entries of modules, and with one more module of the boot file
 abbrev pub with_modules : MemoryState → List (Option ModuleEntry) → MemoryState
 with_modules m entries = record m { modules = entries }
 
 abbrev pub with_boot_module : List ℕ → MemoryState → ModuleInfo → MemoryState
 with_boot_module file m info = with_modules m (with_module m.modules info (boot_group file) true)
 
--- a machine with so many blocks has the boot file, and this module of it, by this number
+-- a machine with this number of blocks has the boot file, and this module of it, by this number
 pub record BeginsBoot (file : List ℕ) (blocks : ℕ) (info : ModuleInfo) (number : ℕ) (memory : Memory) : Type 0 where
   pub accepted : entry_refusal no_entries info ≡ None
   pub represents : Represents memory (with_boot_module file (boot_memory file blocks no_entries) info)
   pub has : HasGroup file number (with_boot_module file (boot_memory file blocks no_entries) info)
 
--- one module of the boot file more is entered, beside that of this number
+-- one more module of the boot file is entered, in the group of the module of this number
 pub record EntersBeside (file : List ℕ) (number : ℕ) (m : MemoryState) (info : ModuleInfo) (memory : Memory) : Type 0
   where
     pub accepted : entry_refusal m.modules info ≡ None
@@ -48,7 +48,7 @@ pub record EntersRest (file : List ℕ) (from : ℕ) (m : MemoryState) (memory :
   pub entered : EntersModules file (boot_group file) true from m.modules (Ok entries)
   pub represents : Represents memory (with_modules m entries)
 
--- a machine with so many blocks has the boot file, all of whose modules are entered
+-- a machine with this number of blocks has the boot file, and all its modules are entered
 pub record HasBoot (file : List ℕ) (blocks : ℕ) (memory : Memory) : Type 0 where
   pub entries : List (Option ModuleEntry)
   pub entered : EntersBoot file (Ok entries)

@@ -18,7 +18,7 @@ use proc_model::module::{ModId, ModuleInfo};
 ///
 /// # Errors
 ///
-/// `BadModule` for the first module that is refused, and `NoFirst` if the file has no module.
+/// `BadModule` for the first refused module, and `NoFirst` if the file has no module.
 pub fn enter_boot(memory: &mut Memory, boot: &[u8]) -> Result<(), BootFault>
     requires short { length boot.now ≤ MOST_GROUP_BYTES }
     requires empty { IsEmpty memory.old }
@@ -51,11 +51,11 @@ fn enter_first(memory: &mut Memory, boot: &[u8], info: ModuleInfo) -> ModId
     }
 }
 
-/// Enters the modules of a boot file that stand from a place on, beside that of this number.
+/// Enters the modules of a boot file from a place on, in the group of the module of this number.
 ///
 /// # Errors
 ///
-/// The first module that is refused; those before it are entered.
+/// The first refused module; those before it are entered.
 fn enter_others(memory: &mut Memory, boot: &[u8], id: ModId, start: u32) -> Result<(), Refusal>
     requires short { length boot.now ≤ MOST_GROUP_BYTES }
     requires within { start ≤ length boot.now }
@@ -74,11 +74,11 @@ fn enter_others(memory: &mut Memory, boot: &[u8], id: ModId, start: u32) -> Resu
     Ok(())
 }
 
-/// Enters one module of a boot file, beside that of this number.
+/// Enters one module of a boot file, in the group of the module of this number.
 ///
 /// # Errors
 ///
-/// The directory does not take the module.
+/// The directory refuses the module.
 fn enter_next(memory: &mut Memory, boot: &[u8], id: ModId, info: ModuleInfo) -> Result<(), Refusal>
     requires inside { info.at + info.size ≤ length boot.now }
     requires runs { info.entry < info.size }

@@ -23,7 +23,7 @@ use proc_state::state::ProcState;
 
 /// The number of the first process.
 const FIRST: Pid = Pid(2);
-/// The number that stands for no parent.
+/// The number that means no parent.
 const NO_PARENT: Pid = Pid(0);
 /// The user that may act on every process.
 const SUPERUSER: u16 = 0;
@@ -32,7 +32,7 @@ const FIRST_PRIORITY: u8 = 128;
 /// The type and the language of a program in 6809 code.
 const PROGRAM: u8 = 0x11;
 
-/// The first program among the modules that are entered: `SysGo`, in 6809 code.
+/// The first program among the entered modules: `SysGo`, in 6809 code.
 pub fn first_program(modules: &Dir) -> Option<ModId>
     ensures { option_map (λ id. id.0) result ≡ first_program_lem modules.now }
 {
@@ -68,7 +68,7 @@ pub fn begin(processes: &mut ProcState, id: ModId) -> Result<(), u8>
     Ok(())
 }
 
-/// Makes the first process, which begins so.
+/// Makes the first process, with this beginning.
 fn add_first(processes: &mut ProcState, start: Beginning)
     requires nobody { HasNobody processes.old }
     requires entered { ForSome start.own.primary

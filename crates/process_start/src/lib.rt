@@ -1,4 +1,4 @@
-//! The start of a machine of many processes from a boot file: its modules are entered, and the
+//! The start of a machine with many processes from a boot file: its modules are entered, and the
 //! first program begins.
 #![tactic(auto)]
 

@@ -23,9 +23,9 @@ use std::alloc::Global;
 ///
 /// # Errors
 ///
-/// `BadModule` for the first module of the file that is refused, by its place and its error;
-/// `NoFirst` where none is the first program; `TooLarge` where the file has more than seven blocks
-/// of 8,192 bytes, or there are too few blocks or slots for it and the program's data area.
+/// `BadModule` for the first refused module of the file, with its place and its error. `NoFirst` if
+/// no module is the first program. `TooLarge` if the file has more than seven blocks of 8,192
+/// bytes, or there are too few blocks or slots for it and the program's data area.
 pub fn start(alloc: Global, blocks: u16, boot: &[u8]) -> Result<ProcState, BootFault>
     requires least { 8 ≤ blocks }
     requires most { blocks ≤ 256 }
@@ -47,11 +47,11 @@ pub fn start(alloc: Global, blocks: u16, boot: &[u8]) -> Result<ProcState, BootF
     }
 }
 
-/// Enters the modules of a boot file, and answers its first program. No process has begun yet.
+/// Enters the modules of a boot file, and returns its first program. No process has begun yet.
 ///
 /// # Errors
 ///
-/// `BadModule` for the first module that is refused, and `NoFirst` where none is the first program.
+/// `BadModule` for the first refused module, and `NoFirst` if no module is the first program.
 fn load_boot(processes: &mut ProcState, boot: &[u8]) -> Result<ModId, BootFault>
     requires short { length boot.now ≤ MOST_GROUP_BYTES }
     requires empty { (blocks : ℕ) × (8 ≤ blocks) × Represents processes.old (first_inner blocks) }

@@ -13,7 +13,7 @@ use os9_base::limits::MOST_GROUP_BYTES;
 use proc_model::module::{ModuleFault, ModuleInfo, ModuleStep};
 use thiserror::Error;
 
-/// A module that is refused: where it begins, and the number of the error.
+/// A refused module: where it begins, and the number of the error.
 #[derive(Clone, Copy, Debug, PartialEq, Eq, Error)]
 #[error("module {error} at {at}")]
 pub struct Refusal {
@@ -31,7 +31,7 @@ impl From<Refusal> for BootFault {
     }
 }
 
-/// The module that stands next in a file from a place on, if there is one.
+/// The next module in a file from a place on, if there is one.
 ///
 /// # Errors
 ///

@@ -32,14 +32,14 @@ pub fn free_process(records: &[Option<Record>]) -> Option<Pid>
     Some(Pid((place + FIRST) as u8))
 }
 
-/// Has some record this parent?
+/// Does some record have this parent?
 pub fn has_child(records: &[Option<Record>], parent: Pid) -> bool
     ensures { result ≡ has_child_lem records.now parent.0 }
 {
     records.iter().any(|place| is_child(place, parent))
 }
 
-/// The number of the first record of a child that has ended.
+/// The number of the first record of an ended child.
 pub fn ended_child(records: &[Option<Record>], parent: Pid) -> Option<Pid>
     requires { length records.now ≡ PROCESS_PLACES }
     ensures number { option_map (λ p. p.0) result ≡ ended_child_lem records.now parent.0 }
@@ -51,7 +51,7 @@ pub fn ended_child(records: &[Option<Record>], parent: Pid) -> Option<Pid>
     Some(Pid(place as u8))
 }
 
-/// Takes this parent from its children: the records of those that have ended go.
+/// Removes this parent from its children, and the records of the ended ones.
 pub fn orphan(records: &mut [Option<Record>], parent: Pid)
     ensures { records.new ≡ map (orphaned_lem parent.0) records.old }
 {

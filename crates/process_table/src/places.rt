@@ -5,7 +5,7 @@ ghost use Rattle.proc_rules.specs.Ends.{is_child as is_child_lem, is_ended_child
 use os9_base::registers::{Pid, Regs};
 use proc_rules::record::{Life, Record};
 
-/// The number that stands for no process where a parent is named.
+/// The parent number that means no process.
 const NO_PARENT: Pid = Pid(0);
 
 /// The registers of a process before they are set.
@@ -36,7 +36,7 @@ pub fn new_record(parent: Pid, user: u16, priority: u8) -> Record
     }
 }
 
-/// The record of a process that has ended with this status, if it has a parent to wait for it.
+/// The record of a process that has ended with this status, if a parent may wait for it.
 pub fn ended(process: Record, status: u8) -> Option<Record>
     ensures { result ≡ ended_record_lem process status }
 {
@@ -57,7 +57,7 @@ pub fn is_child(place: &Option<Record>, parent: Pid) -> bool
     }
 }
 
-/// Is there a record here of a child of this process that has ended?
+/// Is there a record here of an ended child of this process?
 pub fn is_ended_child(place: &Option<Record>, parent: Pid) -> bool
     ensures { result ≡ record_passes (is_ended_child_lem parent.0) place.now }
 {
@@ -67,7 +67,7 @@ pub fn is_ended_child(place: &Option<Record>, parent: Pid) -> bool
     }
 }
 
-/// What is left of a record when this process has ended.
+/// What remains of a record after this process has ended.
 pub fn orphaned(place: &Option<Record>, parent: Pid) -> Option<Record>
     ensures { result ≡ orphaned_lem parent.0 place.now }
 {

@@ -49,7 +49,7 @@ impl Table {
 
     /// Makes the record of a new process with the least number from 2 to 32 that no record has. The
     /// process runs, its registers are all 0, and it has no intercept and no signal. A parent of 0
-    /// is none. The answer is None if there are 31 records.
+    /// means none. Returns None if there are 31 records.
     pub fn make(&mut self, parent: Pid, user: u16, priority: u8) -> Option<Pid>
         ensures number { option_map (λ p. p.0) result ≡ free_process_lem self.old }
         ensures records { self.new ≡ after_make self.old parent user priority }
@@ -80,7 +80,7 @@ impl Table {
         }
     }
 
-    /// The parent of a process that has a record, of one that has ended too; 0 if there is none.
+    /// The parent of a process that has a record, even of an ended one; 0 if there is none.
     pub fn parent(&self, p: Pid) -> Pid
         requires { IsSome (record_of self.now p.0) }
         ensures parent { result ≡ (record_at self.now p.0).parent }
@@ -100,7 +100,7 @@ impl Table {
         self.put(p, Some(Record { life, ..record }));
     }
 
-    /// The number of the user whose process it is.
+    /// The number of the user who owns the process.
     pub fn user(&self, p: Pid) -> u16
         requires { IsLiving self.now p.0 }
         ensures user { result ≡ (record_at self.now p.0).user }
@@ -119,7 +119,7 @@ impl Table {
         self.put(p, Some(Record { user, ..record }));
     }
 
-    /// The age that the process has after each time that it is chosen.
+    /// The age of the process after each time that it is chosen.
     pub fn priority(&self, p: Pid) -> u8
         requires { IsLiving self.now p.0 }
         ensures priority { result ≡ (record_at self.now p.0).priority }
@@ -158,8 +158,8 @@ impl Table {
     }
 
     /// Ends a process with this status (System Programmer's Manual, F$Exit). The records of its
-    /// children that have ended go, and those that live have no parent any more. Its own record is
-    /// kept for its parent, and goes if it has none.
+    /// ended children are removed, and the living ones have no parent any more. Its own record is
+    /// kept for its parent, or removed if it has none.
     pub fn exit(&mut self, p: Pid, status: u8)
         requires { IsLiving self.old p.0 }
         ensures records { self.new ≡ after_exit self.old p.0 status }
@@ -170,8 +170,8 @@ impl Table {
         self.put(p, ended(record, status));
     }
 
-    /// Gives a parent its ended child of least number, and the status with which it has ended
-    /// (System Programmer's Manual, F$Wait). The child's record goes.
+    /// Returns to a parent its ended child of least number, and the status with which it has ended
+    /// (System Programmer's Manual, F$Wait). The child's record is removed.
     ///
     /// # Errors
     ///
@@ -200,7 +200,7 @@ impl Table {
     /// # Errors
     ///
     /// `NoProcess` if no such process lives, or if it is another user's and `from_user` is not 0;
-    /// else `Pending` if a signal is pending there and the one that is sent is not 1. No record
+    /// else `Pending` if a signal is already pending there and the one sent is not 1. No record
     /// changes then.
     pub fn send(&mut self, from_user: u16, to: Pid, signal: u8) -> Result<(), SendFault>
         ensures fault { result_err result ≡ send_fault self.old from_user to.0 signal }
@@ -219,8 +219,8 @@ impl Table {
         Ok(())
     }
 
-    /// Sets the routine that receives the signals of a process, and the address that it finds in U
-    /// (System Programmer's Manual, F$Icpt). A routine of 0 takes the intercept away.
+    /// Sets the routine that receives the signals of a process, and the address that the routine
+    /// finds in U (System Programmer's Manual, F$Icpt). A routine of 0 removes the intercept.
     pub fn intercept(&mut self, p: Pid, routine: u16, area: u16)
         requires { IsLiving self.old p.0 }
         ensures records { self.new ≡ with_intercept self.old p.0 (intercept_of routine area) }
@@ -293,7 +293,7 @@ impl Table {
         self.records[p.0 as usize] = place;
     }
 
-    /// Takes this parent from its children: the records of those that have ended go.
+    /// Removes this parent from its children, and the records of the ended ones.
     fn orphan(&mut self, parent: Pid)
         ensures records { self.new ≡ map (orphaned parent.0) self.old }
         ensures shape { AreRecords self.new }
@@ -301,7 +301,7 @@ impl Table {
         orphan(&mut self.records, parent);
     }
 
-    /// The record of a process that lives and on which this user may act.
+    /// The record of a living process on which this user may act.
     fn reached(&self, user: u16, p: Pid) -> Option<Record>
         ensures reached { is_some result ≡ is_reached self.now user p.0 }
         ensures record { IfSome result (λ r. r ≡ record_at self.now p.0) }

@@ -1,5 +1,5 @@
--- How often the drive of a file of modules is called at most (this project's own): for each directory of the walk, for
--- the descriptor of the file that it finds, and for the bytes of the file where it is not refused.
+-- The greatest number of calls of the drive of a file of modules (this project's own): for each directory of the walk,
+-- for the descriptor of the file found, and for the bytes of the file if it is not refused.
 use Rattle.std.specs.Prelude.{ℕ, ◌+◌, true, Option, Some, None, Result, Ok, Err, List}
 use Rattle.io_rules.specs.PathList.{PathList}
 use Rattle.user_names.specs.declared.name_fault.NameFault.{NameFault}
@@ -16,7 +16,7 @@ use Rattle.file_state.specs.Counted.{calls_of}
 use Rattle.file_ways.specs.Ways.{refuses_by}
 use Rattle.program_files.specs.Found.{program_size}
 
--- for so many bytes of a file; none are read of one that is refused
+-- for this number of bytes of a file; none are read of a refused file
 abbrev pub size_calls : DiskFile → Result ℕ ℕ → ℕ
 size_calls file (Ok size) = read_calls file 0 size
 size_calls file (Err number) = 0
@@ -30,7 +30,7 @@ calls_at_end user files place v None = 0
 calls_at_end user files place v (Some file) =
     found_calls user files (record { place = place; volume = v; file = file })
 
--- for the walk of a user along names from a directory on a volume, and the file that it finds
+-- for a user's walk along names from a directory on a volume, and for the file found
 abbrev pub calls_on_volume : ℕ → Files → FilePlace → List (List ℕ) → Option DiskVolume → ℕ
 calls_on_volume user files from names None = 0
 calls_on_volume user files from names (Some v) =
@@ -48,7 +48,7 @@ abbrev pub list_calls : Asker → Files → ℕ → Result PathList NameFault �
 list_calls asker files terms (Ok list) = way_calls asker files (way_of asker files terms true list)
 list_calls asker files terms (Err fault) = 0
 
--- for the file of the path list at X, of a call with this refusal, if it has one
+-- for the file of the path list at X, of a call with this refusal, if any
 abbrev pub program_calls : Asker → Files → ℕ → Option ℕ → ℕ
 program_calls asker files terms refusal =
     calls_of (program_file asker files terms (refuses_by refusal)) (list_calls asker files terms (list_of asker))

@@ -1,4 +1,4 @@
--- A file of modules that was found, and what is tested and read of it.
+-- A file of modules that was found: its tests, and what is read of it.
 use Rattle.std.specs.Prelude.{◌≡◌, ℕ, not, nat_lt, Some, Result, Ok, Err, List, length, take, if◌then◌else◌}
 use Rattle.os9_base.specs.declared.errors.TheConstants.{E_FNA, E_SHARE, E_MEMFUL}
 use Rattle.os9_base.specs.declared.limits.TheConstants.{MOST_GROUP_BYTES}
@@ -20,11 +20,11 @@ pub record IsFoundAt (files : Files) (place : FilePlace) (found : Found) : Type 
 
 -- ---- its size
 
--- a size that is not more than a group has, or the refusal
+-- a size of at most the bytes of a group, or the refusal
 abbrev pub short_size : ℕ → Result ℕ ℕ
 short_size size = if nat_lt MOST_GROUP_BYTES size then Err E_MEMFUL else Ok size
 
--- how many bytes are read of it, or the number with which it is refused
+-- the number of bytes read of it, or the number with which it is refused
 abbrev pub program_size : ℕ → Files → Found → Result ℕ ℕ
 program_size user files found =
     if not (may_open found.file user MODE_EXECUTE) then Err E_FNA
@@ -33,16 +33,16 @@ program_size user files found =
 
 -- ---- its bytes
 
--- where a file has so many bytes, all of them stand at the front of a buffer
+-- if a file has this number of bytes, all of them are at the front of a buffer
 pub record IsWhole (file : DiskFile) (size : ℕ) (buffer : List ℕ) : Type 0 where
   pub bytes_are : length file.contents ≡ size → take size buffer ≡ file.contents
 
--- what comes of its size: its bytes, and the address behind its path list
+-- the step by its size: its bytes, and the address after its path list; or the refusal
 abbrev pub program_by : Found → ℕ → Result ℕ ℕ → Step ProgramFile
 program_by found next (Ok size) = comes (record { bytes = found.file.contents; next = next })
 program_by found next (Err number) = refused number
 
--- the drive of a file that was found is reached
+-- the step reaches the drive of a found file
 abbrev pub program_there : ℕ → Files → ℕ → Found → Step ProgramFile
 program_there user files next found =
     reaches found.place.drive (program_by found next (program_size user files found))

@@ -29,7 +29,7 @@ use rbf_access::FileFault;
 use rbf_sector::Fd;
 use rbf_walk::may;
 
-/// How many bytes a file of modules has that was found at a place and has this descriptor, where a
+/// The number of bytes of a file of modules that was found at a place and has this descriptor, if a
 /// user may execute it (System Programmer's Manual, I$Open and F$Load).
 ///
 /// # Errors
@@ -56,7 +56,7 @@ pub(crate) fn program_size(
     short_size(fd.size)
 }
 
-/// A size of a file that is not more than a group of modules has.
+/// A size that is at most that of a group of modules.
 ///
 /// # Errors
 ///
@@ -72,15 +72,15 @@ fn short_size(size: u32) -> Result<u16, u8>
     }
 }
 
-/// May a user open the file of a descriptor for execution: is it no directory, and may he execute
-/// it?
+/// May a user open the file of a descriptor for execution: is it not a directory, and may the user
+/// execute it?
 fn may_execute(fd: &Fd, user: u16) -> bool
     ensures { (file : DiskFile) → IsFdOf file fd.now → result ≡ may_open file user EXECUTE }
 {
     may(fd, user, MODE_EXECUTE) && fd.attr & DIRECTORY == 0
 }
 
-/// Reads a file of so many bytes whole into the front of the buffer.
+/// Reads a whole file of `size` bytes into the front of the buffer.
 ///
 /// # Errors
 ///
@@ -107,7 +107,7 @@ pub(crate) fn load_whole(
     load_front(disks, devices, place, size, &mut s.buffer)
 }
 
-/// The same into the front of a buffer.
+/// The same into the front of the given buffer.
 fn load_front(
     disks: &mut Disks,
     devices: &mut Devices,

@@ -1,4 +1,4 @@
-//! The file of modules to which a call's path list leads.
+//! The file of modules that a call's path list names.
 
 ghost use Rattle.std.specs.Prelude.{◌≡◌, ◌≤◌, IfOk, vec_len};
 ghost use Rattle.file_drives.specs.Drives.{drive_views};
@@ -33,26 +33,26 @@ use proc_state::state::ProcState;
 use rbf_access::FileFault;
 use rbf_sector::Fd;
 
-/// A file of modules that was read: it stands at the front of the buffer of the processes.
+/// A file of modules that was read: it is at the front of the buffer of the processes.
 #[derive(Clone, Copy, Debug, PartialEq, Eq)]
 pub struct ProgramRead {
-    /// How many bytes it has.
+    /// Its number of bytes.
     pub size: u16,
     /// The address just past its path list.
     pub next: u32,
 }
 
-/// Reads the file of the path list at X whole into the front of the buffer (System Programmer's
+/// Reads the whole file of the path list at X into the front of the buffer (System Programmer's
 /// Manual, F$Load). A list that names no device starts at the execution directory of the process.
-/// The file is tested as I$Open with the mode for execution tests it, and no path is begun.
-/// `refusal` is the number with which the call is refused where no byte of its list is missing.
+/// The file is tested as I$Open tests it with the execution mode, but no path is opened. `refusal`
+/// is the number with which the call is refused if no byte of its list is missing.
 ///
 /// # Errors
 ///
 /// E$BPAddr exactly if a byte of the list that has to be read is in no named slot or past `FFFF`;
-/// else that of `refusal`, if it is one; else those of the list, E$BPNam, E$PNNF and E$MNF; E$FNA
-/// exactly if it leads to a terminal or a pipe; then those of the walk, E$FNA and E$PNNF; E$FNA,
-/// E$Share and E$MemFul as `program_size` has them. The number of the fault, if the drive fails.
+/// else `refusal`, if there is one; else those of the list, E$BPNam, E$PNNF and E$MNF; E$FNA
+/// exactly if the list names a terminal or a pipe; then those of the walk, E$FNA and E$PNNF; then
+/// E$FNA, E$Share and E$MemFul as for `program_size`. The number of the fault, if the drive fails.
 pub fn read_program(
     s: &mut ProcState,
     files: &mut FileState,
@@ -90,8 +90,7 @@ pub fn read_program(
     }
 }
 
-/// Reads the file that is reached from a directory along the names of a path list that ends before
-/// `next`.
+/// Reads the file reached from a directory along the names of a path list that ends before `next`.
 ///
 /// # Errors
 ///
@@ -132,7 +131,7 @@ fn read_along(
 ///
 /// # Errors
 ///
-/// As `read_program` behind the walk.
+/// As `read_program` after the walk.
 fn read_there(
     s: &mut ProcState,
     files: &mut FileState,
@@ -194,7 +193,7 @@ fn read_found(
     }
 }
 
-/// What was read, where the file of so many bytes was loaded.
+/// What was read, if the file of `size` bytes was loaded.
 ///
 /// # Errors
 ///

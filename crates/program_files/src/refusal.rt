@@ -1,4 +1,4 @@
-//! What F$Fork and F$Chain test of their registers when their path list was read.
+//! The tests of F$Fork and F$Chain on their registers after their path list is read.
 
 ghost use Rattle.std.specs.Prelude.{◌≡◌};
 ghost use Rattle.call_rules.specs.Inner.{Inner};
@@ -20,10 +20,10 @@ const PROGRAM: u8 = 0x11;
 /// The type of a program, in any language.
 const ANY_PROGRAM: u8 = 0x10;
 
-/// The number with which a call is refused that starts a program of a file, by its registers
+/// The number with which a call that starts a program of a file is refused, by its registers
 /// (System Programmer's Manual, F$Fork and F$Chain): E$BPAddr exactly if a byte of the parameters
-/// is in no named slot or past `FFFF`; else E$NEMod exactly if A asks for no program. None if it
-/// goes on.
+/// is in no named slot or past `FFFF`; else E$NEMod exactly if A does not ask for a program. None
+/// if the call goes on.
 pub fn program_refusal(s: &ProcState, p: Pid) -> Option<u8>
     requires { IsLiving s.now.table p.0 }
     ensures { (m : Inner) (step : Step ProgramFile) → Represents s.now m

@@ -1,4 +1,4 @@
--- The number of the drive's fault that a call answers, if it answers one, and that of an error.
+-- The number of the drive's fault that a call reports, if any, and the number of an error.
 use Rattle.std.specs.Prelude.{ℕ, Option, Some, None, Result, Ok, Err}
 use Rattle.os9_base.specs.declared.errors.TheConstants.{E_SLF, E_FULL}
 use Rattle.os9_outer.specs.Drive.{drive_error}
@@ -18,7 +18,7 @@ file_fault (Err (file.Device n)) = Some n
 file_fault (Err file.NoCluster) = None
 file_fault (Err file.TooManyRuns) = None
 
--- the number of the error of a call on a file (System Programmer's Manual, error codes: E$Full, E$SLF), or that of the
+-- the error number of a call on a file (System Programmer's Manual, error codes: E$Full, E$SLF), or the number of the
 -- drive's fault
 abbrev pub file_error : FileFault → ℕ
 file_error (file.Device n) = n

@@ -10,14 +10,14 @@ use Rattle.rbf_map.specs.Map.{ClusterMap}
 use Rattle.rbf_access.specs.Cached.{IsCacheOf}
 use Rattle.rbf_access.specs.declared.volume.Volume.{Volume}
 
--- the media holds the volume of which its sector 0 speaks, and that volume has a map for its clusters
+-- the media holds the volume that its sector 0 describes, and that volume has a map for its clusters
 pub record HoldsVolume (media : Option (List ℕ)) : Type 0 where
   pub image : List ℕ
   pub is : media ≡ Some image
   pub header : HasHeader image
   pub map : HasMap (image_geometry image)
 
--- an identification sector of a volume that fits a drive of so many sectors, and that has a map for its clusters
+-- the identification sector of a volume that fits a drive of `sectors` sectors, and that has a map for its clusters
 pub record FitsDrive (ident : List ℕ) (sectors : ℕ) : Type 0 where
   pub header : IsHeader (geometry ident)
   pub map : HasMap (geometry ident)
@@ -28,7 +28,7 @@ abbrev pub map_bytes : Option (List ℕ) → ℕ → List ℕ
 map_bytes None count = []
 map_bytes (Some image) count = take (256 * count) (drop 256 image)
 
--- the identification is that of the volume that the media holds
+-- the identification is that of the volume on the media
 pub record IsIdentOf (media : Option (List ℕ)) (ident : Ident) : Type 0 where
   pub holds : HoldsVolume media
   pub sizes : geometry_of ident ≡ image_geometry holds.image
@@ -37,17 +37,17 @@ pub record IsIdentOf (media : Option (List ℕ)) (ident : Ident) : Type 0 where
 abbrev pub IsMapOf : Option (List ℕ) → ClusterMap → Type 0
 IsMapOf media map = (image : List ℕ) → media ≡ Some image → AgreesOnMap map image
 
--- what is kept of a mounted volume
+-- the kept part of a mounted volume
 abbrev pub kept : Volume → KeptVolume
 kept volume = record { sizes = geometry_of volume.ident; map = volume.map }
 
--- what is kept is that of the volume that the media holds
+-- the kept part is that of the volume that the media holds
 pub record IsVolumeOf (media : Option (List ℕ)) (volume : Volume) : Type 0 where
   pub holds : HoldsVolume media
   pub agrees : Agrees (kept volume) holds.image
   pub cached : IsCacheOf media volume.cache
 
--- how many calls of the drive mount it: one for its identification sector, and one for each sector of the map
+-- the number of drive calls that a mount makes: one for the identification sector, and one for each sector of the map
 abbrev pub media_calls : Option (List ℕ) → ℕ
 media_calls None = 0
 media_calls (Some image) = 1 + map_sectors (image_geometry image)
@@ -61,12 +61,11 @@ pub record Represents (media : Option (List ℕ)) (v : DiskVolume) : Type 0 wher
   pub is : media ≡ Some image
   pub vol : Vol image v
 
--- it represents a volume
+-- the media represents some volume
 abbrev pub IsSound : Option (List ℕ) → Type 0
 IsSound media = (v : DiskVolume) × Represents media v
 
--- the volume is mounted: what is kept of it is that of the media, which represents a volume, and so is each sector that
--- its cache holds
+-- the volume is mounted: its kept part and each sector in its cache are those of the media, which represents a volume
 pub record IsMounted (volume : Volume) (media : Option (List ℕ)) : Type 0 where
   pub content : DiskVolume
   pub on : Represents media content

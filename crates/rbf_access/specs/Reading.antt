@@ -1,4 +1,4 @@
--- What is read of a file.
+-- Reads of a file.
 use Rattle.std.specs.Prelude.{◌≡◌, true, ℕ, ◌+◌, ◌-◌, ◌*◌, ◌/◌, ◌^◌, ◌<◌, ◌≤◌, Option, Some, List, ◌++◌, length, min, drop, Result, OnOk}
 use Rattle.os9_outer.specs.Drive.{sector_count as drive_sectors}
 use Rattle.rbf_model.specs.Segments.{has, sectors_of}
@@ -20,28 +20,28 @@ pub record IsFdOf (file : DiskFile) (fd : Fd) : Type 0 where
   pub size_is : fd.size ≡ length file.contents
   pub segments_are : fd.segs ≡ file.segments
 
--- what holds of the file of number n of the volume that the media represents
+-- a fact about file n of the volume that the media represents
 abbrev pub OnFile : Option (List ℕ) → ℕ → (DiskFile → Type 0) → Type 0
 OnFile media n fact =
     (v : DiskVolume) (file : DiskFile) → Represents media v → v.files n ≡ Some file → fact file
 
--- what holds of that volume and of its file of number n
+-- a fact about that volume and its file n
 abbrev pub OnVolumeFile : Option (List ℕ) → ℕ → (DiskVolume → DiskFile → Type 0) → Type 0
 OnVolumeFile media n fact =
     (v : DiskVolume) (file : DiskFile) → Represents media v → v.files n ≡ Some file → fact v file
 
--- a buffer into which bytes have been read: what they do not fill is as it was
+-- a buffer into which bytes have been read: the part that they do not fill is unchanged
 abbrev pub filled_buffer : List ℕ → List ℕ → List ℕ
 filled_buffer bytes buffer = bytes ++ drop (length bytes) buffer
 
--- a read of a file from a place on: how many bytes it gives, as many as there are and the buffer has room for, and
--- the buffer then
+-- a read of a file from place `at` on: the number of bytes read, which the file's end and the room of the buffer limit,
+-- and the buffer after the read
 pub record IsRead (file : DiskFile) (at : ℕ) (before now : List ℕ) (count : ℕ) : Type 0 where
   pub count_is : count ≡ length (bytes_from file.contents at (length before))
   pub buffer_is : now ≡ filled_buffer (bytes_from file.contents at (length before)) before
 
--- how many calls of the drive a read into a buffer makes at most: the descriptor's, and one for each sector of which
--- it reads a byte
+-- the greatest number of drive calls that a read into a buffer makes: one for the descriptor, and one for each sector
+-- of which it reads a byte
 abbrev pub read_calls : DiskFile → ℕ → ℕ → ℕ
 read_calls file at room = 1 + sector_span at (min (at + room) (length file.contents))
 
@@ -49,7 +49,7 @@ read_calls file at room = 1 + sector_span at (min (at + room) (length file.conte
 abbrev pub AreOnDrive : Option (List ℕ) → List ℕ → Type 0
 AreOnDrive media sectors = (s : ℕ) → has sectors s ≡ true → s < drive_sectors media
 
--- the drive has the sectors of these segments, and they have so many bytes from a place on
+-- the drive has the sectors of these segments, which have `count` bytes from place `at` on
 pub record HaveBytes (media : Option (List ℕ)) (segments : List (ℕ × ℕ)) (at count : ℕ) : Type 0 where
   pub on_drive : AreOnDrive media (sectors_of segments)
   pub within : count ≤ 256 * length (sectors_of segments) - at
@@ -61,8 +61,8 @@ pub record AreCached (held : List Sector) (fd : ℕ) (file : DiskFile) (at room 
   pub sectors : AreHeld held file.segments (at / 256)
       (at / 256 + sector_span at (min (at + room) (length file.contents)))
 
--- how a read of file n goes through the cache: if all its sectors are cached, no call of the drive is made; when it has
--- been read, they are cached if they are 256 at most
+-- how a read of file n uses the cache: if all its sectors are cached, no call of the drive is made; after the read they
+-- are cached if there are at most 256 of them
 pub record UsesCache {A Fault : Type 0} (n : ℕ) (file : DiskFile) (at room : ℕ) (result : Result A Fault)
     (old new : List Sector) (calls calls_now : ℕ) : Type 0 where
   pub hits : AreCached old n file at room → calls_now ≡ calls

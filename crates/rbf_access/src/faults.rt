@@ -20,8 +20,8 @@ pub enum FileFault {
 }
 
 impl FileFault {
-    /// The number of the error that a call answers which ended so: E$Full, E$SLF, or that of the
-    /// drive's fault (System Programmer's Manual, error codes).
+    /// The number of the error that a call with this fault answers: E$Full, E$SLF, or the number of
+    /// the drive's fault (System Programmer's Manual, error codes).
     pub fn number(&self) -> u8
         ensures { result ≡ file_error self.now }
     {
@@ -33,7 +33,7 @@ impl FileFault {
     }
 }
 
-/// Why a volume was not mounted: a fault of the drive, by its number, or the media holds no RBF
+/// Why a volume was not mounted: a fault of the drive, by its number, or media without an RBF
 /// volume.
 #[derive(Clone, Copy, Debug, PartialEq, Eq, Error)]
 pub enum VolFault {

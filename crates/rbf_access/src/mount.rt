@@ -21,8 +21,8 @@ impl Volume {
     ///
     /// # Errors
     ///
-    /// `NotRbf` if the drive has no media or the media holds no RBF volume, `Device` if a read of the drive fails, or out of
-    /// memory.
+    /// `NotRbf` if the drive has no media or the media holds no RBF volume, `Device` if a read of
+    /// the drive fails, or out of memory.
     pub fn mount(alloc: Global, d: &mut dyn BlockDriver) -> Result<Volume, VolFault>
         ensures kept { IfOk result (IsVolumeOf (media d.new)) }
         ensures mounted { (v : DiskVolume) → Represents (media d.old) v
@@ -43,7 +43,7 @@ impl Volume {
     }
 }
 
-// What the identification sector says, if it is that of a volume that the media holds.
+// The fields of the identification sector, if it is that of a volume that the media holds.
 fn read_identification(d: &mut dyn BlockDriver) -> Result<Ident, VolFault>
     ensures ident { IfOk result (IsIdentOf (media d.old)) }
     ensures not_rbf { IsErrOf result VolFault.NotRbf → ¬ HoldsVolume (media d.old) }
@@ -65,7 +65,7 @@ fn read_identification(d: &mut dyn BlockDriver) -> Result<Ident, VolFault>
     }
 }
 
-// What an identification sector says, if it is that of a volume that fits the drive.
+// The fields of an identification sector, if it is that of a volume that fits the drive.
 fn identify(bytes: &[u8; 256], sectors: u32) -> Option<Ident>
     ensures fits { MatchOption result (¬ FitsDrive bytes.now sectors)
         (λ _. FitsDrive bytes.now sectors) }

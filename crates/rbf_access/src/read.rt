@@ -29,7 +29,7 @@ impl Volume {
         self.ident.root
     }
 
-    /// How many clusters are free.
+    /// The number of free clusters.
     pub fn free_count(&self) -> u32
         ensures kept { result ≡ length (map_free_clusters self.now.map) }
         ensures volume { (image : List ℕ) (v : DiskVolume) → Agrees (kept self.now) image
@@ -62,8 +62,8 @@ impl Volume {
         Ok(read_fd(self.sector(lsn)))
     }
 
-    /// Reads bytes of a file from `at` on, as many as `into` has room for and the file has there,
-    /// and answers how many; 0 at or past its end. The rest of `into` stays.
+    /// Reads bytes of a file from `at` on, up to the room of `into` and the end of the file, and
+    /// returns their number: 0 at or past the end. The rest of `into` is unchanged.
     ///
     /// # Errors
     ///
@@ -94,7 +94,7 @@ impl Volume {
         Ok(count as u32)
     }
 
-    // Reads the bytes of a file's sectors from `at` on, as many as `into` has room for.
+    // Reads the bytes of a file's sectors from `at` on, up to the room of `into`.
     fn read_bytes(
         &mut self,
         d: &mut dyn BlockDriver,
@@ -128,14 +128,14 @@ impl Volume {
     }
 }
 
-// How many bytes there are from a place on, up to a number of them.
+// The number of bytes from a place on, at most `room`.
 fn readable(size: u32, at: u32, room: usize) -> usize
     ensures { result ≡ min room (size - at) }
 {
     room.min(size.saturating_sub(at) as usize)
 }
 
-// Copies what the sector at byte `first` of a file has of the bytes of the file from `at` on.
+// Copies the bytes of the file from `at` on that are in the sector at byte `first` of the file.
 fn copy_piece(sector: &[u8; 256], first: usize, at: usize, into: &mut [u8])
     requires begins { at < first + 256 }
     requires ends { first < at + length into.old }

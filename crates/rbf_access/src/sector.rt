@@ -21,7 +21,7 @@ pub fn read_sector(d: &mut dyn BlockDriver, lsn: u32) -> Result<[u8; 256], Drive
     }
 }
 
-// Writes a sector. The image with it is well formed.
+// Writes a sector. The media with the new sector must be well formed.
 pub fn write_sector(d: &mut dyn BlockDriver, lsn: u32, from: &[u8; 256]) -> Result<(), DriveFault>
     requires on { lsn < sector_count (media d.old) }
     requires sound { IsSound (with_sector (media d.old) lsn from.now) }

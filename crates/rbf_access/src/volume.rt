@@ -13,8 +13,8 @@ use rbf_map::RbfMap;
 use rbf_sector::Ident;
 use sector_cache::SectorCache;
 
-/// A mounted volume: what its identification sector says, its allocation map, and the sectors that
-/// were used last.
+/// A mounted volume: the fields of its identification sector, its allocation map, and the sectors
+/// that were used last.
 #[derive(Drop)]
 pub struct Volume {
     pub ident: Ident,
@@ -91,8 +91,8 @@ impl Volume {
     ///
     /// # Errors
     ///
-    /// `Device` if the drive's write fails; the media is then unchanged, and the cache no longer holds
-    /// the sector.
+    /// `Device` if the drive's write fails; the media is then unchanged, and the cache no longer
+    /// holds the sector.
     pub fn store(
         &mut self,
         d: &mut dyn BlockDriver,

@@ -1,4 +1,4 @@
--- The entry of a new file that is written into a directory whose descriptor has been read.
+-- The entry of a new file, written into a directory whose descriptor has been read.
 use Rattle.std.specs.Prelude.{◌≡◌, ◌≢◌, ◌⊎◌, ℕ, ◌*◌, ◌/◌, ◌%◌, Bool, true, false, Option, Some, List, length, get_or, Result, Ok, Err}
 use Rattle.os9_base.specs.declared.registers.TimePacket.{TimePacket}
 use Rattle.rbf_model.specs.Disk.{image_disk}
@@ -28,8 +28,8 @@ pub record EntryWrite : Type 0 where
   pub entry : List ℕ
   pub now : TimePacket
 
--- the place of a new entry in directory d, and the entry of a new file, which stands on the disk, by a name that is not
--- in the directory
+-- the place of a new entry in directory d, and the entry of a new file, which is on the disk, by a name that is not in
+-- the directory
 pub record MayEnter (media : Option (List ℕ)) (d place : ℕ) (entry : List ℕ) : Type 0 where
   pub content : DiskVolume
   pub on : Represents media content
@@ -41,7 +41,7 @@ pub record MayEnter (media : Option (List ℕ)) (d place : ℕ) (entry : List �
   pub ready : IsReady (image_disk on.image) content d (descriptor_field entry)
   pub room : HasRoom content dir place 0
 
--- the same, where the place is the one behind the last entry
+-- the same, if the place is the one after the last entry
 pub record MayAppend (media : Option (List ℕ)) (d place : ℕ) (entry : List ℕ) : Type 0 where
   pub content : DiskVolume
   pub on : Represents media content
@@ -57,7 +57,7 @@ pub record MayAppend (media : Option (List ℕ)) (d place : ℕ) (entry : List �
 abbrev pub sector_of_place : List (ℕ × ℕ) → ℕ → ℕ
 sector_of_place segments place = get_or (sectors_of segments) (place / 8) 0
 
--- on the media the entry has its 32 bytes, and beside its sector only the map and the directory's descriptor have
+-- on the media the entry has its 32 bytes; apart from its sector, only the map and the directory's descriptor have
 -- changed; the directory has these segments
 pub record WritesEntry (old now : List ℕ) (segments : List (ℕ × ℕ)) (a : EntryWrite) : Type 0 where
   pub filled : sector now (sector_of_place segments a.place)
@@ -78,19 +78,19 @@ pub record IsEntryWritten (v : DiskVolume) (a : EntryWrite) (old new : Option (L
   pub put : EntryIsPut v after (sector image) a.directory a.place a.entry a.now
   pub writes : WritesEntry image now put.new.segments a
 
--- a sector is as it was, or these clusters were all marked before it was written: they are lost in the volume that is
+-- a sector is unchanged, or these clusters were all marked before it was written: they are lost in the volume that is
 -- left
 abbrev pub IsAfterMarks : List ℕ → List ℕ → ℕ → DiskVolume → (ℕ → Bool) → Type 0
 IsAfterMarks old now s left clusters =
     (sector now s ≡ sector old s) ⊎ ((c : ℕ) → clusters c ≡ true → left.lost c ≡ true)
 
--- the sector of an entry has its 32 bytes besides what it had; they are behind the last entry of the directory, which
--- does not count them yet
+-- the sector of an entry has the entry's 32 bytes, and its other bytes are unchanged; the entry is after the last entry
+-- of the directory, which does not count it yet
 pub record StandsBehind (old now : List ℕ) (dir : DiskFile) (s place : ℕ) (entry : List ℕ) : Type 0 where
   pub end : length dir.contents ≡ 32 * place
   pub filled : sector now s ≡ put_at (sector old s) (32 * (place % 8)) entry
 
--- a fault came before the entry was in the directory: the tree is as it was, and a cluster that was taken may be lost
+-- a fault occurred before the entry was in the directory: the tree is unchanged, and a taken cluster may be lost
 pub record EntryStops (v : DiskVolume) (dir : DiskFile) (a : EntryWrite) (old new : Option (List ℕ)) : Type 0 where
   pub image : List ℕ
   pub now : List ℕ
@@ -105,12 +105,12 @@ pub record EntryStops (v : DiskVolume) (dir : DiskFile) (a : EntryWrite) (old ne
   -- only the map and the entry's sector have changed
   pub others : (s : ℕ) → ¬ IsMapSector (image_geometry image) s
       → s ≢ sector_of_place (with_clusters (cluster_size v) dir.segments taken) a.place → sector now s ≡ sector image s
-  -- the entry's sector is as it was, or it was written after the marks of all clusters that the directory gains
+  -- the entry's sector is unchanged, or it was written after the marks of all clusters that the directory gains
   pub order : (sector now (sector_of_place (with_clusters (cluster_size v) dir.segments taken) a.place)
       ≡ sector image (sector_of_place (with_clusters (cluster_size v) dir.segments taken) a.place))
       ⊎ (StandsBehind image now dir (sector_of_place (with_clusters (cluster_size v) dir.segments taken) a.place)
       a.place a.entry × ((c : ℕ) → has taken c ≡ true → left.lost c ≡ true))
-  -- the file that it names is as it was
+  -- the file that it names is unchanged
   pub named : file_at (sector now) (descriptor_field a.entry) ≡ file_at (sector image) (descriptor_field a.entry)
   pub end : KeepsMapEnd image now (λ _. false)
 

@@ -7,16 +7,16 @@ use Rattle.rbf_change.specs.Growth.{clusters_needed}
 use Rattle.rbf_access.specs.declared.faults.FileFault.{FileFault}
 use Rattle.rbf_access.specs.declared.faults.FileFault.TheVariants.{Device, NoCluster, TooManyRuns}
 
--- how many clusters a directory needs besides, to have an entry in a place
+-- the number of clusters that a directory still needs to have an entry in a place
 abbrev pub place_clusters : DiskVolume → DiskFile → ℕ → ℕ
 place_clusters v dir place = clusters_needed (cluster_size v) dir.segments (32 * (place + 1))
 
--- there is room for so many clusters, and for those of the directory
+-- there is room for `clusters` clusters, and for those of the directory
 pub record HasRoom (v : DiskVolume) (dir : DiskFile) (place clusters : ℕ) : Type 0 where
   pub enough : clusters + place_clusters v dir place ≤ free_total v
   pub few : 0 < place_clusters v dir place → length dir.segments < 48
 
--- error 217: enough are free, and the directory needs one and has 48 segments already
+-- error 217: enough clusters are free, but the directory needs one and already has 48 segments
 pub record HasNoSegment (v : DiskVolume) (dir : DiskFile) (place clusters : ℕ) : Type 0 where
   pub enough : clusters + place_clusters v dir place ≤ free_total v
   pub needs : 0 < place_clusters v dir place

@@ -15,7 +15,7 @@ use rbf_access::{FileFault, Volume};
 use rbf_growth::grow;
 use rbf_write::Loaded;
 
-// Writes the entry of a new file behind the last one of a directory, which may gain a cluster for
+// Writes the entry of a new file after the last entry of a directory, which may gain a cluster for
 // it. The entry's sector is written first. The directory's descriptor is written last, and brings
 // the file into the volume.
 pub fn append_entry(

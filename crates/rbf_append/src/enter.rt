@@ -17,13 +17,13 @@ use rbf_access::{FileFault, Volume};
 use rbf_write::Loaded;
 
 /// Writes the entry of a new file into its place in a directory whose descriptor has been read: the
-/// first free one, or the one behind the last, for which the directory may gain a cluster. The file
-/// is in the volume by the last sector that is written (OS-9 Technical Reference, Random Block File
-/// Manager, "Directories").
+/// first free place, or the one after the last entry, for which the directory may gain a cluster.
+/// The last sector write brings the file into the volume (OS-9 Technical Reference, Random Block
+/// File Manager, "Directories").
 ///
 /// # Errors
 ///
-/// `Device` if an access of the drive fails: then the tree is as it was, and a cluster may be lost.
+/// `Device` if an access of the drive fails: then the tree is unchanged, and a cluster may be lost.
 pub fn enter_file(
     v: &mut Volume,
     d: &mut dyn BlockDriver,
@@ -50,7 +50,7 @@ pub fn enter_file(
     }
 }
 
-// Writes it into a free place.
+// Writes the entry into a free place.
 fn fill_place(
     v: &mut Volume,
     d: &mut dyn BlockDriver,

@@ -12,14 +12,14 @@ use rbf_access::{FileFault, Volume};
 use rbf_sector::Fd;
 use rbf_segs::{MAX_SEGMENTS, Segs};
 
-/// Tests that a volume has room for a new file of so many clusters, with an entry in this place of a
-/// directory whose descriptor is given (OS-9 Technical Reference, I$Create and I$MakDir).
+/// Tests that a volume has room for a new file of `clusters` clusters, with an entry in this place
+/// of a directory whose descriptor is given (OS-9 Technical Reference, I$Create and I$MakDir).
 ///
 /// # Errors
 ///
-/// In this order: `NoCluster` exactly if fewer clusters are free than the file and the directory
-/// need; `TooManyRuns` exactly if the directory needs a cluster and has all its segments already,
-/// also where the cluster would join the last of them.
+/// In this order: `NoCluster` if and only if fewer clusters are free than the file and the
+/// directory need; `TooManyRuns` if and only if the directory needs a cluster and already has all
+/// its segments, even if the cluster would join the last of them.
 pub fn check_room(v: &Volume, dir: &Fd, place: u32, clusters: u32) -> Result<(), FileFault>
     requires some { 1 ≤ v.now.ident.cluster }
     requires few { clusters < 65536 }
@@ -36,7 +36,8 @@ pub fn check_room(v: &Volume, dir: &Fd, place: u32, clusters: u32) -> Result<(),
     Ok(())
 }
 
-/// How many clusters a directory with these segments needs besides, to have an entry in a place.
+/// The number of clusters that a directory with these segments still needs to have an entry in a
+/// place.
 pub fn clusters_for_place(k: u16, segs: &Segs, place: u32) -> u32
     requires { 1 ≤ k }
     ensures count { result ≡ clusters_needed k segs.now (32 * (place + 1)) }

@@ -18,7 +18,7 @@ use rbf_sector::Fd;
 use rbf_segs::Segs;
 use rbf_write::Loaded;
 
-// Writes an entry of a directory into its sector, where its place is counted from 0.
+// Writes an entry of a directory into its sector; its place is counted from 0.
 pub fn put_entry(
     v: &mut Volume,
     d: &mut dyn BlockDriver,
@@ -51,7 +51,7 @@ fn put_bytes(sector: &mut [u8; 256], at: usize, from: &[u8])
     sector[at..at + from.len()].copy_from_slice(from);
 }
 
-// The descriptor of a directory that has another size, these segments, and the date of that change.
+// The descriptor of a directory with a new size, these segments, and the date of that change.
 pub fn longer_descriptor(loaded: &Loaded, longer: &Segs, size: u32, now: TimePacket) -> [u8; 256]
     requires list { segments_field loaded.now.descriptor ≡ loaded.now.file.segs }
     requires same { length (sectors_of longer.now) ≡ length (sectors_of loaded.now.file.segs)

@@ -1,4 +1,4 @@
--- What is kept of a mounted volume, and when it is that of the media.
+-- The kept part of a mounted volume, and when it is that of the media.
 use Rattle.std.specs.Prelude.{◌≡◌, ℕ, ◌*◌, ◌/◌, ◌<◌, ◌==◌, List, length}
 use Rattle.rbf_model.specs.Geometry.{Geometry, image_geometry, sector, map_sectors}
 use Rattle.rbf_model.specs.Space.{is_marked, cluster_count}

@@ -7,12 +7,11 @@ use Rattle.rbf_model.specs.Space.{own_sectors, has_cluster}
 use Rattle.rbf_model.specs.Segments.{shortened_segments}
 use Rattle.rbf_change.specs.Contents.{sector_count}
 
--- of the sectors of file n, the one before place j: the descriptor is before the first
+-- the sector of file n before place j; before the first is the descriptor
 abbrev pub sector_before : ℕ → DiskFile → ℕ → ℕ
 sector_before n file j = get_or (own_sectors n file) j 0
 
--- how many sectors are kept: those that the size needs, and the next ones that lie in the cluster of the one before
--- them
+-- the number of kept sectors: those that the size needs, and the next ones in the cluster of the sector before them
 abbrev pub kept_count : ℕ → ℕ → DiskFile → ℕ → ℕ
 kept_count k n file size =
     let needed = sector_count size in

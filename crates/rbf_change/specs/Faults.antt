@@ -1,4 +1,4 @@
--- What a call may leave where a drive's fault ended it. The fault came before the call's last write to the disk.
+-- What a call may leave if a drive's fault ended it. The fault occurred before the call's last write to the disk.
 use Rattle.std.specs.Prelude.{◌≡◌, ◌⊎◌, ℕ, ◌+◌, ◌%◌, ◌<◌, ◌&&◌, ◌||◌, Bool, true, List, [], length, take, Some}
 use Rattle.os9_base.specs.declared.registers.TimePacket.{TimePacket}
 use Rattle.rbf_model.specs.Geometry.{sector as image_sector}
@@ -13,24 +13,24 @@ use Rattle.rbf_change.specs.Cut.{cut_file, is_given_up}
 use Rattle.rbf_change.specs.Calls.{shape, cluster_size, is_free_in, replaced, minute_of}
 use Rattle.rbf_change.specs.NewFiles.{IsEntered, Plan, Deletes}
 
--- the volume is the same, but that some of these clusters may be lost now
+-- the volume is the same, except that some of these clusters may be lost now
 pub record MayLose (v w : DiskVolume) (clusters : ℕ → Bool) : Type 0 where
   pub same : w ≡ with_lost v w.lost
   pub still : (c : ℕ) → v.lost c ≡ true → w.lost c ≡ true
   pub only : (c : ℕ) → w.lost c ≡ true → (v.lost c || clusters c) ≡ true
 
--- the clusters that a file was to gain for a size: none, if the fault came before they were chosen, or a choice
+-- the clusters that a file was to gain for a size: none, if the fault occurred before the choice, or a choice
 abbrev pub IsPlanned : DiskVolume → DiskFile → ℕ → List ℕ → Type 0
 IsPlanned v old size clusters = (clusters ≡ []) ⊎ IsChoice (cluster_size v) (is_free_in v) old.segments size clusters
 
--- how many of the bytes of a write may be on the disk: those up to the end of a sector, or up to the file's size if
--- that comes first; never all
+-- the number of bytes of a write that may be on the disk: those up to the end of a sector, or up to the file's size if
+-- that is less; never all
 pub data IsFront (size at : ℕ) (bytes : List ℕ) : ℕ → Type 0 where
   none : IsFront size at bytes 0
   sector : {count : ℕ} → count < length bytes → at + count < size → (at + count) % 256 ≡ 0 → IsFront size at bytes count
   end : {count : ℕ} → count < length bytes → at + count ≡ size → IsFront size at bytes count
 
--- a file whose bytes from a place on are the first so many of others
+-- a file whose bytes from a place on are the first `count` of others
 abbrev pub with_front : DiskFile → ℕ → List ℕ → ℕ → DiskFile
 with_front file at bytes count = record file { contents = put_at file.contents at (take count bytes) }
 
@@ -39,7 +39,7 @@ pub record AllAreTaken (v w : DiskVolume) (old : DiskFile) (size : ℕ) (cluster
   pub choice : IsChoice (cluster_size v) (is_free_in v) old.segments size clusters
   pub lost : (c : ℕ) → has clusters c ≡ true → w.lost c ≡ true
 
--- a write to file n that was ended: a front of its bytes may be there, and clusters that it took may be lost
+-- an interrupted write to file n: a front of its bytes may be there, and clusters that it took may be lost
 pub record WriteEnds (v w : DiskVolume) (n at : ℕ) (bytes : List ℕ) : Type 0 where
   pub some : 0 < length bytes
   pub old : DiskFile
@@ -49,10 +49,10 @@ pub record WriteEnds (v w : DiskVolume) (n at : ℕ) (bytes : List ℕ) : Type 0
   pub taken : List ℕ
   pub planned : IsPlanned v old (length (written old.contents at bytes)) taken
   pub volume : MayLose (replaced v n (Some (with_front old at bytes count))) w (has taken)
-  -- the first byte comes after the last mark
+  -- the first byte is written after the last mark
   pub order : (count ≡ 0) ⊎ AllAreTaken v w old (length (written old.contents at bytes)) taken
 
--- a file that was to be made longer: it is as it was, and clusters that it took may be lost
+-- a file that was to be made longer: it is unchanged, and clusters that it took may be lost
 pub record LengthenEnds (v w : DiskVolume) (n size : ℕ) : Type 0 where
   pub old : DiskFile
   pub is : v.files n ≡ Some old
@@ -61,7 +61,7 @@ pub record LengthenEnds (v w : DiskVolume) (n size : ℕ) : Type 0 where
   pub planned : IsPlanned v old size taken
   pub volume : MayLose v w (has taken)
 
--- of the clusters that were given up one is still marked in the image that is left, since the fault came before the
+-- one of the clusters that were given up is still marked in the image that is left, since the fault occurred before the
 -- call's last write
 abbrev pub OneIsMarked : List ℕ → (ℕ → Bool) → Type 0
 OneIsMarked left given_up = (c : ℕ) × (given_up c ≡ true) × (is_marked (image_sector left) c ≡ true)
@@ -76,23 +76,23 @@ pub record CutEnds (left : List ℕ) (v w : DiskVolume) (n size : ℕ) (now : Ti
   pub volume : MayLose (replaced v n (Some new)) w (λ c. is_whole (shape v) c && is_given_up (shape v) n old new c)
   pub unfinished : OneIsMarked left (is_given_up (shape v) n old new)
 
--- a change of a size that was ended, and the image that is left
+-- an interrupted change of a size, and the image that is left
 pub data SizeEnds (left : List ℕ) (v w : DiskVolume) (n size : ℕ) (now : TimePacket) : Type 0 where
   before : w ≡ v → SizeEnds left v w n size now
   longer : LengthenEnds v w n size → SizeEnds left v w n size now
   cut : CutEnds left v w n size now → SizeEnds left v w n size now
 
--- a new file n and its directory d, of whose clusters some have been taken
+-- a new file n and its directory d, some of whose clusters have been taken
 pub record EntryEnds (v w : DiskVolume) (d n : ℕ) (name : List ℕ) (plan : Plan) : Type 0 where
   pub both : IsEntered v d n name plan
   pub volume : MayLose v w (λ c. has_cluster (shape v) n both.file c || has both.entry.gained c)
 
--- a new file that was ended: the tree is as it was, and clusters that were taken may be lost
+-- an interrupted creation: the tree is unchanged, and clusters that were taken may be lost
 pub data NewFileEnds (v w : DiskVolume) (d : ℕ) (name : List ℕ) (plan : ℕ → Plan) : Type 0 where
   before : w ≡ v → NewFileEnds v w d name plan
   taken : {n : ℕ} → EntryEnds v w d n name (plan n) → NewFileEnds v w d name plan
 
--- a deletion that was ended, and the image that is left: the tree is as it was, or file n has gone and its whole
+-- an interrupted deletion, and the image that is left: the tree is unchanged, or file n has been removed and its whole
 -- clusters may be lost
 pub data DeletionEnds (left : List ℕ) (v w : DiskVolume) (d n : ℕ) (name : List ℕ) : Type 0 where
   before : w ≡ v → DeletionEnds left v w d n name

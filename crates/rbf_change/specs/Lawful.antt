@@ -33,7 +33,7 @@ pub data IsLawful (disk : ℕ → List ℕ) (v : DiskVolume) : ℕ → List ℕ 
       (record { place = j; lsn = s; bytes = bytes }) n file
       → IsLawful disk v s bytes (with_file (shape v) (with_file_in_place v d (with_directory_entry dir i entry)) n None)
 
--- lawful writes, one after the other, from an image and its volume to another image and its volume
+-- lawful writes in a row, from an image and its volume to another image and its volume
 pub data AreLawful (image : List ℕ) (v : DiskVolume) : List ℕ → DiskVolume → Type 0 where
   done : AreLawful image v image v
   then : {now : List ℕ} {u w : DiskVolume} {s : ℕ} {bytes : List ℕ} → AreLawful image v now u → length bytes ≡ 256

@@ -16,7 +16,7 @@ marked_name (c ∷ next ∷ name) = c ∷ marked_name (next ∷ name)
 abbrev pub new_entry : List ℕ → ℕ → List ℕ
 new_entry name n = padded_name (marked_name name) ++ n / 65536 ∷ n / 256 % 256 ∷ n % 256 ∷ []
 
--- an entry that is made free: its first byte is 0, and the others stay
+-- an entry that is made free: its first byte is 0, and the others are unchanged
 abbrev pub freed_entry : List ℕ → List ℕ
 freed_entry entry = 0 ∷ drop 1 entry
 
@@ -24,12 +24,12 @@ freed_entry entry = 0 ∷ drop 1 entry
 abbrev pub new_listing : ℕ → ℕ → List ℕ
 new_listing n d = new_entry dot_dot d ++ new_entry dot n
 
--- where a new entry goes: to the first free place, else to the end
+-- the place of a new entry: the first free place, otherwise the end
 abbrev pub entry_place : List ℕ → ℕ
 entry_place contents =
     unwrap_or (position (λ entry. not (is_used entry)) (directory_entries contents)) (length contents / 32)
 
--- where an entry with this name is
+-- the place of the entry with this name
 abbrev pub place_of : List ℕ → List ℕ → Option ℕ
 place_of contents name = position (entry_has_name name) (directory_entries contents)
 
@@ -46,12 +46,12 @@ abbrev pub may_delete : Option DiskFile → ℕ → Bool
 may_delete None user = false
 may_delete (Some file) user = not (is_directory file) && file_permits file user 2
 
--- how a deletion ends that has found this descriptor
+-- the end of a deletion that has found this descriptor
 abbrev pub deletion_of : (ℕ → Option DiskFile) → ℕ → Option ℕ → WalkEnd
 deletion_of files user None = not_found
 deletion_of files user (Some n) = if may_delete (files n) user then arrives n else not_allowed
 
--- how a deletion of a name in a directory ends: at the file that goes, or why none does
+-- the end of a deletion of a name in a directory: at the file that is removed, or the reason why none is
 abbrev pub deletion_end : (ℕ → Option DiskFile) → DiskFile → List ℕ → ℕ → Bool → WalkEnd
 deletion_end files dir name user execute =
     if may_change dir user execute then deletion_of files user (look_up dir.contents name) else not_allowed

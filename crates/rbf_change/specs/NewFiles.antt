@@ -1,4 +1,4 @@
--- New files and their entries, and files that go.
+-- New files and their entries, and files that are removed.
 use Rattle.std.specs.Prelude.{◌≡◌, ℕ, ◌+◌, ◌-◌, ◌*◌, ◌/◌, ◌%◌, ◌==◌, ◌&&◌, ◌||◌, nat_lt, Bool, true, not, List, [], ◌∷◌, length, Option, Some, None, is_some, if◌then◌else◌}
 use Rattle.os9_base.specs.declared.registers.TimePacket.{TimePacket}
 use Rattle.rbf_model.specs.Fields.{directory_entry, descriptor_field}
@@ -12,7 +12,7 @@ use Rattle.rbf_change.specs.Growth.{with_clusters, clusters_needed, IsChoice}
 use Rattle.rbf_change.specs.Names.{new_entry, freed_entry, new_listing, entry_place, place_of, may_change, is_dots}
 use Rattle.rbf_change.specs.Calls.{shape, cluster_size, is_free_in, replaced, minute_of, day_of, WritesFile}
 
--- what a new file is to be: attributes, owner, contents, and the time when it is made
+-- the plan of a new file: attributes, owner, contents, and the time of its creation
 pub record Plan : Type 0 where
   pub attributes : ℕ
   pub owner : ℕ
@@ -28,15 +28,15 @@ abbrev pub directory_plan : ℕ → ℕ → TimePacket → ℕ → ℕ → Plan
 directory_plan attributes user now d n =
     record { attributes = 128 + attributes % 128; owner = user; contents = new_listing n d; made = now }
 
--- the first segment of a new file n: the sectors of its descriptor's cluster behind the descriptor
+-- the first segment of a new file n: the sectors of its descriptor's cluster after the descriptor
 abbrev pub first_segments : ℕ → ℕ → List (ℕ × ℕ)
 first_segments k n = if k == 1 then [] else (n + 1, k - 1) ∷ []
 
--- the clusters that are free when the one of descriptor n has been taken
+-- the clusters that are free after that of descriptor n has been taken
 abbrev pub free_but : ℕ → (ℕ → Bool) → ℕ → ℕ → Bool
 free_but k free n c = free c && not (c == n / k)
 
--- a new file n: its descriptor is the first sector of a free cluster, and it gains what its contents need besides
+-- a new file n: its descriptor is the first sector of a free cluster; it also gains the clusters that its contents need
 pub record IsNewFile (k : ℕ) (free : ℕ → Bool) (n : ℕ) (plan : Plan) (file : DiskFile) : Type 0 where
   pub cluster : ℕ
   pub first : n ≡ cluster * k
@@ -53,7 +53,7 @@ pub record IsNewFile (k : ℕ) (free : ℕ → Bool) (n : ℕ) (plan : Plan) (fi
     contents = plan.contents;
   }
 
--- the clusters that are free when file n has its own
+-- the clusters that are free after file n has taken its own
 abbrev pub free_without : Geometry → (ℕ → Bool) → ℕ → DiskFile → ℕ → Bool
 free_without g free n file c = free c && not (has_cluster g n file c)
 
@@ -89,15 +89,15 @@ pub data Refusal : Type 0 where
   no_cluster : Refusal
   too_many_runs : Refusal
 
--- how many clusters a directory needs besides for a new entry
+-- the number of clusters that a directory still needs for a new entry
 abbrev pub entry_clusters : ℕ → DiskFile → ℕ
 entry_clusters k dir = clusters_needed k dir.segments (32 * (entry_place dir.contents + 1))
 
--- how many a new file of this size needs, its descriptor's among them
+-- the number that a new file of this size needs, including its descriptor's
 abbrev pub file_clusters : ℕ → ℕ → ℕ
 file_clusters k size = 1 + clusters_needed k (first_segments k 0) size
 
--- whether a new file of a size is refused a name in a directory, and why: the first that applies
+-- whether a new file of a size is refused a name in a directory, and the first reason that applies
 abbrev pub entry_refusal : ℕ → ℕ → DiskFile → List ℕ → ℕ → Bool → ℕ → Option Refusal
 entry_refusal k free dir name user execute size =
     if is_dots name then Some bad_path
@@ -107,7 +107,7 @@ entry_refusal k free dir name user execute size =
     else (if nat_lt 0 (entry_clusters k dir) && (length dir.segments == 48) then Some too_many_runs
     else None))))
 
--- the entry in place i of directory d is free now, and file n that it named is no more
+-- the entry in place i of directory d is now free, and file n that it named is removed
 pub record Drops (v w : DiskVolume) (d i n : ℕ) : Type 0 where
   pub old : DiskFile
   pub is : v.files d ≡ Some old
@@ -124,6 +124,6 @@ pub record Deletes (v w : DiskVolume) (d n : ℕ) (name : List ℕ) : Type 0 whe
   pub there : place_of dir.contents name ≡ Some place
   pub drops : Drops v w d place n
 
--- attributes may be changed by the owner and by user 0
+-- the owner and user 0 may change attributes
 abbrev pub owns_file : DiskFile → ℕ → Bool
 owns_file file user = (user == 0) || (user == file.owner)

@@ -1,5 +1,5 @@
--- The steps of which a creation and a deletion are made: a new file whose clusters are lost, its entry, and the
--- clusters of a file that has gone.
+-- The steps of a creation and of a deletion: a new file whose clusters are lost, its entry, and the clusters of a
+-- removed file.
 use Rattle.std.specs.Prelude.{◌≡◌, ℕ, ◌*◌, ◌||◌, List, Some, None}
 use Rattle.os9_base.specs.declared.registers.TimePacket.{TimePacket}
 use Rattle.rbf_model.specs.Fields.{directory_entry, descriptor_field}
@@ -21,8 +21,8 @@ pub record FileIsMade (v w : DiskVolume) (disk : ℕ → List ℕ) (n : ℕ) (pl
   pub rest : IsNewList (disk n)
   pub volume : w ≡ with_lost v (λ c. v.lost c || has_cluster (shape v) n file c)
 
--- an entry has been put into place i of directory d: the file that it names is in the volume, and its clusters are
--- lost no more
+-- an entry has been put into place i of directory d: the file that it names is in the volume, and its clusters are no
+-- longer lost
 pub record EntryIsPut (v w : DiskVolume) (disk : ℕ
     → List ℕ) (d i : ℕ) (entry : List ℕ) (now : TimePacket) : Type 0 where
   pub old : DiskFile
@@ -32,7 +32,7 @@ pub record EntryIsPut (v w : DiskVolume) (disk : ℕ
   pub volume : w ≡ with_file (shape v) (replaced v d (Some new)) (descriptor_field entry)
       (Some (file_at disk (descriptor_field entry)))
 
--- an entry in place i of directory d has been made free: the file that it named has gone, and its whole clusters are
+-- an entry in place i of directory d has been made free: the file that it named is removed, and its whole clusters are
 -- lost
 pub record EntryIsFreed (v w : DiskVolume) (d i : ℕ) : Type 0 where
   pub old : DiskFile

@@ -10,8 +10,8 @@ ghost use Rattle.rbf_change.specs.NewFiles.{first_segments, entry_refusal, no_cl
 ghost use Rattle.rbf_change.specs.Faults.{IsFront, DeletionEnds};
 ghost use Rattle.rbf_change.specs.Examples.{short_file, scattered, only_far, near_and_far, smallest_root, file_of_two_clusters};
 
-/// A file of 255 bytes is written to at 255, at 256, at 257 and at 1,000: it has 256, 257, 258 and
-/// 1,001 bytes, in 1, 2, 2 and 4 sectors, and between its old end and the place are zeros.
+/// A file of 255 bytes is written to at 255, at 256, at 257 and at 1,000: it then has 256, 257, 258
+/// and 1,001 bytes, in 1, 2, 2 and 4 sectors, with zeros between its old end and the place.
 pub fn file_growth()
     ensures end { length (written short_file 255 (8 ∷ [])) ≡ 256 }
     ensures one_sector { sector_count 256 ≡ 1 }
@@ -23,8 +23,8 @@ pub fn file_growth()
     ensures zeros { bytes_from (written (replicate 258 7) 1000 (8 ∷ [])) 258 742 ≡ replicate 742 0 }
 {}
 
-/// A file with 48 segments that its size fills gains a cluster behind its last sector, and finds no
-/// place for another. Where no cluster is free, no file can be made.
+/// A file with 48 segments that its size fills gains a cluster after its last sector, and has no
+/// place for another. If no cluster is free, no file can be made.
 pub fn full_segment_list()
     ensures needs_one { clusters_needed 1 scattered (48 * 256 + 1) ≡ 1 }
     ensures refused { IsOneTooMany 1 only_far scattered (48 * 256 + 1) (120 ∷ []) }
@@ -32,21 +32,21 @@ pub fn full_segment_list()
     ensures none_free { entry_refusal 1 0 smallest_root (65 ∷ []) 0 false 0 ≡ Some no_cluster }
 {}
 
-/// A new file of one sector a cluster needs three clusters for 768 bytes. Where a fault ends that
-/// write, none of the bytes are in the file.
+/// In a volume of one sector per cluster, a new file needs three clusters for 768 bytes. If a fault
+/// ends that write, none of the bytes are in the file.
 pub fn write_fault()
     ensures needs_three { clusters_needed 1 (first_segments 1 9) 768 ≡ 3 }
     ensures nothing_seen { (count : ℕ) → IsFront 0 0 (replicate 768 1) count → count ≡ 0 }
 {}
 
-/// A deletion that a fault ended has left the volume as it was, or the file has gone.
+/// A deletion that a fault ended has left the volume unchanged, or has removed the file.
 pub fn delete_fault()
     ensures { (left : List ℕ) (v w : DiskVolume) (d n : ℕ) (name : List ℕ)
         → DeletionEnds left v w d n name → (w ≡ v) ⊎ (w.files n ≡ None) }
 {}
 
-/// With four sectors a cluster a new file has three sectors behind its descriptor. They hold 768
-/// bytes, one byte more takes a cluster, and a cut to nothing gives that one back.
+/// With four sectors per cluster, a new file has three sectors after its descriptor. They hold 768
+/// bytes; one byte more takes a cluster, and a cut to size 0 gives that one back.
 pub fn clusters_of_four()
     ensures first { first_segments 4 8 ≡ (9, 3) ∷ [] }
     ensures holds { clusters_needed 4 (first_segments 4 8) 768 ≡ 0 }
@@ -56,8 +56,8 @@ pub fn clusters_of_four()
     ensures cut { (cut_file 4 8 file_of_two_clusters 0 []).segments ≡ (9, 3) ∷ [] }
 {}
 
-/// A new entry: the name, bit 7 on its last character, zeros, and the descriptor's number. It goes
-/// behind the two entries of a directory that has no free one.
+/// A new entry: the name, bit 7 on its last character, zeros, and the descriptor's number. In a
+/// directory without a free entry it is put after the first two.
 pub fn new_entries()
     ensures bytes { new_entry (65 ∷ 66 ∷ []) 66051 ≡ 65 ∷ 194 ∷ (replicate 27 0 ++ 1 ∷ 2 ∷ 3 ∷ []) }
     ensures place { entry_place smallest_root.contents ≡ 2 }

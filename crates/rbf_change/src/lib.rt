@@ -1,6 +1,6 @@
-//! What each call makes of an RBF volume, and what it may leave where a drive's fault ended it.
+//! What each call makes of an RBF volume, and what it may leave if a drive's fault ended it.
 //!
-//! The definitions stand in `specs/`; the calls' contracts cite them. The functions here have no
+//! The definitions are in `specs/`; the calls' contracts cite them. The functions here have no
 //! parameters and no body: each states a law.
 #![tactic(auto)]
 

@@ -6,14 +6,14 @@ ghost use Rattle.rbf_model.specs.Volume.{DiskVolume, Vol};
 ghost use Rattle.rbf_model.specs.Writes.{put_sector};
 ghost use Rattle.rbf_change.specs.Lawful.{IsLawful, AreLawful};
 
-/// An image with one sector lawfully written represents the volume that the law says.
+/// An image after one lawful sector write represents the volume that the law gives.
 pub fn a_lawful_write_leaves_a_volume()
     ensures { (image : List ℕ) (v : DiskVolume) (s : ℕ) (bytes : List ℕ) (w : DiskVolume) →
         Vol image v → length bytes ≡ 256 → IsLawful (sector image) v s bytes w
         → Vol (put_sector image s bytes) w }
 {}
 
-/// And so does an image after any number of them.
+/// The same holds after any number of them.
 pub fn lawful_writes_leave_a_volume()
     ensures { (image : List ℕ) (v : DiskVolume) (now : List ℕ) (w : DiskVolume) →
         Vol image v → AreLawful image v now w → Vol now w }

@@ -1,4 +1,4 @@
--- Which link names a descriptor.
+-- The link that names a descriptor.
 use Rattle.std.specs.Prelude.{◌≡◌, ◌≢◌, ℕ, List, length, get_or, Contains, Option, Some, None}
 use Rattle.rbf_reach.specs.declared.links.Link.{Link}
 

@@ -1,4 +1,4 @@
--- What the rules find of an image that breaks none of them.
+-- What the rules find in an image that breaks none of them.
 use Rattle.std.specs.Prelude.{◌≡◌, ℕ, List}
 use Rattle.rbf_model.specs.Keeps.{Keeps}
 use Rattle.rbf_check.specs.declared.survey.Survey.{Survey}
@@ -6,7 +6,7 @@ use Rattle.rbf_reach.specs.Reading.{disk_on}
 use Rattle.rbf_reach.specs.Files.{AreFiles}
 use Rattle.rbf_reach.specs.Linked.{AreLinks}
 
--- the files that are reached and the links of an image that keeps the rules
+-- the reached files and the links of an image that keeps the rules
 pub record IsSurvey (survey : Survey) : Type 0 where
   pub files : AreFiles survey.image survey.files.items
   pub links : AreLinks (disk_on survey.image) survey.links.items

@@ -1,4 +1,4 @@
--- The tree that a check hands out of an image: what it tells of the volume.
+-- The tree that a check returns for an image: what it says of the volume.
 use Rattle.std.specs.Prelude.{◌≡◌, ℕ, ◌==◌, Bool, not, List, map, length, count_by, All, Some}
 use Rattle.std.specs.Int.{bit_at}
 use Rattle.rbf_model.specs.Fields.{directory_entry, entry_name_field}
@@ -10,7 +10,7 @@ use Rattle.rbf_model.specs.Counts.{file_count, directory_count}
 use Rattle.rbf_check.specs.declared.tree.Node.{Node}
 use Rattle.rbf_check.specs.declared.tree.Tree.{Tree}
 
--- the node has what the descriptor says of the file, and its contents
+-- the node has the descriptor's fields of the file, and its contents
 pub record TellsFile (node : Node) (file : DiskFile) : Type 0 where
   pub attributes : node.attr ≡ file.attributes
   pub owner : node.owner ≡ file.owner
@@ -19,8 +19,8 @@ pub record TellsFile (node : Node) (file : DiskFile) : Type 0 where
   pub links : node.links ≡ file.links
   pub contents : node.bytes ≡ file.contents
 
--- where a file stands: the root in itself, under the name `.`; any other in the directory that names it by an entry
--- after the first two, under the name of that entry
+-- the place of a file: the root is in itself, under the name `.`; any other is in the directory that names it by an
+-- entry after the first two, under the name of that entry
 pub data IsPlaced (g : Geometry) (v : DiskVolume) (n parent : ℕ) (name : List ℕ) : Type 0 where
   root : n ≡ g.root → parent ≡ g.root → name ≡ dot → IsPlaced g v n parent name
   named : {i : ℕ} → EntryNames (directories v.files parent) i n
@@ -33,8 +33,8 @@ pub record TellsNode (g : Geometry) (v : DiskVolume) (node : Node) : Type 0 wher
   pub tells : TellsFile node file
   pub place : IsPlaced g v node.fd node.parent node.name
 
--- the tree tells the volume: it has a node for each file, by rising descriptor number, and the counts of the free and
--- of the lost clusters
+-- the tree describes the volume: it has a node for each file, by rising descriptor number, and the numbers of free and
+-- of lost clusters
 pub record TellsVolume (g : Geometry) (v : DiskVolume) (tree : Tree) : Type 0 where
   pub numbers : map (λ node. node.fd) tree.nodes ≡ file_numbers g v
   pub each : All (TellsNode g v) tree.nodes
@@ -45,12 +45,12 @@ pub record TellsVolume (g : Geometry) (v : DiskVolume) (tree : Tree) : Type 0 wh
 abbrev pub is_directory_node : Node → Bool
 is_directory_node node = bit_at node.attr 7 == 1
 
--- as many nodes are no directories, and as many are, as the volume has such files
+-- the tree has the volume's number of files that are not directories, and its number of directories
 pub record CountsFiles (g : Geometry) (v : DiskVolume) (tree : Tree) : Type 0 where
   pub files : count_by (λ node. not (is_directory_node node)) tree.nodes ≡ file_count g v
   pub directories : count_by is_directory_node tree.nodes ≡ directory_count g v
 
--- the image represents a volume, and the tree tells it
+-- the image represents a volume, and the tree describes it
 pub record IsTreeOf (image : List ℕ) (tree : Tree) : Type 0 where
   pub volume : DiskVolume
   pub represents : Vol image volume

@@ -1,4 +1,4 @@
--- What the test of an image answers where it does not pass.
+-- The answer of the test of an image that does not pass.
 use Rattle.rbf_model.specs.Disk.{Disk}
 use Rattle.std.specs.Prelude.{◌≡◌, ◌⊎◌, ℕ, ◌<◌, ◌≤◌, List}
 use Rattle.rbf_model.specs.Faults.{Breaks, IsFault}
@@ -10,7 +10,7 @@ use Rattle.rbf_check.specs.declared.faults.CheckError.TheVariants.{Fault, OutOfM
 abbrev pub KeepsBefore : Disk → ℕ → Type 0
 KeepsBefore disk rule = (other at : ℕ) → other < rule → ¬ Breaks disk other at
 
--- of the rules that a disk breaks this is the least, and of the sectors that it is broken at the least
+-- the least rule that a disk breaks, and the least sector at which it is broken
 pub record IsLeastFault (disk : Disk) (rule lsn : ℕ) : Type 0 where
   pub broken : Breaks disk rule lsn
   pub least : (other at : ℕ) → Breaks disk other at → (rule < other) ⊎ ((rule ≡ other) × (lsn ≤ at))
@@ -25,7 +25,7 @@ abbrev pub IsErrorOf : List ℕ → CheckError → Type 0
 IsErrorOf image (Fault fault) = IsFault image fault.rule fault.lsn
 IsErrorOf image OutOfMemory = Unit {0}
 
--- the image represents no volume, unless out of memory
+-- the image does not represent a volume, unless out of memory
 abbrev pub RepresentsNone : List ℕ → CheckError → Type 0
 RepresentsNone image (Fault fault) = (v : DiskVolume) → ¬ Vol image v
 RepresentsNone image OutOfMemory = Unit {0}

@@ -1,4 +1,4 @@
--- The volume of an image that was surveyed.
+-- The volume of a surveyed image.
 use Rattle.rbf_reach.specs.Files.{found_numbers}
 use Rattle.rbf_reach.specs.Reading.{disk_on}
 use Rattle.std.specs.Prelude.{◌≡◌, ℕ, ◌*◌, List, drop, map, filter, is_some, All}
@@ -10,7 +10,7 @@ use Rattle.rbf_sector.specs.Ident.{geometry_of}
 use Rattle.rbf_check.specs.declared.tree.Node.{Node}
 use Rattle.rbf_check.specs.Tree.{TellsNode}
 
--- the volume of what was found
+-- the volume of the files found
 abbrev pub volume_from : Survey → DiskVolume
 volume_from survey =
     volume_of (disk_on survey.image) (found_numbers survey.files.items)

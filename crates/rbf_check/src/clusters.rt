@@ -41,7 +41,8 @@ fn note_segments(used: &mut Vec<bool>, cluster: u32, segs: &Segs)
     }
 }
 
-// How many of the system's sectors, which begin at LSN 0, are this file's: the root's has them.
+// The number of the system's sectors, which begin at LSN 0, that belong to this file: all if it is
+// the root.
 fn system_count(ident: &Ident, n: u32) -> u32
     ensures count { result ≡ system_count_of (geometry_of ident.now) n }
     ensures few { result < 1000 }
@@ -53,7 +54,7 @@ fn system_count(ident: &Ident, n: u32) -> u32
     }
 }
 
-// Notes the clusters of a file, and with the root's those of the system.
+// Notes the clusters of a file, and for the root also those of the system.
 fn note_file(used: &mut Vec<bool>, survey: &Survey<'_>, file: &FoundFile)
     requires survey { IsSurvey survey.now }
     requires file { IsFileOn survey.now.image file.now }
@@ -75,8 +76,7 @@ fn note_file(used: &mut Vec<bool>, survey: &Survey<'_>, file: &FoundFile)
     note_segments(used, cluster, &file.fd.segs);
 }
 
-/// Which clusters the files use: a mark for each, in a table of as many places as there are
-/// sectors.
+/// The clusters that the files use: a mark for each, in a table with one place per sector.
 pub fn list_used(alloc: Global, survey: &Survey<'_>) -> Result<Vec<bool>, AllocError>
     requires { IsSurvey survey.now }
     ensures { IfOk result

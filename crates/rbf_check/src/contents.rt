@@ -6,7 +6,7 @@ use crate::tree::FileBytes;
 use rbf_segs::Segs;
 use std::alloc::{AllocError, Global};
 
-/// The first bytes of the sectors of a segment list, as many as the size says.
+/// The first bytes of the sectors of a segment list, up to the size.
 pub fn read_contents(
     alloc: Global,
     image: &[u8],

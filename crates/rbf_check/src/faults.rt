@@ -14,7 +14,7 @@ use rbf_sector_rules::{
 use std::alloc::{AllocError, Global};
 use thiserror::Error;
 
-/// A rule of well formed images that is broken, by its number, and the sector that shows it.
+/// A broken rule of well formed images, by its number, and the sector that shows it.
 #[derive(Clone, Copy, Debug, PartialEq, Eq, Error)]
 #[error("rule {rule} at LSN {lsn}")]
 pub struct CheckFault {
@@ -41,7 +41,7 @@ impl From<AllocError> for CheckError {
     }
 }
 
-// Goes on where there is no breach of the rule.
+// Returns an error if there is a breach of the rule.
 fn pass(rule: u8, breach: Option<u32>) -> Result<(), CheckError>
     ensures { MatchResult result (λ _. breach ≡ None)
         (λ error. MatchOption breach ⊥
@@ -72,7 +72,7 @@ fn test_files(
     Ok(())
 }
 
-// Tests the rules on entries and names, 7 to 9, where the others are kept.
+// Tests the rules on entries and names, 7 to 9, if the others are kept.
 fn test_tree(
     alloc: Global,
     image: &IdentifiedImage<'_>,
@@ -91,11 +91,11 @@ fn test_tree(
     Ok(())
 }
 
-/// The links of the files that are found, where no rule is broken.
+/// The links of the files that are found, if no rule is broken.
 ///
 /// # Errors
 ///
-/// The breach of the least rule that is broken, and of those the one at the least sector.
+/// The breach of the least broken rule, at the least sector that breaks it.
 pub fn test_rules(
     alloc: Global,
     image: &IdentifiedImage<'_>,

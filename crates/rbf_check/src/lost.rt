@@ -12,8 +12,8 @@ use crate::space::is_lost;
 use crate::survey::{Survey, survey_image};
 use std::alloc::{AllocError, Global};
 
-/// Checks an image, and hands out the numbers of the clusters that are in use for nothing, by rising
-/// number.
+/// Checks an image, and returns the numbers of the clusters that are marked but in no file, by
+/// rising number.
 ///
 /// # Errors
 ///
@@ -28,7 +28,7 @@ pub fn lost_list(alloc: Global, image: &[u8]) -> Result<Vec<u32>, CheckError>
     Ok(lost)
 }
 
-// The clusters of a surveyed image that are lost.
+// The lost clusters of a surveyed image.
 fn lost_clusters(alloc: Global, survey: &Survey<'_>, used: &[bool]) -> Result<Vec<u32>, AllocError>
     requires survey { IsSurvey survey.now }
     requires used { AreUsed (disk_on survey.now.image) (found_numbers survey.now.files.items)

@@ -39,7 +39,7 @@ fn read_node(alloc: Global, image: &[u8], n: u32, place: Place) -> Result<Node, 
     })
 }
 
-/// The nodes of all files of an image that was surveyed.
+/// The nodes of all files of a surveyed image.
 pub fn read_nodes(alloc: Global, survey: &Survey<'_>) -> Result<Nodes, AllocError>
     requires { IsSurvey survey.now }
     ensures { IfOk result

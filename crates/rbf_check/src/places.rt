@@ -17,14 +17,14 @@ use os9_base::name::{Name, header_name, parse_name};
 use rbf_reach::{Link, link_entry};
 use std::alloc::{AllocError, Global};
 
-/// Where a file stands in the tree: its directory, and its name there.
+/// The place of a file in the tree: its directory, and its name there.
 #[derive(Clone, Copy, Debug)]
 pub struct Place {
     pub parent: u32,
     pub name: Name,
 }
 
-/// A table that has for each descriptor the link that names it.
+/// A table of the link that names each descriptor.
 pub fn list_places(
     alloc: Global,
     total: u32,
@@ -47,7 +47,7 @@ fn root_name() -> Name
     parse_name(b".").unwrap()
 }
 
-// The name that a link gives.
+// The name in the entry of a link.
 fn link_name(survey: &Survey<'_>, link: &Link) -> Name
     requires survey { IsSurvey survey.now }
     requires link { IsLinkOn (disk_on survey.now.image) link.now }
@@ -58,7 +58,7 @@ fn link_name(survey: &Survey<'_>, link: &Link) -> Name
     header_name(&entry.name).unwrap()
 }
 
-/// Where the file of a descriptor stands, if it is reached.
+/// The place of the file of a descriptor, if it is reached.
 pub fn place_of(survey: &Survey<'_>, places: &[Option<Link>], n: u32) -> Option<Place>
     requires survey { IsSurvey survey.now }
     requires places { ArePlaces survey.now.links.items survey.now.image.ident.total places.now }

@@ -15,14 +15,14 @@ use rbf_reach::is_marked;
 use rbf_sector::Ident;
 use std::alloc::{AllocError, Global};
 
-/// How many clusters are free, and how many are lost.
+/// The numbers of free and of lost clusters.
 #[derive(Clone, Copy, Debug)]
 pub struct Space {
     pub free: u32,
     pub lost: u32,
 }
 
-// Are the sectors of this cluster all below the total?
+// Whether the sectors of this cluster are all below the total.
 fn is_whole(ident: &Ident, c: u32) -> bool
     ensures { result ≡ is_whole_lem (geometry_of ident.now) c }
 {
@@ -47,7 +47,7 @@ pub fn is_lost(survey: &Survey<'_>, used: &[bool], c: u32) -> bool
     is_whole(&survey.image.ident, c) && is_marked(survey.image.bytes, c) && !used[c as usize]
 }
 
-// Counts the clusters that are free, and those that are lost.
+// Counts the free and the lost clusters.
 fn count_clusters(survey: &Survey<'_>, used: &[bool]) -> Space
     requires survey { IsSurvey survey.now }
     requires used { AreUsed (disk_on survey.now.image) (found_numbers survey.now.files.items)
@@ -70,7 +70,7 @@ fn count_clusters(survey: &Survey<'_>, used: &[bool]) -> Space
     space
 }
 
-/// How many clusters of an image that was surveyed are free, and how many are lost.
+/// The numbers of free and of lost clusters of a surveyed image.
 pub fn measure_space(alloc: Global, survey: &Survey<'_>) -> Result<Space, AllocError>
     requires { IsSurvey survey.now }
     ensures free { IfOk result

@@ -6,7 +6,7 @@ use crate::faults::{CheckError, CheckFault, test_rules};
 use rbf_reach::{FoundFile, IdentifiedImage, Link, find_files, identify};
 use std::alloc::Global;
 
-/// What the rules found of an image that breaks none of them: the files that are reached from the
+/// What the rules found in an image that breaks none of them: the files that are reached from the
 /// root, and the entries that name them.
 #[derive(Debug, Drop)]
 pub struct Survey<'a> {
@@ -15,12 +15,12 @@ pub struct Survey<'a> {
     pub links: Vec<Link>,
 }
 
-/// Tests an image against the rules of well formed RBF volumes, and hands on what they found.
+/// Tests an image against the rules of well formed RBF volumes, and returns what they found.
 ///
 /// # Errors
 ///
-/// `Fault` with the least rule that the image breaks, at the least sector: exactly where the image
-/// represents no volume, unless out of memory. `OutOfMemory` if out of memory.
+/// `Fault` with the least rule that the image breaks, at the least sector: if and only if the image
+/// does not represent a volume, unless out of memory. `OutOfMemory` if out of memory.
 pub fn survey_image(alloc: Global, image: &[u8]) -> Result<Survey<'_>, CheckError>
     ensures survey { IfOk result (IsSurveyOf image.now) }
     ensures fault { IfErr result (IsErrorOf image.now) }

@@ -4,7 +4,7 @@ ghost use Rattle.rbf_check.specs.Tree.{is_directory_node};
 use os9_base::name::Name;
 use std::marker::Model;
 
-/// The contents of a file. A clause sees the list of the bytes.
+/// The contents of a file. Clauses see them as the list of the bytes.
 #[derive(Debug, Drop)]
 pub struct FileBytes {
     bytes: Vec<u8>,
@@ -35,8 +35,8 @@ impl FileBytes {
 }
 
 /// A file or a directory of a volume: its descriptor's number, the directory that names it, its
-/// name there, what its descriptor says of it, and its contents (OS-9 Technical Reference, Random
-/// Block File Manager, "File Descriptors").
+/// name there, its descriptor's fields, and its contents (OS-9 Technical Reference, Random Block
+/// File Manager, "File Descriptors").
 ///
 /// The root has itself as parent and the name `.`. `modified` is year, month, day, hour and
 /// minute, `created` year, month and day; the year is counted from 1900.
@@ -54,7 +54,7 @@ pub struct Node {
 }
 
 impl Node {
-    /// Is it a directory?
+    /// Whether it is a directory.
     pub fn is_directory(&self) -> bool
         ensures { result ≡ is_directory_node self.now }
     {
@@ -62,8 +62,7 @@ impl Node {
     }
 }
 
-/// The files and directories of a volume, by rising descriptor number. A clause sees the list of
-/// them.
+/// The files and directories of a volume, by rising descriptor number. Clauses see them as a list.
 #[derive(Debug, Drop)]
 pub struct Nodes {
     nodes: Vec<Node>,
@@ -89,14 +88,14 @@ impl Nodes {
         Nodes { nodes }
     }
 
-    /// How many there are.
+    /// The number of nodes.
     pub fn len(&self) -> u32
         ensures { result ≡ length self.now }
     {
         self.nodes.len() as u32
     }
 
-    /// The one in place `i`.
+    /// The node in place `i`.
     pub fn node(&self, i: u32) -> &Node
         requires { i < length self.now }
         ensures { slice_get self.now i ≡ Some result.now }
@@ -104,7 +103,7 @@ impl Nodes {
         &self.nodes[i as usize]
     }
 
-    // How many are no directories.
+    // The number of files that are not directories.
     fn files(&self) -> u32
         ensures { result ≡ count_by (λ node. not (is_directory_node node)) self.now }
     {
@@ -114,7 +113,7 @@ impl Nodes {
             .count() as u32
     }
 
-    // How many are directories.
+    // The number of directories.
     fn directories(&self) -> u32
         ensures { result ≡ count_by is_directory_node self.now }
     {
@@ -122,8 +121,8 @@ impl Nodes {
     }
 }
 
-/// What an image holds: its files and directories, how many clusters are free, and how many are
-/// lost, which means whole, marked and in no file.
+/// What an image holds: its files and directories, the number of free clusters, and the number of
+/// lost clusters, which are whole, marked and in no file.
 #[derive(Debug, Drop)]
 pub struct Tree {
     pub nodes: Nodes,
@@ -132,14 +131,14 @@ pub struct Tree {
 }
 
 impl Tree {
-    /// How many files there are that are no directories.
+    /// The number of files that are not directories.
     pub fn files(&self) -> u32
         ensures { result ≡ count_by (λ node. not (is_directory_node node)) self.now.nodes }
     {
         self.nodes.files()
     }
 
-    /// How many directories there are, the root among them.
+    /// The number of directories, including the root.
     pub fn directories(&self) -> u32
         ensures { result ≡ count_by is_directory_node self.now.nodes }
     {

@@ -9,13 +9,13 @@ use crate::survey::survey_image;
 use crate::tree::Tree;
 use std::alloc::Global;
 
-/// Checks an image against the rules of well formed RBF volumes, and hands out the tree of the
-/// volume that it represents.
+/// Checks an image against the rules of well formed RBF volumes, and returns the tree of the volume
+/// that it represents.
 ///
 /// # Errors
 ///
-/// `Fault` with the least rule that the image breaks, at the least sector: exactly where the image
-/// represents no volume, unless out of memory. `OutOfMemory` if out of memory.
+/// `Fault` with the least rule that the image breaks, at the least sector: if and only if the image
+/// does not represent a volume, unless out of memory. `OutOfMemory` if out of memory.
 #[tactic(auto, using(crate::proofs::NoVolume::represents_none))]
 pub fn check(alloc: Global, image: &[u8]) -> Result<Tree, CheckError>
     ensures tree { IfOk result (IsTreeOf image.now) }

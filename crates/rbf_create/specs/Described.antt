@@ -1,9 +1,9 @@
--- The fields of a descriptor, all of them.
+-- All fields of a descriptor.
 use Rattle.std.specs.Prelude.{◌≡◌, ℕ, List}
 use Rattle.rbf_model.specs.Fields.{attributes_field, owner_field, modified_field, links_field, size_field, created_field, segments_field}
 use Rattle.rbf_sector.specs.declared.fd.Fd.{Fd}
 
--- the descriptor has these
+-- the descriptor has these fields
 pub record IsReadAs (file : Fd) (bytes : List ℕ) : Type 0 where
   pub attributes_are : attributes_field bytes ≡ file.attr
   pub owner_is : owner_field bytes ≡ file.owner

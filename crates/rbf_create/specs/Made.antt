@@ -15,7 +15,7 @@ use Rattle.rbf_access.specs.Faults.{file_fault}
 use Rattle.rbf_access.specs.declared.faults.FileFault.{FileFault}
 use Rattle.rbf_access.specs.declared.faults.FileFault.TheVariants as fault
 
--- no sector has changed but those of the map and sector n, and no mark past the clusters
+-- only sector n and sectors of the map have changed, and no mark past the clusters has
 pub record WritesDescriptor (old now : List ℕ) (n : ℕ) : Type 0 where
   pub others : (s : ℕ) → ¬ IsMapSector (image_geometry old) s → s ≢ n → sector now s ≡ sector old s
   pub end : KeepsMapEnd old now (λ _. false)
@@ -31,11 +31,11 @@ pub record IsMade (v : DiskVolume) (n : ℕ) (plan : Plan) (old new : Option (Li
   pub made : FileIsMade v left (sector now) n plan
   -- its clusters were free
   pub fresh : (c : ℕ) → has_cluster (shape v) n made.file c ≡ true → is_free_in v c ≡ true
-  -- and may be given an entry in any directory
+  -- and it may be given an entry in any directory
   pub ready : (d : ℕ) → IsReady (image_disk now) left d n
   pub writes : WritesDescriptor image now n
 
--- a fault came before that: clusters that the file was to have may be lost
+-- a fault occurred before that: clusters that the file was to have may be lost
 pub record MakingEnds (v : DiskVolume) (plan : Plan) (old new : Option (List ℕ)) : Type 0 where
   pub image : List ℕ
   pub now : List ℕ
@@ -50,14 +50,14 @@ pub record MakingEnds (v : DiskVolume) (plan : Plan) (old new : Option (List ℕ
   pub others : (s : ℕ) → ¬ IsMapSector (image_geometry image) s → sector now s ≡ sector image s
   pub end : KeepsMapEnd image now (λ _. false)
 
--- what a call that makes a file answers, in the volume that the media represents before
+-- the answers of a call that makes a file in the volume that the media represents before
 pub record Makes (v : DiskVolume) (plan : Plan) (old new : Option (List ℕ)) (result : Result ℕ FileFault)
     : Type 0 where
-  -- the answer is the number of the file, which is on the media
+  -- the answer is the number of the new file, which is on the media
   pub made : IfOk result (λ n. IsMade v n plan old new)
-  -- too few clusters are free for it
+  -- too few clusters are free for the file
   pub full : IsErrOf result fault.NoCluster ↔ (free_total v < file_clusters (cluster_size v) (length plan.contents))
-  -- its segments are few
+  -- it never has too many segments
   pub runs : ¬ IsErrOf result fault.TooManyRuns
   -- an access of the drive has failed
   pub ends : IfSome (file_fault result) (λ _. MakingEnds v plan old new)

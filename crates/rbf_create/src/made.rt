@@ -13,15 +13,15 @@ use rbf_access::{FileFault, Volume};
 use rbf_growth::grow;
 use rbf_segs::Segs;
 
-/// Makes a file without contents and without a name, and answers the number of its descriptor: it
-/// is the first sector of a free cluster, and the other sectors of that cluster are the file's
+/// Makes a file without contents and without a name, and returns the number of its descriptor,
+/// which is the first sector of a free cluster. The other sectors of that cluster are the file's
 /// first segment. The cluster is lost until an entry names the file (OS-9 Technical Reference,
 /// Random Block File Manager, "File Descriptors").
 ///
 /// # Errors
 ///
-/// `NoCluster` exactly if no cluster is free: then nothing has changed. `Device` if a write of the
-/// drive fails: then the cluster may be lost.
+/// `NoCluster` if and only if no cluster is free: then nothing has changed. `Device` if a write of
+/// the drive fails: then the cluster may be lost.
 pub fn create_fd(
     volume: &mut Volume,
     d: &mut dyn BlockDriver,

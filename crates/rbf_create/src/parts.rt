@@ -23,8 +23,8 @@ pub fn first_segs(k: u16, n: u32) -> Segs
     segs
 }
 
-/// The sector of a new descriptor with these fields: zeros are behind its list of segments (OS-9
-/// Technical Reference, Random Block File Manager, "File Descriptors").
+/// The sector of a new descriptor with these fields, and with zeros after its list of segments
+/// (OS-9 Technical Reference, Random Block File Manager, "File Descriptors").
 pub fn descriptor(file: &Fd) -> [u8; 256]
     ensures whole { length result ≡ 256 }
     ensures fields { IsReadAs file.now result }

@@ -15,19 +15,19 @@ use rbf_access::Volume;
 use rbf_make::find_place;
 use rbf_walk::DirError;
 
-/// Creates a file without contents in a directory, for a user, and answers the number of its
-/// descriptor (OS-9 Technical Reference, I$Create). Its entry goes into the first free place of the
-/// directory, or behind the last entry, and is there by the last sector that is written. What is
-/// needed is tested before anything is taken.
+/// Creates a file without contents in a directory, for a user, and returns the number of its
+/// descriptor (OS-9 Technical Reference, I$Create). Its entry is put into the first free place of
+/// the directory, or after the last entry, by the last sector write. All conditions are checked
+/// before anything is taken.
 ///
 /// # Errors
 ///
-/// In this order: `BadPath` for the names `.` and `..`, before any access of the drive; `NotAllowed`
-/// if the user may not search or may not write the directory; `Exists` if the name is there;
-/// `NoCluster` if fewer clusters are free than the file and its entry need; `TooManyRuns` if the
-/// directory needs a cluster and has all its segments already. Then nothing has changed. `Device` if
-/// an access of the drive fails: then the tree is as it was, and clusters may be lost. In a call that
-/// was to be refused for any of these causes it changes nothing.
+/// In this order: `BadPath` for the names `.` and `..`, before any access of the drive;
+/// `NotAllowed` if the user may not search or may not write the directory; `Exists` if the name is
+/// there; `NoCluster` if fewer clusters are free than the file and its entry need; `TooManyRuns` if
+/// the directory needs a cluster and already has all its segments. Then nothing has changed.
+/// `Device` if an access of the drive fails: then the tree is unchanged, and clusters may be lost.
+/// If the call would have been refused for any of these causes, a drive fault changes nothing.
 pub fn create(
     v: &mut Volume,
     d: &mut dyn BlockDriver,

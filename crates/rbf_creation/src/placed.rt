@@ -15,17 +15,17 @@ use rbf_append::{check_room, enter_file};
 use rbf_create::create_fd;
 use rbf_make::{NewPlace, new_entry};
 
-/// Creates a file without contents by a name that a directory has not, whose entry goes into the
-/// place that [`rbf_make::find_place`] has answered, for the user for whom it was found, and answers
-/// the number of its descriptor (OS-9 Technical Reference, I$Create). What is needed is tested before
-/// anything is taken, and the entry is there by the last sector that is written.
+/// Creates a file without contents, by a name that is not in the directory, and returns the number
+/// of its descriptor (OS-9 Technical Reference, I$Create). Its entry is put into the place that
+/// [`rbf_make::find_place`] has returned for this name and user. All conditions are checked before
+/// anything is taken, and the last sector write puts the entry there.
 ///
 /// # Errors
 ///
 /// In this order: `NoCluster` if fewer clusters are free than the file and its entry need,
-/// `TooManyRuns` if the directory needs a cluster and has all its segments already: then nothing has
-/// changed, and no call of the drive was made. `Device` if an access of the drive fails: then the
-/// tree is as it was, and clusters may be lost.
+/// `TooManyRuns` if the directory needs a cluster and already has all its segments: then nothing
+/// has changed, and no call of the drive was made. `Device` if an access of the drive fails: then
+/// the tree is unchanged, and clusters may be lost.
 pub fn create_at(
     v: &mut Volume,
     d: &mut dyn BlockDriver,

@@ -14,14 +14,14 @@ pub record IsReleasing (v : DiskVolume) (old : List ℕ) (k : ℕ) (cut : CutSec
   pub agrees : Agrees kept old
   pub may : MayClear v old (in_rest k cut)
 
--- some volume
+-- the same for some volume
 pub record MayRelease (k : ℕ) (cut : CutSectors) (media : Option (List ℕ)) (kept : KeptVolume) : Type 0 where
   pub volume : DiskVolume
   pub old : List ℕ
   pub is : IsReleasing volume old k cut media kept
 
--- a fault came at a sector of the map that has a mark of the clusters; those with their mark in one before it have
--- been given back
+-- a fault occurred at a sector of the map that has a mark of the clusters; those with their mark in an earlier sector
+-- have been given back
 pub record ReleaseEnds (v : DiskVolume) (old : List ℕ) (gone : ℕ → Bool) (media : Option (List ℕ)) (kept : KeptVolume)
     : Type 0 where
   pub place : ℕ
@@ -30,7 +30,7 @@ pub record ReleaseEnds (v : DiskVolume) (old : List ℕ) (gone : ℕ → Bool) (
   pub given_up : gone some ≡ true
   pub still : before gone place some ≡ false
 
--- by the answer: all of them have been given back, or a fault came
+-- by the answer: all of them have been given back, or a fault occurred
 abbrev pub AnswersRelease : {Done Fault : Type 0} → DiskVolume → List ℕ → (ℕ → Bool) → Option (List ℕ) → KeptVolume
     → Result Done Fault → Type 0
 AnswersRelease v old gone media kept (Ok done) = IsCleared v old gone media kept

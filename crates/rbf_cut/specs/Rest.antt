@@ -1,4 +1,4 @@
--- The clusters that a file gives up which is cut.
+-- The clusters that a file gives up when it is cut.
 use Rattle.std.specs.Prelude.{◌≡◌, ℕ, ◌&&◌, Bool, true, false, not}
 use Rattle.rbf_drop.specs.Own.{in_own, in_stretch}
 use Rattle.rbf_drop.specs.declared.own.Stretch.{Stretch}
@@ -8,7 +8,7 @@ use Rattle.rbf_cut.specs.declared.rest.CutSectors.{CutSectors}
 abbrev pub in_rest : ℕ → CutSectors → ℕ → Bool
 in_rest k cut c = in_own k cut.old c && not (in_own k cut.kept c)
 
--- a cluster of a stretch has none of the kept ones
+-- a cluster of a stretch has none of the kept sectors
 abbrev pub in_rest_of : ℕ → CutSectors → Stretch → ℕ → Bool
 in_rest_of k cut part c = in_stretch part c && not (in_own k cut.kept c)
 

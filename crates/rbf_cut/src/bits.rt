@@ -15,7 +15,7 @@ pub fn clear_rest(bytes: &mut [u8; 256], cut: &CutSectors, k: u16, place: u16)
     }
 }
 
-// Of clusters that follow one another, all with their marks in that sector.
+// The same for clusters that follow one another, all with their marks in that sector.
 fn clear_stretch(bytes: &mut [u8; 256], cut: &CutSectors, k: u16, place: u16, part: &Stretch)
     requires some { 1 ≤ k }
     requires there { (c : ℕ) → in_stretch part.now c ≡ true → c / 2048 ≡ place }
@@ -26,7 +26,7 @@ fn clear_stretch(bytes: &mut [u8; 256], cut: &CutSectors, k: u16, place: u16, pa
     }
 }
 
-// Of one cluster.
+// The same for one cluster.
 fn clear_one(bytes: &mut [u8; 256], cut: &CutSectors, k: u16, place: u16, c: u32)
     requires some { 1 ≤ k }
     requires there { c / 2048 ≡ place }

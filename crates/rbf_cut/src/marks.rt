@@ -6,8 +6,7 @@ use crate::rest::CutSectors;
 use rbf_drop::{Stretch, free_one};
 use rbf_map::RbfMap;
 
-// Clears the marks of the clusters that are given up in a map, as far as they are in its sector
-// `place`.
+// Clears the marks in a map of the clusters that are given up, if they are in its sector `place`.
 pub fn free_rest(map: &mut RbfMap, cut: &CutSectors, k: u16, place: u16)
     requires some { 1 ≤ k }
     requires in_map { AreInMap (in_rest k cut.now) map.old }
@@ -18,7 +17,7 @@ pub fn free_rest(map: &mut RbfMap, cut: &CutSectors, k: u16, place: u16)
     }
 }
 
-// Of clusters that follow one another, all with their marks in that sector.
+// The same for clusters that follow one another, all with their marks in that sector.
 fn free_stretch(map: &mut RbfMap, cut: &CutSectors, k: u16, place: u16, part: &Stretch)
     requires some { 1 ≤ k }
     requires there { (c : ℕ) → in_stretch part.now c ≡ true → c / 2048 ≡ place }
@@ -30,7 +29,7 @@ fn free_stretch(map: &mut RbfMap, cut: &CutSectors, k: u16, place: u16, part: &S
     }
 }
 
-// Of one cluster.
+// The same for one cluster.
 fn free_if_given_up(map: &mut RbfMap, cut: &CutSectors, k: u16, place: u16, c: u32)
     requires some { 1 ≤ k }
     requires there { c / 2048 ≡ place }

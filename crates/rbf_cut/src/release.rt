@@ -17,9 +17,9 @@ use os9_outer::drive::BlockDriver;
 use rbf_access::{FileFault, Volume};
 use rbf_sector::system_sectors;
 
-/// Gives back the clusters of a file that has been cut which have none of its sectors any more: each
-/// sector of the map that has a mark of them is written once (OS-9 Technical Reference, Random Block
-/// File Manager, "Disk Allocation Map").
+/// Gives back the clusters of a file that no longer have any of its sectors after a cut: each
+/// sector of the map that has a mark of them is written once (OS-9 Technical Reference, Random
+/// Block File Manager, "Disk Allocation Map").
 ///
 /// # Errors
 ///
@@ -49,7 +49,7 @@ pub fn release_rest(
 }
 
 // Gives back those of the clusters that have their marks in the map's sector `place`, if there are
-// any: the sector is written without the marks, and then what is kept has them no more.
+// any: the sector is written without the marks, and then the kept map no longer has them.
 fn release_in(
     volume: &mut Volume,
     d: &mut dyn BlockDriver,

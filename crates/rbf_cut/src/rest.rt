@@ -12,7 +12,7 @@ pub struct CutSectors {
 }
 
 impl CutSectors {
-    // Does a kept sector lie in this cluster, whose mark is in the map's sector `place`?
+    // Whether a kept sector is in this cluster, whose mark is in the map's sector `place`.
     pub fn keeps(&self, k: u16, place: u16, c: u32) -> bool
         requires some { 1 ≤ k }
         requires there { c / 2048 ≡ place }
@@ -27,8 +27,7 @@ impl CutSectors {
         false
     }
 
-    // A cluster that is given up and has its mark in the map's sector `place`. None if there is
-    // none.
+    // A cluster that is given up and has its mark in the map's sector `place`, if there is one.
     pub fn first_in(&self, k: u16, place: u16) -> Option<u32>
         requires { 1 ≤ k }
         ensures { MatchOption result (NoneHere (in_rest k self.now) place)
@@ -43,8 +42,7 @@ impl CutSectors {
         None
     }
 
-    // The first of these clusters, all with their marks in the map's sector `place`, that is given
-    // up.
+    // The first given-up cluster of these, all with their marks in the map's sector `place`.
     fn first_of(&self, k: u16, place: u16, part: &Stretch) -> Option<u32>
         requires some { 1 ≤ k }
         requires there { (c : ℕ) → in_stretch part.now c ≡ true → c / 2048 ≡ place }

@@ -15,16 +15,16 @@ use rbf_update::find_deletable;
 use rbf_walk::DirError;
 
 /// Deletes a file by its name in a directory, for a user (OS-9 Technical Reference, I$Delete): its
-/// entry is made free, and then its clusters are. The calls of the drive are at most those of the
-/// search up to the name, one for the descriptor that is found, a read and a write of the entry's
-/// sector, and one for each sector of the map that has a mark of the file's clusters.
+/// entry is made free, and then its clusters are. It makes at most these calls of the drive: those
+/// of the search up to the name, one for the descriptor that is found, a read and a write of the
+/// entry's sector, and one for each sector of the map that has a mark of the file's clusters.
 ///
 /// # Errors
 ///
-/// `NotAllowed` if the user may not search or may not write the directory, and for a directory or
-/// a file that the user may not write; `NotFound` if the name is not there: then nothing has
-/// changed. `Device` if an access of the drive fails: then nothing has changed, or it is a file that
-/// the user may delete, which has gone, and some of its clusters may be lost.
+/// `NotAllowed` if the user may not search or may not write the directory, and for a directory or a
+/// file that the user may not write; `NotFound` if the name is not there: then nothing has changed.
+/// `Device` if an access of the drive fails: then nothing has changed, or the file, which the user
+/// may delete, is removed, and some of its clusters may be lost.
 pub fn delete(
     v: &mut Volume,
     d: &mut dyn BlockDriver,

@@ -14,12 +14,12 @@ use rbf_update::{Deletable, free_entry};
 
 /// Deletes the file whose entry [`rbf_update::find_deletable`] has found, for the user for whom it
 /// was found (OS-9 Technical Reference, I$Delete): its entry is made free, and then its clusters
-/// are. The calls of the drive are at most a read and a write of the entry's sector, and one for
-/// each sector of the map that has a mark of the file's clusters.
+/// are. It makes at most these calls of the drive: a read and a write of the entry's sector, and
+/// one for each sector of the map that has a mark of the file's clusters.
 ///
 /// # Errors
 ///
-/// `Device` if an access of the drive fails: then nothing has changed, or the file has gone, and
+/// `Device` if an access of the drive fails: then nothing has changed, or the file is removed, and
 /// some of its clusters may be lost.
 pub fn delete_at(
     v: &mut Volume,
@@ -37,7 +37,7 @@ pub fn delete_at(
         (file_deletion_calls on found.now.descriptor file) d.old d.new) }
 {
     free_entry(v, d, found)?;
-    // `found` has what was read of the file, so that its descriptor is not read again.
+    // `found` has the fields read from the file's descriptor, which is not read again.
     let own = OwnSectors {
         fd: found.descriptor,
         segs: found.file.segs,

@@ -1,4 +1,4 @@
--- Clusters that are given back: their marks are cleared on the media and in what is kept of the volume.
+-- Clusters that are given back: their marks are cleared on the media and in the kept part of the volume.
 use Rattle.std.specs.Prelude.{◌≡◌, ℕ, ◌*◌, ◌/◌, ◌<◌, ◌&&◌, ◌||◌, nat_lt, Bool, true, false, not, List, Option, Some, Result, Ok, Err}
 use Rattle.rbf_model.specs.Geometry.{image_geometry, sector, map_sectors}
 use Rattle.rbf_model.specs.Space.{is_marked, cluster_count, Unused}
@@ -9,14 +9,14 @@ use Rattle.rbf_change.specs.Agrees.{KeptVolume, Agrees}
 use Rattle.rbf_change.specs.Calls.{shape}
 use Rattle.rbf_drop.specs.Own.{here, HasHere}
 
--- clusters that may be given back: they are marked, and no file has them; the whole ones are lost
+-- clusters that may be given back: they are marked and in no file; the whole ones are lost
 pub record MayClear (v : DiskVolume) (image : List ℕ) (gone : ℕ → Bool) : Type 0 where
   pub marked : (c : ℕ) → gone c ≡ true → is_marked (sector image) c ≡ true
   pub unused : (c : ℕ) → gone c ≡ true → Unused (shape v) v.files c
   pub in_volume : (c : ℕ) → gone c ≡ true → c < cluster_count (shape v)
 
--- the marks of these clusters have been cleared on the media, and what is kept agrees with it; no sector but those of
--- the map has changed
+-- the marks of these clusters have been cleared on the media, and the kept part agrees with it; only sectors of the map
+-- have changed
 pub record IsCleared (v : DiskVolume) (old : List ℕ) (cleared : ℕ → Bool) (media : Option (List ℕ)) (kept : KeptVolume)
     : Type 0 where
   pub now : List ℕ
@@ -27,7 +27,7 @@ pub record IsCleared (v : DiskVolume) (old : List ℕ) (cleared : ℕ → Bool) 
   pub others : (s : ℕ) → ¬ IsMapSector (image_geometry old) s → sector now s ≡ sector old s
   pub agrees : Agrees kept now
 
--- the next sector of the map is that in this place: no mark of it has been cleared
+-- the next sector of the map is the one in this place: no mark in it has been cleared
 pub record IsClearing (v : DiskVolume) (old : List ℕ) (cleared gone : ℕ → Bool) (place : ℕ) (media : Option (List ℕ))
     (kept : KeptVolume) : Type 0 where
   pub vol : Vol old v
@@ -36,36 +36,36 @@ pub record IsClearing (v : DiskVolume) (old : List ℕ) (cleared gone : ℕ → 
   pub fresh : (c : ℕ) → c / 2048 ≡ place → cleared c ≡ false
   pub within : place < map_sectors (image_geometry old)
 
--- of some volume
+-- the same for some volume
 pub record MayGoOn (gone : ℕ → Bool) (place : ℕ) (media : Option (List ℕ)) (kept : KeptVolume) : Type 0 where
   pub volume : DiskVolume
   pub old : List ℕ
   pub cleared : ℕ → Bool
   pub is : IsClearing volume old cleared gone place media kept
 
--- the marks of these in that sector are cleared besides
+-- the marks of these clusters in that sector are cleared in addition
 abbrev pub ClearsNext : (ℕ → Bool) → ℕ → Option (List ℕ) → Option (List ℕ) → KeptVolume → KeptVolume → Type 0
 ClearsNext gone place media now kept kept_now =
     (v : DiskVolume) (old : List ℕ) (cleared : ℕ → Bool) → IsClearing v old cleared gone place media kept
     → IsCleared v old (λ c. cleared c || here gone place c) now kept_now
 
--- a fault came where a cluster of these has its mark; nothing has changed
+-- a fault occurred at a sector of the map with the mark of one of these clusters; nothing has changed
 pub record IsStopped (gone : ℕ → Bool) (place : ℕ) (media now : Option (List ℕ)) (kept kept_now : KeptVolume)
     : Type 0 where
   pub some : HasHere gone place
   pub media_kept : now ≡ media
   pub volume_kept : kept_now ≡ kept
 
--- by the answer: the marks have been cleared, or a fault came
+-- by the answer: the marks have been cleared, or a fault occurred
 abbrev pub AnswersClearing : {Done Fault : Type 0} → (ℕ → Bool) → ℕ → Option (List ℕ) → Option (List ℕ) → KeptVolume
     → KeptVolume → Result Done Fault → Type 0
 AnswersClearing gone place media now kept kept_now (Ok done) = ClearsNext gone place media now kept kept_now
 AnswersClearing gone place media now kept kept_now (Err fault) = IsStopped gone place media now kept kept_now
 
--- the clusters of these that have their mark in a sector of the map before this one
+-- those of these clusters that have their mark in an earlier sector of the map
 abbrev pub before : (ℕ → Bool) → ℕ → ℕ → Bool
 before gone place c = gone c && nat_lt (c / 2048) place
 
--- and the others of them
+-- the others of these clusters
 abbrev pub not_before : (ℕ → Bool) → ℕ → ℕ → Bool
 not_before gone place c = gone c && not (before gone place c)

@@ -1,4 +1,4 @@
--- A file that has gone from the volume, and what becomes of its clusters.
+-- A file that is removed from the volume, and its clusters.
 use Rattle.std.specs.Prelude.{◌≡◌, ℕ, ◌*◌, ◌<◌, ◌&&◌, ◌||◌, Bool, true, not, List, Option, Some, None}
 use Rattle.rbf_model.specs.Geometry.{Geometry, image_geometry, sector, map_sectors, LieWithin}
 use Rattle.rbf_model.specs.File.{DiskFile, file_at}
@@ -12,8 +12,8 @@ use Rattle.rbf_change.specs.Tidy.{KeepsMapEnd, MayKeepMapEnd}
 use Rattle.rbf_access.specs.Mounted.{Represents}
 use Rattle.rbf_drop.specs.Cleared.{before, not_before}
 
--- the file that was of number n has gone from the volume v: its descriptor is still in that sector, its clusters are
--- marked, and no file has them
+-- the former file n is removed from the volume v: its descriptor is still in that sector, its clusters are marked, and
+-- no file has them
 pub record IsGone (media : Option (List ℕ)) (v : DiskVolume) (n : ℕ) (file : DiskFile) : Type 0 where
   pub on : Represents media v
   pub none : v.files n ≡ None
@@ -23,13 +23,13 @@ pub record IsGone (media : Option (List ℕ)) (v : DiskVolume) (n : ℕ) (file :
   pub marked : (c : ℕ) → has_cluster (shape v) n file c ≡ true → is_marked (sector on.image) c ≡ true
   pub unused : (c : ℕ) → has_cluster (shape v) n file c ≡ true → Unused (shape v) v.files c
 
--- some file has
+-- the same for some file
 pub record HasGone (media : Option (List ℕ)) (n : ℕ) : Type 0 where
   pub content : DiskVolume
   pub file : DiskFile
   pub gone : IsGone media content n file
 
--- a volume in which the clusters of file n are lost no more
+-- a volume in which the clusters of file n are no longer lost
 abbrev pub freed : DiskVolume → ℕ → DiskFile → DiskVolume
 freed v n file = with_lost v (λ c. v.lost c && not (has_cluster (shape v) n file c))
 
@@ -47,16 +47,16 @@ pub record IsDropped (v : DiskVolume) (n : ℕ) (file : DiskFile) (old new : Opt
   pub others : OnlyMap image now
   pub end : KeepsMapEnd image now (has_cluster (shape v) n file)
 
--- clusters are given back sector by sector of the map, upwards, and a fault came at the sector in some place or behind
--- it: the marks of these in the sectors before it have been cleared, and no other mark of the map; the whole ones that
--- are left are lost, besides those that are lost when all have been given back
+-- clusters are given back sector by sector of the map, upwards, until a fault occurred at the sector in some place or
+-- after it: the marks of these in the sectors before it have been cleared, and no other mark of the map; the whole
+-- clusters that remain are lost, in addition to those that are lost after all have been given back
 pub record StopsAtPlace (g : Geometry) (after left : DiskVolume) (gone : ℕ → Bool) (old new : List ℕ) : Type 0 where
   pub place : ℕ
   pub marks : (c : ℕ) → c < 2048 * map_sectors (image_geometry old)
       → is_marked (sector new) c ≡ (is_marked (sector old) c && not (before gone place c))
   pub lost_are : left ≡ with_lost after (λ c. after.lost c || (is_whole g c && not_before gone place c))
 
--- a fault came before all of them were: of the whole ones some may still be lost, and one of them is still marked
+-- a fault occurred before all were given back: some of the whole ones may still be lost, and one is still marked
 pub record DropEnds (v : DiskVolume) (n : ℕ) (file : DiskFile) (old new : Option (List ℕ)) : Type 0 where
   pub image : List ℕ
   pub now : List ℕ
@@ -68,5 +68,5 @@ pub record DropEnds (v : DiskVolume) (n : ℕ) (file : DiskFile) (old new : Opti
   pub unfinished : OneIsMarked now (has_cluster (shape v) n file)
   pub others : OnlyMap image now
   pub end : MayKeepMapEnd image now (has_cluster (shape v) n file)
-  -- no mark has been cleared behind a sector of the map whose marks still stand
+  -- no mark has been cleared after a sector of the map whose marks are still set
   pub stops : StopsAtPlace (shape v) (freed v n file) left (has_cluster (shape v) n file) image now

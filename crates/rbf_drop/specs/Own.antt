@@ -6,7 +6,7 @@ use Rattle.rbf_map.specs.Map.{ClusterMap, mark}
 use Rattle.rbf_drop.specs.declared.own.OwnSectors.{OwnSectors}
 use Rattle.rbf_drop.specs.declared.own.Stretch.{Stretch}
 
--- the segments of a file, before them that of its descriptor alone
+-- the segments of a file, after a first segment for its descriptor alone
 abbrev pub own_segments : OwnSectors → List (ℕ × ℕ)
 own_segments own = (own.fd, 1) ∷ own.segs
 
@@ -14,11 +14,11 @@ own_segments own = (own.fd, 1) ∷ own.segs
 abbrev pub in_segment : ℕ → ℕ × ℕ → ℕ → Bool
 in_segment k segment c = nat_le (segment.0 / k) c && nat_le c ((segment.0 + segment.1 - 1) / k)
 
--- or of one of these segments
+-- the same for one of these segments
 abbrev pub in_segments : ℕ → List (ℕ × ℕ) → ℕ → Bool
 in_segments k segments c = list_any (λ segment. in_segment k segment c) segments
 
--- or of one of a file's segments: of the one in place i, or of any of the first so many, or of any
+-- a cluster has a sector of a file's segments: of the one in place i, of any of the first `count`, or of any
 abbrev pub in_part : ℕ → OwnSectors → ℕ → ℕ → Bool
 in_part k own i c = in_segment k (get_or (own_segments own) i (0, 0)) c
 
@@ -32,7 +32,7 @@ in_own k own c = in_segments k (own_segments own) c
 abbrev pub in_stretch : Stretch → ℕ → Bool
 in_stretch part c = nat_le part.first c && nat_lt c part.end
 
--- the clusters of a test that have their mark in the sector of the map in this place: 2,048 are in each
+-- those of these clusters that have their mark in the map's sector in this place; each sector has 2,048 marks
 abbrev pub here : (ℕ → Bool) → ℕ → ℕ → Bool
 here gone place c = gone c && (c / 2048 == place)
 
@@ -40,7 +40,7 @@ here gone place c = gone c && (c / 2048 == place)
 abbrev pub sector_mark : List ℕ → ℕ → Bool
 sector_mark bytes c = bit_at (slice_index bytes (c / 8 % 256)) (7 - c % 8) == 1
 
--- of the marks in the sector in this place those of these clusters have been cleared
+-- in the sector in this place the marks of these clusters have been cleared, and no others
 abbrev pub ClearsIn : ℕ → List ℕ → List ℕ → (ℕ → Bool) → Type 0
 ClearsIn place old new gone = (c : ℕ) → c / 2048 ≡ place → sector_mark new c ≡ (sector_mark old c && not (gone c))
 
@@ -51,13 +51,13 @@ pub record ClearsMarks (old new : ClusterMap) (gone : ℕ → Bool) : Type 0 whe
   pub bytes : length new.bytes ≡ length old.bytes
   pub marks : (c : ℕ) → mark new.bytes c ≡ (if gone c then 0 else mark old.bytes c)
 
--- a cluster of these has its mark there, or none has
+-- one of these clusters has its mark there, or none has
 abbrev pub HasHere : (ℕ → Bool) → ℕ → Type 0
 HasHere gone place = (c : ℕ) × (here gone place c ≡ true)
 
 abbrev pub NoneHere : (ℕ → Bool) → ℕ → Type 0
 NoneHere gone place = (c : ℕ) → here gone place c ≡ false
 
--- the map has all of these
+-- all of these clusters are in the map
 abbrev pub AreInMap : (ℕ → Bool) → ClusterMap → Type 0
 AreInMap gone map = (c : ℕ) → gone c ≡ true → c < map.clusters

@@ -17,7 +17,7 @@ use os9_outer::drive::BlockDriver;
 use rbf_access::{FileFault, Volume};
 use rbf_sector::{read_fd, system_sectors};
 
-/// Gives back the clusters of a file that has gone: its descriptor, which is read, is still in its
+/// Gives back the clusters of a removed file: its descriptor, which is read, is still in its
 /// sector, and no entry names it (OS-9 Technical Reference, Random Block File Manager, "Disk
 /// Allocation Map").
 ///
@@ -46,7 +46,7 @@ pub fn drop_fd(volume: &mut Volume, d: &mut dyn BlockDriver, fd: u32) -> Result<
     Ok(())
 }
 
-/// The same where the descriptor has been read: it is not read again. Each sector of the map that
+/// The same for a descriptor that has been read: it is not read again. Each sector of the map that
 /// has a mark of the clusters is written once.
 ///
 /// # Errors

@@ -1,5 +1,5 @@
-//! The clusters of a file that has gone from a mounted RBF volume, given back over a drive that may
-//! fail.
+//! The clusters of a file that is removed from a mounted RBF volume, given back over a drive that
+//! may fail.
 #![tactic(auto)]
 
 pub use bits::clear_mark;

@@ -4,7 +4,7 @@ ghost use Rattle.rbf_drop.specs.Own.{AreInMap, ClearsMarks, in_own, in_stretch, 
 use crate::own::{OwnSectors, Stretch};
 use rbf_map::RbfMap;
 
-// Clears the marks of a file's clusters in a map, as far as they are in its sector `place`.
+// Clears the marks of a file's clusters in a map, if they are in its sector `place`.
 pub fn free_own(map: &mut RbfMap, own: &OwnSectors, k: u16, place: u16)
     requires some { 1 ≤ k }
     requires in_map { AreInMap (in_own k own.now) map.old }

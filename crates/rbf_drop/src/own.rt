@@ -3,7 +3,7 @@ ghost use Rattle.rbf_drop.specs.Own.{own_segments, in_own, in_part, in_stretch, 
 
 use rbf_segs::Segs;
 
-/// How many marks of clusters are in one sector of the map.
+/// The number of cluster marks in one sector of the map.
 const MARKS: u32 = 2048;
 
 /// The sectors of a file: that of its descriptor, and those of its segments.
@@ -22,7 +22,7 @@ pub struct Stretch {
 }
 
 impl OwnSectors {
-    /// How many segments there are, the descriptor's own sector as one of them.
+    /// The number of segments, including the descriptor's own sector as one.
     pub fn count(&self) -> u8
         ensures count { result ≡ length (own_segments self.now) }
         ensures few { result ≤ 49 }
@@ -30,8 +30,8 @@ impl OwnSectors {
         self.segs.runs() + 1
     }
 
-    /// The clusters, of `k` sectors, of the segment in place `i`, as far as their marks are in the
-    /// map's sector `place`. Both count from 0.
+    /// The clusters, of `k` sectors each, of the segment in place `i` that have their marks in the
+    /// map's sector `place`. Both places count from 0.
     pub fn stretch(&self, i: u8, k: u16, place: u16) -> Stretch
         requires within { i < length (own_segments self.now) }
         requires some { 1 ≤ k }
@@ -60,8 +60,8 @@ impl OwnSectors {
         (lsn, lsn + (u32::from(count) - 1))
     }
 
-    /// The first of the clusters of which the mark is in the map's sector `place`, segment by
-    /// segment. None if no cluster has its mark there.
+    /// The first cluster whose mark is in the map's sector `place`, segment by segment. None if no
+    /// cluster has its mark there.
     pub fn first_in(&self, k: u16, place: u16) -> Option<u32>
         requires { 1 ≤ k }
         ensures { MatchOption result (NoneHere (in_own k self.now) place)

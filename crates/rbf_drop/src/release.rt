@@ -13,7 +13,7 @@ use os9_outer::drive::BlockDriver;
 use rbf_access::{FileFault, Volume};
 
 // Gives back those clusters of a file that have their marks in the map's sector `place`, if there
-// are any: the sector is written without the marks, and then what is kept has them no more.
+// are any: the sector is written without the marks, and then the kept map no longer has them.
 pub fn release_in(
     volume: &mut Volume,
     d: &mut dyn BlockDriver,

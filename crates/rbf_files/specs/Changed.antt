@@ -1,9 +1,9 @@
--- The fields of a descriptor that is changed.
+-- The fields of a changed descriptor.
 use Rattle.std.specs.Prelude.{◌≡◌, ℕ, List}
 use Rattle.rbf_model.specs.Fields.{attributes_field, owner_field, modified_field, links_field, size_field, created_field}
 use Rattle.rbf_sector.specs.declared.fd.Fd.{Fd}
 
--- a descriptor has these fields, its list of segments left aside
+-- a descriptor has these fields; its list of segments may be any
 pub record HasFields (file : Fd) (bytes : List ℕ) : Type 0 where
   pub attributes_are : attributes_field bytes ≡ file.attr
   pub owner_is : owner_field bytes ≡ file.owner

@@ -10,7 +10,7 @@ use Rattle.rbf_change.specs.Calls.{shape, cluster_size}
 use Rattle.rbf_access.specs.Mounted.{Represents}
 use Rattle.rbf_access.specs.declared.faults.FileFault.{FileFault}
 
--- the byte in a place of a file, where bytes are laid over it from another place on, and zeros from its size up to that
+-- a byte of a file over which bytes are laid from a place on, with zeros from its size up to that place
 abbrev pub laid_byte : ℕ → ℕ → List ℕ → ℕ → ℕ → ℕ
 laid_byte size at from place old =
     if nat_le at place then (if nat_lt (place - at) (length from) then slice_index from (place - at) else old)
@@ -20,7 +20,7 @@ laid_byte size at from place old =
 abbrev pub laid_bytes : List ℕ → ℕ → ℕ → List ℕ → List ℕ
 laid_bytes whole size at from = put_at (put_at whole size (replicate (at - size) 0)) at from
 
--- the same where only the sectors before a place have been written
+-- the same if only the sectors before a place have been written
 abbrev pub laid_front : List ℕ → List ℕ → ℕ → List ℕ
 laid_front target whole place = take (256 * place) target ++ drop (256 * place) whole
 
@@ -32,7 +32,7 @@ pub record LaysSector (size at : ℕ) (from : List ℕ) (start lsn : ℕ) (old n
       ≡ laid_byte size at from (start + q) (slice_index (sector_at old lsn) q)
   pub media : new ≡ with_sector old lsn bytes
 
--- segments of file n, which is no directory: its own, and behind them those of clusters that are lost
+-- segments of file n, which is not a directory: its own, followed by those of lost clusters
 pub record IsDataOf (u : DiskVolume) (n : ℕ) (file : DiskFile) (segments : List (ℕ × ℕ)) (size : ℕ) : Type 0 where
   pub is : u.files n ≡ Some file
   pub not_directory : is_directory file ≡ false
@@ -53,7 +53,7 @@ pub record HasData (media : Option (List ℕ)) (segments : List (ℕ × ℕ)) (s
   pub file : DiskFile
   pub is : IsDataOf volume number file segments size
 
--- the sectors have these bytes now, and the file the first of them; no other sector has changed
+-- the sectors now have these bytes, and the file the first of them; no other sector has changed
 pub record IsLaid (u : DiskVolume) (n : ℕ) (file : DiskFile) (segments : List (ℕ × ℕ)) (old new : Option (List ℕ))
     (bytes : List ℕ) : Type 0 where
   pub image : List ℕ
@@ -64,7 +64,7 @@ pub record IsLaid (u : DiskVolume) (n : ℕ) (file : DiskFile) (segments : List 
   pub bytes_are : segment_bytes (sector now) segments ≡ bytes
   pub others : (s : ℕ) → has (sectors_of segments) s ≡ false → sector now s ≡ sector image s
 
--- so far as a sector of which one has a byte that is laid
+-- the same for the sectors before `place`, a sector with a byte to be laid
 pub record IsPartLaid (u : DiskVolume) (n : ℕ) (file : DiskFile) (segments : List (ℕ × ℕ)) (old new : Option (List ℕ))
     (size at : ℕ) (from : List ℕ) : Type 0 where
   pub place : ℕ
@@ -85,11 +85,11 @@ pub record MayLay (media : Option (List ℕ)) (segments : List (ℕ × ℕ)) (si
   -- the places are numbers of 32 bits
   pub fits : at + length from < 2 ^ 32
 
--- what a call that lays them answers, and what is in the sectors then
+-- the answers of a call that lays the bytes, and the contents of the sectors then
 pub record Fills (u : DiskVolume) (n : ℕ) (file : DiskFile) (segments : List (ℕ × ℕ)) (size at : ℕ) (from : List ℕ)
     (old new : Option (List ℕ)) (result : Result (Unit {0}) FileFault) : Type 0 where
   -- all of them have been laid
   pub laid : OnOk result
       (IsLaid u n file segments old new (laid_bytes (segment_bytes (sector_at old) segments) size at from))
-  -- or those of the sectors before some place
+  -- or those of the sectors before some place have been laid
   pub part : OnErr result (IsPartLaid u n file segments old new size at from)

@@ -16,8 +16,8 @@ use rbf_access::{FileFault, Volume};
 use rbf_segs::Segs;
 
 /// Lays bytes over those of a file from `at` on, and zeros from its `size` up to there, sector by
-/// sector upwards. The segments are the file's own and, behind them, those of lost clusters that it
-/// is to have; its size stays, so what lies past it is not seen yet.
+/// sector upwards. The segments are the file's own, followed by those of lost clusters that the
+/// file will gain; its size is unchanged, so bytes past it are not seen yet.
 ///
 /// # Errors
 ///
@@ -50,8 +50,8 @@ pub fn fill(
     Ok(())
 }
 
-// Lays bytes over those of one sector, whose first byte is the one in place `start` of the file. A
-// sector is not read if all of its bytes are laid, or are zeros then.
+// Lays bytes over those of one sector, whose first byte is at place `start` of the file. A sector
+// is not read if all of its bytes are laid, or are zeros then.
 fn fill_sector(
     volume: &mut Volume,
     d: &mut dyn BlockDriver,

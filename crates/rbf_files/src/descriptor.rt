@@ -9,9 +9,9 @@ use os9_base::registers::TimePacket;
 use rbf_sector::{Fd, write_fd};
 use rbf_segs::Segs;
 
-/// The descriptor `old`, whose segments are `was`, with the fields and segments of `file`. A list of
-/// segments that stays keeps its end, another one is ended by a pair of zeros, and the bytes behind
-/// stay.
+/// The descriptor `old`, whose segments are `was`, with the fields and segments of `file`. An
+/// unchanged list of segments keeps its end; a changed one ends with a pair of zeros. The bytes
+/// after that are unchanged.
 pub fn with_descriptor(old: &[u8; 256], was: &Segs, file: &Fd) -> [u8; 256]
     requires list { segments_field old.now ≡ was.now }
     requires same { length (sectors_of file.now.segs) ≡ length (sectors_of was.now)
@@ -41,7 +41,7 @@ fn with_list(old: &[u8; 256], file: &Fd) -> [u8; 256]
     bytes
 }
 
-// A descriptor with these fields, in which the list of segments and all behind it stays.
+// A descriptor with these fields, with the old list of segments and all bytes after it.
 pub fn with_fields(old: &[u8; 256], file: &Fd) -> [u8; 256]
     ensures whole { length result ≡ 256 }
     ensures fields { HasFields file.now result }
@@ -54,7 +54,7 @@ pub fn with_fields(old: &[u8; 256], file: &Fd) -> [u8; 256]
     bytes
 }
 
-// Takes the list of segments, and all behind it, from another descriptor.
+// Copies the list of segments, and all bytes after it, from another descriptor.
 fn keep_list(bytes: &mut [u8; 256], old: &[u8; 256])
     ensures fields { (i : ℕ) → i < 16 → slice_index bytes.new i ≡ slice_index bytes.old i }
     ensures list { (i : ℕ) → 16 ≤ i → slice_index bytes.new i ≡ slice_index old.now i }

@@ -33,15 +33,15 @@ pub fn lay(bytes: &mut [u8; 256], start: u32, size: u32, at: u32, from: &[u8])
     put_bytes(bytes, first, part_in(from, start, at, 256 - first));
 }
 
-// Where a place of the file is in a sector that begins at `start`: at its begin if it is before it,
-// and at its end if it is behind it.
+// The place in a sector that begins at `start` of a place of the file: 0 if that is before the
+// sector, and 256 if it is after it.
 fn place_in(start: u32, place: u32) -> usize
     ensures { result ≡ min (place - start) 256 }
 {
     place.saturating_sub(start).min(256) as usize
 }
 
-// Those of the bytes that lie from `start` on, if they begin in place `at`, as far as there is room.
+// The bytes at `start` or later, if the first byte is at place `at`, up to the room.
 fn part_in(from: &[u8], start: u32, at: u32, room: usize) -> &[u8]
     ensures { IsPartIn from.now (start - at) room result.now }
 {
@@ -50,7 +50,7 @@ fn part_in(from: &[u8], start: u32, at: u32, room: usize) -> &[u8]
     &rest[..rest.len().min(room)]
 }
 
-// Puts zeros in a sector from a place on and below another.
+// Puts zeros in a sector from place `first` up to `end`.
 fn clear(bytes: &mut [u8; 256], first: usize, end: usize)
     requires first { first ≤ 256 }
     requires end { end ≤ 256 }

@@ -1,4 +1,4 @@
--- A directory that a user asks for.
+-- A user's request for a directory.
 use Rattle.std.specs.Prelude.{ℕ, false, List}
 use Rattle.os9_base.specs.declared.registers.TimePacket.{TimePacket}
 use Rattle.rbf_change.specs.NewFiles.{directory_plan}

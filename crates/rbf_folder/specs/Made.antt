@@ -20,7 +20,7 @@ use Rattle.rbf_append.specs.NewEntry.{IsAfterMarks}
 use Rattle.rbf_access.specs.declared.faults.FileFault.{FileFault}
 use Rattle.rbf_access.specs.declared.faults.FileFault.TheVariants as fault
 
--- how many sectors a new directory has: the rest of its descriptor's cluster, or one in a cluster of its own
+-- the number of sectors of a new directory: the rest of its descriptor's cluster, or one in a cluster of its own
 abbrev pub new_sectors : ℕ → ℕ
 new_sectors k = if k == 1 then 1 else k - 1
 
@@ -28,14 +28,14 @@ new_sectors k = if k == 1 then 1 else k - 1
 abbrev pub first_sector : DiskFile → ℕ
 first_sector file = get_or (sectors_of file.segments) 0 0
 
--- a directory's first sector has its entries and zeros behind them; beside it only sector n and the map have changed,
--- and no mark past the clusters
+-- a directory's first sector has its entries and zeros after them; apart from it, only sector n and the map have
+-- changed, and no mark past the clusters has
 pub record WritesFolder (old now : List ℕ) (n first : ℕ) (entries : List ℕ) : Type 0 where
   pub first_is : sector now first ≡ extended entries 256
   pub others : (s : ℕ) → ¬ IsMapSector (image_geometry old) s → s ≢ n → s ≢ first → sector now s ≡ sector old s
   pub end : KeepsMapEnd old now (λ _. false)
 
--- the clusters of a new directory n, which has a sector: all of them were free, and they are as many as 64 bytes need
+-- the clusters of a new directory n, which has a sector: all of them were free, and their number is what 64 bytes need
 pub record ClustersTaken (v : DiskVolume) (n : ℕ) (file : DiskFile) : Type 0 where
   pub clusters : List ℕ
   pub are : (c : ℕ) → has clusters c ≡ has_cluster (shape v) n file c
@@ -58,7 +58,7 @@ pub record IsFolderMade (v : DiskVolume) (parent n : ℕ) (plan : Plan) (old new
   pub ready : IsReady (image_disk now) left parent n
   pub writes : WritesFolder image now n (first_sector made.file) plan.contents
 
--- a fault came before that: clusters that the directory was to have may be lost
+-- a fault occurred before that: clusters that the directory was to have may be lost
 pub record FolderEnds (v : DiskVolume) (plan : ℕ → Plan) (old new : Option (List ℕ)) : Type 0 where
   pub image : List ℕ
   pub now : List ℕ
@@ -71,30 +71,30 @@ pub record FolderEnds (v : DiskVolume) (plan : ℕ → Plan) (old new : Option (
   pub left : DiskVolume
   pub vol : Vol now left
   pub lose : MayLose v left (has_cluster (shape v) number file)
-  -- its first sector comes after the marks of its clusters
+  -- its first sector is written after the marks of its clusters
   pub order : IsAfterMarks image now (first_sector file) left (has_cluster (shape v) number file)
-  -- its descriptor, which is written last, was not
+  -- its descriptor, the last write, was not written
   pub undescribed : sector now number ≡ sector image number
   -- only its first sector and the map have changed
   pub others : (s : ℕ) → ¬ IsMapSector (image_geometry image) s → s ≢ first_sector file
       → sector now s ≡ sector image s
   pub end : KeepsMapEnd image now (λ _. false)
 
--- what a call that makes a directory answers, in the volume that the media represents before
+-- the answers of a call that makes a directory in the volume that the media represents before
 pub record MakesFolder (v : DiskVolume) (parent : ℕ) (plan : ℕ → Plan) (old new : Option (List ℕ))
     (result : Result ℕ FileFault) : Type 0 where
-  -- the answer is the number of the directory, which is on the media
+  -- the answer is the number of the new directory, which is on the media
   pub made : IfOk result (λ n. IsFolderMade v parent n (plan n) old new)
   -- too few clusters are free for its descriptor and 64 bytes
   pub full : IsErrOf result fault.NoCluster ↔ (free_total v < file_clusters (cluster_size v) 64)
-  -- its segments are few
+  -- it never has too many segments
   pub runs : ¬ IsErrOf result fault.TooManyRuns
   -- an access of the drive has failed
   pub ends : IfSome (file_fault result) (λ _. FolderEnds v plan old new)
 
--- how many calls of the drive make a directory at most: one for each of its two sectors, and one for each sector of the
--- map that has a mark of its clusters, as its descriptor on the media shows them, and no more than it takes clusters;
--- after a fault one for each cluster
+-- the greatest number of drive calls that make a directory: one for each of its two sectors, and one for each sector of
+-- the map that has a mark of its clusters, according to its descriptor on the media, but at most the number of clusters
+-- it takes; after a fault one for each cluster
 abbrev pub folder_calls : {E : Type 0} → DiskVolume → Option (List ℕ) → Result ℕ E → ℕ
 folder_calls v after (Ok n) =
     min (file_clusters (cluster_size v) 64)

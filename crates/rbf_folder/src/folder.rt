@@ -15,16 +15,16 @@ use rbf_create::descriptor;
 use rbf_growth::grow;
 use rbf_segs::Segs;
 
-/// Makes a directory without a name, in a directory that is its parent, and answers the number of
-/// its descriptor: it is the first sector of a free cluster. The directory holds two entries, `..`
-/// and `.`; their sector is the next one, or a cluster of its own where a cluster has one sector.
-/// The clusters are lost until an entry names the directory (OS-9 Technical Reference, Random
-/// Block File Manager, "File Descriptors" and "Directories").
+/// Makes a directory without a name in a parent directory, and returns the number of its
+/// descriptor, which is the first sector of a free cluster. The directory holds two entries, `..`
+/// and `.`; their sector is the next one, or a cluster of its own if clusters have one sector. The
+/// clusters are lost until an entry names the directory (OS-9 Technical Reference, Random Block
+/// File Manager, "File Descriptors" and "Directories").
 ///
 /// # Errors
 ///
-/// `NoCluster` exactly if fewer clusters are free than that: then nothing has changed. `Device` if
-/// a write of the drive fails: then the descriptor was not written, and the clusters may be lost.
+/// `NoCluster` if and only if fewer clusters are free than that: then nothing has changed. `Device`
+/// if a write of the drive fails: then the descriptor is not written, and clusters may be lost.
 pub fn create_folder(
     volume: &mut Volume,
     d: &mut dyn BlockDriver,

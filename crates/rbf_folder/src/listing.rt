@@ -7,8 +7,8 @@ ghost use Rattle.rbf_change.specs.Names.{new_entry as new_entry_lem, new_listing
 use os9_base::name::parse_name;
 use rbf_make::new_entry;
 
-// The first sector of a new directory: the entry `..`, by which it names its parent, then `.`, by
-// which it names itself, and zeros.
+// The first sector of a new directory: the entry `..`, which names its parent, then `.`, which
+// names the directory itself, and zeros.
 pub fn listing(n: u32, parent: u32) -> [u8; 256]
     requires number { n < 16777216 }
     requires parent { parent < 16777216 }

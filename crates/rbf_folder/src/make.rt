@@ -19,19 +19,20 @@ use rbf_append::{check_room, enter_file};
 use rbf_make::{NewPlace, find_place, new_entry};
 use rbf_walk::DirError;
 
-/// Makes a directory in another one, for a user, and answers the number of its descriptor (OS-9
-/// Technical Reference, I$MakDir). Its entry goes into the first free place of its parent, or
-/// behind the last entry, and is there by the last sector that is written. What is needed is tested
-/// before anything is taken.
+/// Makes a directory in another one, for a user, and returns the number of its descriptor (OS-9
+/// Technical Reference, I$MakDir). Its entry is put into the first free place of its parent, or
+/// after the last entry, by the last sector write. All conditions are checked before anything is
+/// taken.
 ///
 /// # Errors
 ///
 /// In this order: `BadPath` for the names `.` and `..`, before any access of the drive;
 /// `NotAllowed` if the user may not read or may not write the parent; `Exists` if the name is
 /// there; `NoCluster` if fewer clusters are free than the directory and its entry need;
-/// `TooManyRuns` if the parent needs a cluster and has all its segments already. Then nothing has
-/// changed. `Device` if an access of the drive fails: then the tree is as it was, and clusters may
-/// be lost. In a call that was to be refused for any of these causes it changes nothing.
+/// `TooManyRuns` if the parent needs a cluster and already has all its segments. Then nothing has
+/// changed. `Device` if an access of the drive fails: then the tree is unchanged, and clusters may
+/// be lost. If the call would have been refused for any of these causes, a drive fault changes
+/// nothing.
 pub fn make_dir(
     v: &mut Volume,
     d: &mut dyn BlockDriver,
@@ -56,9 +57,9 @@ pub fn make_dir(
     Ok(n)
 }
 
-/// Makes a directory by a name that its parent has not, whose entry goes into the place that
-/// [`rbf_make::find_place`] has answered to a user who searched to read, and answers the number of
-/// its descriptor (OS-9 Technical Reference, I$MakDir).
+/// Makes a directory by a name that is not in its parent, and returns the number of its descriptor
+/// (OS-9 Technical Reference, I$MakDir). Its entry is put into the place that
+/// [`rbf_make::find_place`] has returned to a user who searched to read.
 ///
 /// # Errors
 ///

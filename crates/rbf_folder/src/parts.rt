@@ -11,8 +11,8 @@ use rbf_segs::Segs;
 // The size of a new directory, in bytes: that of two entries.
 const NEW_SIZE: u32 = 64;
 
-// How many clusters of `k` sectors a new directory takes: that of its descriptor, and another one
-// for its first sector where a cluster has no more than one sector.
+// The number of clusters of `k` sectors that a new directory takes: that of its descriptor, and
+// another one for its first sector if a cluster has only one sector.
 pub fn new_clusters(k: u16) -> u32
     requires { 1 ≤ k }
     ensures value { result ≡ file_clusters k 64 }
@@ -21,7 +21,7 @@ pub fn new_clusters(k: u16) -> u32
     if k == 1 { 2 } else { 1 }
 }
 
-// The segments of a new directory: its first sector, and those behind it in that sector's cluster.
+// The segments of a new directory: its first sector, and the sectors after it in its cluster.
 pub fn first_segs(k: u16, first: u32) -> Segs
     requires some { 1 ≤ k }
     requires low { first < 524288 }

@@ -1,4 +1,4 @@
--- How the marks of clusters that have been gained come to the media.
+-- How the marks of gained clusters are written to the media.
 use Rattle.std.specs.Prelude.{◌≡◌, ℕ, ◌+◌, ◌*◌, ◌/◌, ◌<◌, ◌==◌, ◌&&◌, ◌||◌, Bool, true, false, not, List, length, slice_index_or, count_by, Option, Some, if◌then◌else◌}
 use Rattle.std.specs.List.{range_with_len}
 use Rattle.os9_outer.specs.Drive.{with_sector}
@@ -17,7 +17,7 @@ use Rattle.rbf_growth.specs.Gained.{is_written, cluster_at}
 abbrev pub is_new_mark : DiskVolume → ClusterMap → ℕ → Bool
 is_new_mark v map c = is_free_in v c && (mark map.bytes c == 1)
 
--- the kept volume is that of an image, but that its map has marks of free clusters besides
+-- the kept volume is that of an image, but its map has additional marks of free clusters
 pub record IsAhead (v : DiskVolume) (image : List ℕ) (kept : KeptVolume) : Type 0 where
   pub vol : Vol image v
   pub sizes_are : kept.sizes ≡ image_geometry image
@@ -27,8 +27,8 @@ pub record IsAhead (v : DiskVolume) (image : List ℕ) (kept : KeptVolume) : Typ
   pub marks : (c : ℕ) → c < 8 * length kept.map.bytes
       → (mark kept.map.bytes c == 1) ≡ (is_marked (sector image) c || is_new_mark v kept.map c)
 
--- the image has the marks of the map in the sectors of it that were written, and these clusters are lost now; all else
--- is as in the old image
+-- the image has the marks of the map in those of its sectors that were written, and these clusters are lost now; all
+-- else is as in the old image
 pub record IsMarkedTo (v : DiskVolume) (old now : List ℕ) (map : ClusterMap) (written : List Bool) : Type 0 where
   pub vol : Vol now (with_lost v (λ c. v.lost c || (is_new_mark v map c && is_written written c)))
   pub marks : (c : ℕ) → c < 8 * length map.bytes
@@ -43,13 +43,13 @@ pub record IsMarkedOn (v : DiskVolume) (old : List ℕ) (media : Option (List �
   pub is : media ≡ Some now
   pub marked : IsMarkedTo v old now kept.map written
 
--- of some volume
+-- the same for some volume
 pub record IsMarking (kept : KeptVolume) (media : Option (List ℕ)) (written : List Bool) : Type 0 where
   pub volume : DiskVolume
   pub old : List ℕ
   pub on : IsMarkedOn volume old media kept written
 
--- what holds of the media so still holds of it now, with more of the map's sectors written
+-- every such fact about the media still holds, with more of the map's sectors written
 abbrev pub MarksMore : Option (List ℕ) → Option (List ℕ) → KeptVolume → List Bool → List Bool → Type 0
 MarksMore media now kept written written_now =
     (v : DiskVolume) (old : List ℕ) → IsMarkedOn v old media kept written → IsMarkedOn v old now kept written_now
@@ -64,12 +64,12 @@ pub record WritesMapSector (map : ClusterMap) (n : ℕ) (old new : Option (List 
 abbrev pub AllWritten : List ℕ → List Bool → Type 0
 AllWritten clusters written = (c : ℕ) → has clusters c ≡ true → is_written written c ≡ true
 
--- the marks of the clusters of these places are in wanted ones of the first n sectors of the map
+-- the marks of the clusters of these places are in wanted sectors among the first n of the map
 abbrev pub AreWanted : ℕ → List (ℕ × ℕ) → ℕ → ℕ → (ℕ → Bool) → ℕ → Type 0
 AreWanted k segments first count wanted n =
     (i : ℕ) → i < count → (cluster_at k segments (first + i * k) / 2048 < n)
     × (wanted (cluster_at k segments (first + i * k) / 2048) ≡ true)
 
--- how many of the wanted ones have not been written
+-- the number of wanted ones that have not been written
 abbrev pub unwritten : (ℕ → Bool) → List Bool → ℕ → ℕ
 unwritten wanted written n = count_by (λ p. wanted p && not (slice_index_or written p false)) (range_with_len 0 n)

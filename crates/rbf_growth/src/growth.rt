@@ -12,17 +12,18 @@ use os9_outer::drive::BlockDriver;
 use rbf_access::{FileFault, Volume};
 use rbf_segs::Segs;
 
-/// Takes clusters for a file with these segments, on the media too, and answers its segments with
-/// the sectors of those clusters behind them. In the volume the clusters are lost until a
+/// Takes clusters for a file with these segments, on the media too, and returns its segments
+/// followed by the sectors of those clusters. In the volume the clusters are lost until a
 /// descriptor has them (OS-9 Technical Reference, Random Block File Manager, "Disk Allocation
-/// Map"). Which ones is our choice: if the file's next cluster is not free, it goes on in the first
-/// run that has all that are still needed, and if none has, in the longest.
+/// Map"). Which ones are taken is our choice: the file's next cluster if that is free, otherwise
+/// the first of the first run that has all clusters still needed, and if there is none, of the
+/// longest run.
 ///
 /// # Errors
 ///
-/// `NoCluster` exactly if fewer are free, and `TooManyRuns` if a chosen one does not fit the list:
-/// then nothing has changed. `Device` if a write of the drive fails: then some of the clusters may
-/// be lost.
+/// `NoCluster` if and only if fewer are free, and `TooManyRuns` if a chosen one does not fit the
+/// list: then nothing has changed. `Device` if a write of the drive fails: then some of the
+/// clusters may be lost.
 pub fn grow(
     volume: &mut Volume,
     d: &mut dyn BlockDriver,

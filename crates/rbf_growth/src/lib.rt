@@ -1,5 +1,5 @@
-//! Space on a mounted RBF volume: how the segments of a file gain clusters, in the kept map and on
-//! the media, over a drive that may fail.
+//! Space on a mounted RBF volume: the segments of a file gain clusters, in the kept map and on the
+//! media, over a drive that may fail.
 #![tactic(auto)]
 
 pub use growth::grow;

@@ -6,7 +6,7 @@ use rbf_map::RbfMap;
 use rbf_segs::Segs;
 
 /// Gives clusters back to a map: those of `count` places, a cluster's sectors apart, from `first`
-/// on, but for those with their mark in a sector of the map that was written.
+/// on, except those with their mark in a sector of the map that was written.
 pub fn give_back(
     map: &mut RbfMap,
     k: u16,
@@ -25,7 +25,7 @@ pub fn give_back(
     }
 }
 
-// Gives a cluster back that is in use, unless its mark is in a sector that was written.
+// Gives back a cluster that is in use, unless its mark is in a sector that was written.
 fn return_one(map: &mut RbfMap, cluster: u32, written: &[bool; 256])
     requires in_map { cluster < map.old.clusters }
     requires few { cluster < 524288 }

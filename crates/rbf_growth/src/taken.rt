@@ -11,14 +11,14 @@ use rbf_access::FileFault;
 use rbf_map::RbfMap;
 use rbf_segs::{Segs, SegsFull};
 
-/// Takes clusters in a map for a file with these segments, and answers its segments with the
-/// sectors of those clusters behind them. If the file's next cluster is not free, it goes on in the
-/// first run that has all that are still needed, and if none has, in the longest.
+/// Takes clusters in a map for a file with these segments, and returns its segments followed by the
+/// sectors of those clusters. If the file's next cluster is not free, the first of the first run
+/// that has all clusters still needed is taken, and if there is none, of the longest run.
 ///
 /// # Errors
 ///
-/// `NoCluster` exactly if fewer are free, `TooManyRuns` if a chosen one does not fit the list. Then
-/// the map has the marks that it had.
+/// `NoCluster` if and only if fewer are free, `TooManyRuns` if a chosen one does not fit the list.
+/// Then the marks of the map are unchanged.
 pub fn gain(map: &mut RbfMap, k: u16, segs: &Segs, count: u32) -> Result<Segs, FileFault>
     requires sizes { AreSizes k map.old }
     requires few { length segs.now ≤ 48 }

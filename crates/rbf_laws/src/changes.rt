@@ -1,4 +1,4 @@
-//! New files, new directories and deletions, from the answers of the disk calls to the words of the
+//! New files, new directories and deletions: from the answers of the disk calls to the words of the
 //! calls on files.
 
 ghost use Rattle.std.specs.Prelude.{ℕ, Bool, List, Option, Result};
@@ -15,10 +15,10 @@ ghost use Rattle.rbf_dirs.specs.Deleted.{AnswersDeletionOf};
 ghost use Rattle.file_rules.specs.Change.{creates, deletes, makes_directory};
 ghost use Rattle.rbf_laws.specs.Left.{Leaves, numbered};
 
-/// What creates a file, as `create` and `create_at` of rbf_creation answer it, leaves what the
-/// calls on files say of a creation (System Programmer's Manual, I$Create): where it is done, the
-/// volume with the new file, whose number it answers; after a fault of the drive one of those that
-/// a fault may leave; and where it is refused, the media as it was.
+/// A creation by `create` or `create_at` of rbf_creation leaves what the calls on files say of a
+/// creation (System Programmer's Manual, I$Create): on success, the volume with the new file, whose
+/// number is returned; after a fault of the drive, one of the volumes that a fault may leave; and
+/// after a refusal, the unchanged media.
 pub fn a_creation_is_what_it_is_said_to_be()
     ensures { (v : DiskVolume) (dir : DiskFile) (d attributes user : ℕ) (name : List ℕ)
         (execute : Bool) (now : TimePacket) (old new : Option (List ℕ)) (answer : Result ℕ DirError)
@@ -27,8 +27,8 @@ pub fn a_creation_is_what_it_is_said_to_be()
         → Leaves (creates d name attributes) user now v old new answer }
 {}
 
-/// The same of what makes a directory, as `make_dir` and `make_dir_at` of rbf_folder answer it
-/// (System Programmer's Manual, I$MakDir).
+/// The same for a new directory by `make_dir` or `make_dir_at` of rbf_folder (System Programmer's
+/// Manual, I$MakDir).
 pub fn a_new_directory_is_what_it_is_said_to_be()
     ensures { (v : DiskVolume) (dir : DiskFile) (d attributes user : ℕ) (name : List ℕ)
         (now : TimePacket) (old new : Option (List ℕ)) (answer : Result ℕ DirError)
@@ -37,9 +37,9 @@ pub fn a_new_directory_is_what_it_is_said_to_be()
         → Leaves (makes_directory d name attributes) user now v old new answer }
 {}
 
-/// What deletes file n, as `delete_at` of rbf_dirs answers it, leaves what the calls on files say
-/// of a deletion (System Programmer's Manual, I$Delete): the volume without the file, or after a
-/// fault of the drive one of those that a fault may leave.
+/// A deletion of file n by `delete_at` of rbf_dirs leaves what the calls on files say of a deletion
+/// (System Programmer's Manual, I$Delete): the volume without the file, or after a fault of the
+/// drive one of those that a fault may leave.
 pub fn a_deletion_is_what_it_is_said_to_be()
     ensures { (v : DiskVolume) (d n user : ℕ) (name : List ℕ) (now : TimePacket)
         (old new : Option (List ℕ)) (answer : Result (Unit {0}) FileFault) → Represents old v

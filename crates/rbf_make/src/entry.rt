@@ -4,8 +4,8 @@ ghost use Rattle.rbf_change.specs.Names.{marked_name, new_entry as new_entry_lem
 
 use os9_base::name::Name;
 
-/// The entry of a new file: its name as it was given, with bit 7 on its last character, zeros after
-/// it, and the number of its descriptor (OS-9 Technical Reference, Random Block File Manager,
+/// The entry of a new file: its name as given, with bit 7 on its last character, zeros after it,
+/// and the number of its descriptor (OS-9 Technical Reference, Random Block File Manager,
 /// "Directories").
 pub fn new_entry(name: &Name, n: u32) -> [u8; 32]
     requires { n < 16777216 }

@@ -1,4 +1,4 @@
-//! New entries of directories of a mounted RBF volume, over a drive that may fail: where they go,
+//! New entries of directories of a mounted RBF volume, over a drive that may fail: their places,
 //! who may make them, and their bytes.
 #![tactic(auto)]
 

@@ -17,8 +17,8 @@ use rbf_write::{Loaded, load_file};
 
 const WRITE: u8 = 2;
 
-/// The place of a new entry in a directory, whose descriptor has been read; and for whom it was
-/// found: a user who searched to read or to execute.
+/// The place of a new entry in a directory whose descriptor has been read, and the user for whom it
+/// was found, who searched to read or to execute.
 #[derive(Clone, Copy, Debug)]
 pub struct NewPlace {
     pub dir: Loaded,
@@ -27,17 +27,17 @@ pub struct NewPlace {
     pub execute: bool,
 }
 
-/// The place in a directory that a new entry with a name goes to, for a user: the first free one,
-/// or the one behind the last (OS-9 Technical Reference, I$Create and I$MakDir). It makes one call of
-/// the drive for the directory's descriptor, which is handed on, and at most as many more as the
-/// directory has sectors up to the one with the name.
+/// Finds the place in a directory of a new entry with a name, for a user: the first free one, or
+/// the one after the last (OS-9 Technical Reference, I$Create and I$MakDir). It makes one call of
+/// the drive for the directory's descriptor, which is returned too, and at most one more for each
+/// sector of the directory up to the one with the name.
 ///
 /// # Errors
 ///
 /// In this order: `BadPath` for the names `.` and `..`, before any access of the drive;
 /// `NotAllowed` if the user may not search or may not write the directory, before any access of its
-/// sectors; `Exists` if the name is there. `Device` if an access of the drive fails. Nothing has
-/// changed then.
+/// sectors; `Exists` if the name is there. `Device` if an access of the drive fails. Then nothing
+/// has changed.
 pub fn find_place(
     v: &mut Volume,
     d: &mut dyn BlockDriver,
@@ -75,7 +75,7 @@ pub fn find_place(
     }
 }
 
-// Is it `.` or `..`, which every directory has?
+// Whether it is `.` or `..`, which every directory has.
 fn is_dots(name: &Name) -> bool
     ensures value { result ≡ is_dots_lem name.now }
     ensures name { IsName name.now }
@@ -87,7 +87,7 @@ fn is_dots(name: &Name) -> bool
     }
 }
 
-// Is it a directory that a user may search and change?
+// Whether it is a directory that a user may search and change.
 fn may_change(fd: &Fd, user: u16, execute: bool) -> bool
     ensures { (file : DiskFile) → IsFdOf file fd.now → result ≡ may_change_lem file user execute }
 {

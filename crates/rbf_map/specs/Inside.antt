@@ -8,8 +8,8 @@ abbrev pub map_of : Inside → ClusterMap
 map_of inside =
     record { clusters = inside.clusters; whole = inside.whole; bytes = inside.bytes.items }
 
--- the bytes have a bit for each cluster, the free ones are counted, before `first` none is free, and no run is longer
--- than `longest`
+-- the bytes have a bit for each cluster, the free ones are counted, no cluster before `first` is free, and no run is
+-- longer than `longest`
 pub record HoldsMap (inside : Inside) : Type 0 where
   pub whole_ones : inside.whole ≤ inside.clusters
   pub bits : inside.clusters ≤ 8 * length inside.bytes.items

@@ -4,7 +4,7 @@ use Rattle.std.specs.Prelude.{◌≡◌, ◌≢◌, ◌⊎◌, ℕ, ◌+◌, ◌
 use Rattle.std.specs.List.{range_with_len}
 use Rattle.std.specs.Int.{bit_at}
 
--- a map: how many clusters it has, how many of them, from 0 on, are whole, and its bytes
+-- a map: its number of clusters, the number of whole ones, which are the first, and its bytes
 pub record ClusterMap : Type 0 where
   pub clusters : ℕ
   pub whole : ℕ
@@ -14,11 +14,11 @@ pub record ClusterMap : Type 0 where
 abbrev pub mark : List ℕ → ℕ → ℕ
 mark bytes cluster = bit_at (slice_index bytes (cluster / 8)) (7 - cluster % 8)
 
--- the clusters below one that are not in use
+-- the clusters below `end` that are not in use
 abbrev pub clear_below : List ℕ → ℕ → List ℕ
 clear_below bytes end = filter (λ cluster. mark bytes cluster == 0) (range_with_len 0 end)
 
--- the clusters from one on and below another are in use
+-- the clusters from `first` up to `end` are in use
 abbrev pub MarkedFrom : List ℕ → ℕ → ℕ → Type 0
 MarkedFrom bytes first end = (cluster : ℕ) → first ≤ cluster → cluster < end → mark bytes cluster ≡ 1
 
@@ -29,7 +29,7 @@ pub record IsFirstClear (bytes : List ℕ) (first end cluster : ℕ) : Type 0 wh
   pub clear : mark bytes cluster ≡ 0
   pub marked_before : MarkedFrom bytes first cluster
 
--- the bytes have this mark at one cluster, and every other mark and byte is as it was
+-- the bytes have this mark at one cluster, and every other mark and byte is unchanged
 pub record ChangesMark (old new : List ℕ) (cluster bit : ℕ) : Type 0 where
   pub same_length : length new ≡ length old
   pub there : mark new cluster ≡ bit
@@ -49,7 +49,7 @@ map_free_clusters map = clear_below map.bytes map.whole
 abbrev pub NoneIsFree : ClusterMap → Type 0
 NoneIsFree map = MarkedFrom map.bytes 0 map.whole
 
--- a cluster before which none is free: it is the first, or the one before it is in use
+-- a cluster with no free one directly before it: it is the first, or the one before it is in use
 abbrev pub BeginsRun : ClusterMap → ℕ → Type 0
 BeginsRun map cluster = (cluster ≡ 0) ⊎ (mark map.bytes (cluster - 1) ≡ 1)
 
@@ -69,20 +69,20 @@ NextIsUsed map last = (at : ℕ) → last ≡ Some at → ¬ IsFreeInMap map (at
 abbrev pub IsFreeRun : ClusterMap → ℕ → Type 0
 IsFreeRun map cluster = IsFreeInMap map cluster × BeginsRun map cluster
 
--- which cluster may be taken after the given one, if one is given: a free one, the next if that is
--- free, and else one that begins a run
+-- the cluster that may be taken after the given one, if one is given: a free one, the next if that is free, otherwise
+-- one that begins a run
 pub record MayTake (map : ClusterMap) (last : Option ℕ) (cluster : ℕ) : Type 0 where
   pub free : IsFreeInMap map cluster
   pub next : (at : ℕ) → last ≡ Some at → IsFreeInMap map (at + 1) → cluster ≡ at + 1
   pub run : IsNextCluster last cluster ⊎ BeginsRun map cluster
 
--- the map has this mark at one cluster, and is as it was in all else
+-- the map has this mark at one cluster, and all else is unchanged
 pub record Marks (old new : ClusterMap) (cluster bit : ℕ) : Type 0 where
   pub clusters : new.clusters ≡ old.clusters
   pub whole : new.whole ≡ old.whole
   pub changed : ChangesMark old.bytes new.bytes cluster bit
 
--- the n-th sector of the map: the next 256 bytes, and zeros behind the last
+-- the n-th sector of the map: the next 256 bytes, with zeros after the last
 pub record IsSectorOf (bytes : List ℕ) (n : ℕ) (sector : List ℕ) : Type 0 where
   pub length : length sector ≡ 256
   pub each : (i : ℕ) → i < 256 → slice_index sector i ≡ slice_index bytes (256 * n + i)

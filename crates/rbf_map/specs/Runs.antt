@@ -1,4 +1,4 @@
--- Runs of free clusters, and which of them is chosen. The choice is ours: the manual leaves it open.
+-- Runs of free clusters, and the chosen one. The choice is ours: the manual leaves it open.
 use Rattle.std.specs.Prelude.{◌≡◌, ℕ, ◌+◌, ◌<◌, ◌≤◌, ◌==◌, ◌&&◌, nat_lt, Bool, true, List, Option}
 use Rattle.rbf_map.specs.Map.{ClusterMap, mark, NextIsUsed}
 
@@ -10,12 +10,11 @@ is_clear_below bytes end c = nat_lt c end && (mark bytes c == 0)
 abbrev pub is_clear : ClusterMap → ℕ → Bool
 is_clear map c = is_clear_below map.bytes map.whole c
 
--- n clusters, one behind the other from the first on, are free
+-- n clusters in a row, from the first on, are free
 abbrev pub AreFree : (ℕ → Bool) → ℕ → ℕ → Type 0
 AreFree free first n = (c : ℕ) → first ≤ c → c < first + n → free c ≡ true
 
--- the run that is chosen for so many: the first with n free clusters; n are all that are wanted, and else no run has
--- more
+-- the chosen run for `wanted` clusters: the first with n free clusters; n is all that are wanted, or no run has more
 pub record IsBestRun (free : ℕ → Bool) (wanted first n : ℕ) : Type 0 where
   pub needed : n ≤ wanted
   pub are_free : AreFree free first n
@@ -26,7 +25,7 @@ pub record IsBestRun (free : ℕ → Bool) (wanted first n : ℕ) : Type 0 where
 abbrev pub BeginsBestRun : (ℕ → Bool) → ℕ → ℕ → Type 0
 BeginsBestRun free wanted first = (n : ℕ) × IsBestRun free wanted first n
 
--- the cluster that is chosen for a file that still needs so many: if the next after its last is not free, the first of
+-- the chosen cluster for a file that still needs `wanted` clusters: if the one after its last is not free, the first of
 -- the best run
 abbrev pub IsChosen : ClusterMap → Option ℕ → ℕ → ℕ → Type 0
 IsChosen map last wanted cluster = NextIsUsed map last → BeginsBestRun (is_clear map) wanted cluster

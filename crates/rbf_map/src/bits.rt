@@ -2,7 +2,7 @@ ghost use Rattle.std.specs.Prelude.{◌≡◌, ◌≢◌, ℕ, ◌+◌, ◌-◌,
 ghost use Rattle.rbf_map.specs.Map.{mark, clear_below, MarkedFrom, IsFirstClear, ChangesMark};
 ghost use Rattle.rbf_map.specs.Search.{IsFirstMarked};
 
-// Is this cluster in use?
+// Whether this cluster is in use.
 pub fn is_marked(bytes: &[u8], cluster: u32) -> bool
     requires { cluster < 8 * length bytes.now }
     ensures { MatchBool result (mark bytes.now cluster ≡ 1) (mark bytes.now cluster ≡ 0) }
@@ -40,7 +40,7 @@ pub fn first_clear(bytes: &[u8], first: u32, end: u32) -> Option<u32>
     None
 }
 
-// Where the clusters that are not in use stop: the first from `first` on that is in use, or `end`.
+// The end of the clusters that are not in use: the first from `first` on that is in use, or `end`.
 pub fn first_marked(bytes: &[u8], first: u32, end: u32) -> u32
     requires bits { end ≤ 8 * length bytes.now }
     requires ordered { first ≤ end }
@@ -54,7 +54,7 @@ pub fn first_marked(bytes: &[u8], first: u32, end: u32) -> u32
     end
 }
 
-// How many of the clusters below `end` are not in use.
+// The number of clusters below `end` that are not in use.
 pub fn count_clear(bytes: &[u8], end: u32) -> u32
     requires { end ≤ 8 * length bytes.now }
     ensures { result ≡ length (clear_below bytes.now end) }

@@ -11,8 +11,8 @@ use std::marker::Model;
 /// the cluster is in use (OS-9 Technical Reference, Random Block File Manager, "Disk
 /// Allocation Map").
 ///
-/// A cluster is free if it is whole and its bit is clear. Bits behind the last cluster are kept
-/// as they were given.
+/// A cluster is free if it is whole and its bit is clear. Bits after the last cluster are kept as
+/// given.
 #[derive(Debug, Drop)]
 pub struct RbfMap {
     clusters: u32,
@@ -36,7 +36,7 @@ impl Model for RbfMap {
 }
 
 impl RbfMap {
-    /// The map with these bytes, of `clusters` clusters of which the first `whole` are whole.
+    /// The map with these bytes, of `clusters` clusters, the first `whole` of which are whole.
     pub fn new(clusters: u32, whole: u32, bytes: Vec<u8>) -> RbfMap
         requires whole_ones { whole ≤ clusters }
         requires bits { clusters ≤ 8 * length bytes.items }
@@ -53,7 +53,7 @@ impl RbfMap {
         }
     }
 
-    /// Is this cluster in use?
+    /// Whether this cluster is in use.
     pub fn is_used(&self, c: u32) -> bool
         requires { c < self.now.clusters }
         ensures { IsTrue result ↔ (mark self.now.bytes c ≡ 1) }
@@ -61,16 +61,17 @@ impl RbfMap {
         is_marked(&self.bytes, c)
     }
 
-    /// How many clusters are free.
+    /// The number of free clusters.
     pub fn free_count(&self) -> u32
         ensures { result ≡ length (map_free_clusters self.now) }
     {
         self.free
     }
 
-    /// Takes a free cluster for a file that needs `wanted` more, this one among them: the next after
-    /// `c` if that is free, and else, as without a `c`, the first of a run: of the first run that has
-    /// all of them, and if none has, of the longest. None exactly if no cluster is free.
+    /// Takes a free cluster for a file that needs `wanted` more, including this one: the next after
+    /// `c` if that is free. Otherwise, or without a `c`, the first of a run: of the first run that
+    /// has all of them, and if there is none, of the longest. Returns `None` if and only if no
+    /// cluster is free.
     pub fn take_after(&mut self, c: Option<u32>, wanted: u32) -> Option<u32>
         requires { 1 ≤ wanted }
         ensures none { IsNone result ↔ NoneIsFree self.old }
@@ -98,7 +99,7 @@ impl RbfMap {
         self.free -= 1;
     }
 
-    // The first cluster of the best run for so many.
+    // The first cluster of the best run for `wanted` clusters.
     fn best_run(&mut self, wanted: u32) -> Option<u32>
         requires { 1 ≤ wanted }
         ensures none { IfNone result (NoneIsFree self.old) }
@@ -130,7 +131,7 @@ impl RbfMap {
         }
     }
 
-    /// Gives a cluster back that is in use.
+    /// Gives back a cluster that is in use.
     pub fn free(&mut self, c: u32)
         requires within { c < self.old.clusters }
         requires used { mark self.old.bytes c ≡ 1 }
@@ -144,8 +145,8 @@ impl RbfMap {
         }
     }
 
-    /// The bytes of the `n`-th sector of the map, with zeros behind its end. `n` counts from 0,
-    /// LSN 1 on a disk.
+    /// The bytes of the `n`-th sector of the map, with zeros after its end. `n` counts from 0,
+    /// which is LSN 1 on a disk.
     pub fn sector(&self, n: u16, into: &mut [u8; 256])
         ensures { IsSectorOf self.now.bytes n into.new }
     {
@@ -158,8 +159,8 @@ impl RbfMap {
     }
 }
 
-// How long a run may be now that this cluster is free too, if none was longer than `longest`. A
-// cluster alone makes no run longer, and otherwise only the next search can tell.
+// The greatest length of a run after this cluster becomes free, if none was longer than `longest`.
+// A cluster alone makes no run longer; otherwise only the next search can determine it.
 fn longest_with(bytes: &[u8], cluster: u32, whole: u32, longest: u32) -> u32
     requires bits { whole ≤ 8 * length bytes.now }
     requires within { cluster < whole }

@@ -5,15 +5,15 @@ ghost use Rattle.rbf_map.specs.Search.{IsNextRun, IsAlone};
 
 use crate::bits::{first_clear, first_marked, is_marked};
 
-/// Free clusters, one behind the other.
+/// Free clusters that follow one another.
 #[derive(Clone, Copy, Debug, Drop)]
 pub struct Run {
     pub first: u32,
     pub length: u32,
 }
 
-// The first run with `enough` of the clusters below `end`, of which none before `start` is free, and
-// if there is none the first of the longest. What a run has besides is not counted.
+// The first run with `enough` of the clusters below `end`, or if there is none, the first of the
+// longest. No cluster before `start` is free. Further clusters of a run are not counted.
 pub fn best_run(bytes: &[u8], start: u32, end: u32, enough: u32) -> Run
     requires bits { end ≤ 8 * length bytes.now }
     requires used_before { MarkedFrom bytes.now 0 start }
@@ -61,7 +61,7 @@ fn next_run(bytes: &[u8], from: u32, end: u32, enough: u32) -> Option<Run>
     })
 }
 
-// Is neither of the clusters beside this one free?
+// Whether neither of this cluster's neighbours is free.
 pub fn is_alone(bytes: &[u8], cluster: u32, end: u32) -> bool
     requires bits { end ≤ 8 * length bytes.now }
     requires within { cluster < end }
@@ -76,7 +76,7 @@ pub fn is_alone(bytes: &[u8], cluster: u32, end: u32) -> bool
     }
 }
 
-// Is this cluster below `end`, and not in use?
+// Whether this cluster is below `end` and not in use.
 fn is_free(bytes: &[u8], cluster: u32, end: u32) -> bool
     requires { end ≤ 8 * length bytes.now }
     ensures { result ≡ is_clear_below bytes.now end cluster }

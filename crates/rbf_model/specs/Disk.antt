@@ -1,4 +1,4 @@
--- A disk: what its sector 0 says of it, and its sectors.
+-- A disk: its geometry, which sector 0 gives, and its sectors.
 use Rattle.std.specs.Prelude.{◌≡◌, ℕ, ◌<◌, List, length}
 use Rattle.rbf_model.specs.Geometry.{Geometry, image_geometry, sector}
 
@@ -7,7 +7,7 @@ pub record Disk : Type 0 where
   pub geometry : Geometry
   pub sectors : ℕ → List ℕ
 
--- the disk of these
+-- the disk with this geometry and these sectors
 abbrev pub disk_of : Geometry → (ℕ → List ℕ) → Disk
 disk_of g sectors = record { geometry = g; sectors = sectors }
 

@@ -1,4 +1,4 @@
--- Where the fields of RBF's sectors stand (OS-9 Technical Reference, Random Block File Manager). Places are decimal.
+-- The places of the fields in RBF's sectors (OS-9 Technical Reference, Random Block File Manager). Places are decimal.
 use Rattle.std.specs.Prelude.{ℕ, ◌+◌, ◌*◌, ◌==◌, Bool, not, List, map, take, drop, slice_index, take_while, Option}
 use Rattle.std.specs.List.{range_with_len}
 use Rattle.byteorder.specs.Endian.{big_from}
@@ -6,15 +6,15 @@ use Rattle.os9_base.specs.Name.{stored_name}
 
 -- Identification sector, LSN 0 ("Identification Sector").
 
--- DD.TOT: how many sectors the volume has
+-- DD.TOT: the number of sectors of the volume
 abbrev pub total_field : List ℕ → ℕ
 total_field ident = big_from 0 3 ident
 
--- DD.MAP: how many bytes the allocation map has
+-- DD.MAP: the number of bytes of the allocation map
 abbrev pub map_bytes_field : List ℕ → ℕ
 map_bytes_field ident = big_from 4 2 ident
 
--- DD.BIT: how many sectors a cluster has
+-- DD.BIT: the number of sectors of a cluster
 abbrev pub cluster_field : List ℕ → ℕ
 cluster_field ident = big_from 6 2 ident
 
@@ -22,11 +22,11 @@ cluster_field ident = big_from 6 2 ident
 abbrev pub root_field : List ℕ → ℕ
 root_field ident = big_from 8 3 ident
 
--- DD.BT: where the bootstrap file begins
+-- DD.BT: the first sector of the bootstrap file
 abbrev pub boot_field : List ℕ → ℕ
 boot_field ident = big_from 21 3 ident
 
--- DD.BSZ: how many bytes the bootstrap file has
+-- DD.BSZ: the number of bytes of the bootstrap file
 abbrev pub boot_size_field : List ℕ → ℕ
 boot_size_field ident = big_from 24 2 ident
 
@@ -40,7 +40,7 @@ attributes_field descriptor = slice_index descriptor 0
 abbrev pub owner_field : List ℕ → ℕ
 owner_field descriptor = big_from 1 2 descriptor
 
--- FD.DAT: when the file was last modified: year, month, day, hour, minute
+-- FD.DAT: the date and time of the last change: year, month, day, hour, minute
 abbrev pub modified_field : List ℕ → List ℕ
 modified_field descriptor = take 5 (drop 3 descriptor)
 
@@ -48,15 +48,15 @@ modified_field descriptor = take 5 (drop 3 descriptor)
 abbrev pub links_field : List ℕ → ℕ
 links_field descriptor = slice_index descriptor 8
 
--- FD.SIZ: how many bytes the file has
+-- FD.SIZ: the number of bytes of the file
 abbrev pub size_field : List ℕ → ℕ
 size_field descriptor = big_from 9 4 descriptor
 
--- FD.CREAT: when the file was made: year, month, day
+-- FD.CREAT: the date of the file's creation: year, month, day
 abbrev pub created_field : List ℕ → List ℕ
 created_field descriptor = take 3 (drop 13 descriptor)
 
--- FD.SEG: the pair in place i of the segment list: the first sector and the count of sectors
+-- FD.SEG: the pair in place i of the segment list: the first sector and the number of sectors
 abbrev pub segment_field : List ℕ → ℕ → ℕ × ℕ
 segment_field descriptor i = (big_from (16 + 5 * i) 3 descriptor, big_from (19 + 5 * i) 2 descriptor)
 
@@ -64,7 +64,7 @@ segment_field descriptor i = (big_from (16 + 5 * i) 3 descriptor, big_from (19 +
 abbrev pub has_sectors : ℕ × ℕ → Bool
 has_sectors segment = not (segment.1 == 0)
 
--- the segments of a file: the pairs, of the 48 that there are, before the first with a zero count
+-- the segments of a file: those of the 48 pairs before the first with a zero count
 unfoldable pub segments_field : List ℕ → List (ℕ × ℕ)
 segments_field descriptor = take_while has_sectors (map (segment_field descriptor) (range_with_len 0 48))
 
@@ -74,7 +74,7 @@ segments_field descriptor = take_while has_sectors (map (segment_field descripto
 abbrev pub directory_entry : List ℕ → ℕ → List ℕ
 directory_entry contents i = take 32 (drop (32 * i) contents)
 
--- DIR.NM: an entry is used where its name does not begin with a zero
+-- DIR.NM: an entry is used if its name does not begin with a zero
 abbrev pub is_used : List ℕ → Bool
 is_used entry = not (slice_index entry 0 == 0)
 

@@ -1,15 +1,15 @@
--- What sector 0 says of the whole volume.
+-- The description of the whole volume in sector 0.
 use Rattle.std.specs.Prelude.{◌≡◌, ℕ, ◌+◌, ◌*◌, ◌/◌, ◌<◌, ◌≤◌, ◌==◌, ◌&&◌, ◌||◌, nat_le, Bool, true, List, length, take, drop, All}
 use Rattle.rbf_model.specs.Fields.{total_field, map_bytes_field, cluster_field, root_field}
 
--- the size of the volume, of its map and of its clusters, and where its root is
+-- the size of the volume, of its map and of its clusters, and the sector of its root
 pub record Geometry : Type 0 where
   pub total : ℕ
   pub map_bytes : ℕ
   pub cluster : ℕ
   pub root : ℕ
 
--- as the identification sector has it
+-- the geometry in an identification sector
 abbrev pub geometry : List ℕ → Geometry
 geometry ident =
     record {
@@ -19,15 +19,15 @@ geometry ident =
       root = root_field ident;
     }
 
--- the sizes of clusters that this project takes: the powers of two up to 64 sectors
+-- the sizes of clusters that this project accepts: the powers of two up to 64 sectors
 abbrev pub is_cluster_size : ℕ → Bool
 is_cluster_size k = (k == 1) || (k == 2) || (k == 4) || (k == 8) || (k == 16) || (k == 32) || (k == 64)
 
--- how many sectors the map fills, from LSN 1 on
+-- the number of sectors of the map, from LSN 1 on
 abbrev pub map_sectors : Geometry → ℕ
 map_sectors g = (g.map_bytes + 255) / 256
 
--- a volume that this project takes, as far as its size, its clusters and its root go
+-- a volume that this project accepts, by its size, its clusters and its root
 pub record IsHeader (g : Geometry) : Type 0 where
   pub least : 4 ≤ g.total
   pub most : g.total ≤ 524280
@@ -54,7 +54,7 @@ pub record IsNumber (g : Geometry) (n : ℕ) : Type 0 where
 abbrev pub is_within : Geometry → ℕ × ℕ → Bool
 is_within g segment = nat_le 1 segment.0 && nat_le (segment.0 + segment.1) g.total
 
--- and so does each of a list
+-- and so does each segment of a list
 abbrev pub LieWithin : Geometry → List (ℕ × ℕ) → Type 0
 LieWithin g segments = All (λ segment. is_within g segment ≡ true) segments
 
@@ -62,11 +62,11 @@ LieWithin g segments = All (λ segment. is_within g segment ≡ true) segments
 abbrev pub sector : List ℕ → ℕ → List ℕ
 sector image n = take 256 (drop (256 * n) image)
 
--- what an image's sector 0 says
+-- the geometry in sector 0 of an image
 abbrev pub image_geometry : List ℕ → Geometry
 image_geometry image = geometry (sector image 0)
 
--- an image that holds the volume that its sector 0 speaks of
+-- an image that holds the volume that its sector 0 describes
 pub record HasHeader (image : List ℕ) : Type 0 where
   pub ident : 256 ≤ length image
   pub header : IsHeader (image_geometry image)

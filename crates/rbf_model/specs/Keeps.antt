@@ -1,4 +1,4 @@
--- The nine rules of a well formed volume once more, positively: what a disk is on which none of them is broken.
+-- The nine rules of a well formed volume in positive form: a disk on which none of them is broken.
 use Rattle.std.specs.Prelude.{◌≡◌, ℕ, ◌/◌, true}
 use Rattle.rbf_model.specs.Fields.{size_field, segments_field, directory_entry, descriptor_field}
 use Rattle.rbf_model.specs.Geometry.{LieWithin, HasMap, IsNumber}

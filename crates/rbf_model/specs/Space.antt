@@ -1,4 +1,4 @@
--- Clusters: which are marked, and which of them a file has.
+-- Clusters: those that are marked, and those of a file.
 use Rattle.std.specs.Prelude.{◌≡◌, ◌↔◌, ℕ, ◌+◌, ◌-◌, ◌*◌, ◌/◌, ◌%◌, ◌==◌, nat_le, Bool, true, false, List, [], ◌∷◌, ◌++◌, slice_index, Option, Some, if◌then◌else◌}
 use Rattle.std.specs.List.{range_with_len, list_any}
 use Rattle.std.specs.Int.{bit_at}
@@ -10,7 +10,7 @@ use Rattle.rbf_model.specs.File.{DiskFile}
 abbrev pub is_whole : Geometry → ℕ → Bool
 is_whole g c = nat_le ((c + 1) * g.cluster) g.total
 
--- how many clusters there are
+-- the number of clusters
 abbrev pub cluster_count : Geometry → ℕ
 cluster_count g = (g.total + (g.cluster - 1)) / g.cluster
 
@@ -30,7 +30,7 @@ system_sectors g = range_with_len 0 (1 + map_sectors g)
 abbrev pub own_sectors : ℕ → DiskFile → List ℕ
 own_sectors n file = n ∷ sectors_of file.segments
 
--- the sectors of one owner: those of the file, and for the root's file the system's sectors before them
+-- the sectors of one owner: those of the file; for the root's file, the system's sectors come first
 unfoldable pub owned : Geometry → ℕ → DiskFile → List ℕ
 owned g n file = (if n == g.root then system_sectors g else []) ++ own_sectors n file
 
@@ -46,14 +46,14 @@ has_cluster g n file c = list_any (λ t. t / g.cluster == c) (owned g n file)
 abbrev pub Unused : Geometry → (ℕ → Option DiskFile) → ℕ → Type 0
 Unused g files c = (n : ℕ) (file : DiskFile) → files n ≡ Some file → has_cluster g n file c ≡ false
 
--- a cluster that is in use for nothing: whole, marked and in no file
+-- a lost cluster: whole, marked and in no file
 pub record IsLost (g : Geometry) (marked : ℕ → Bool) (files : ℕ → Option DiskFile) (c : ℕ) : Type 0 where
   pub whole : is_whole g c ≡ true
   pub marked_in : marked c ≡ true
   pub unused : Unused g files c
 
--- The rules on sectors, for the files of a volume: the segments of each are within it, and every cluster is used by one
--- owner at most, and marked if it is used.
+-- The rules on sectors, for the files of a volume: the segments of each are within it, and every cluster has at most
+-- one owner, and is marked if it has one.
 pub record IsMapped (g : Geometry) (marked : ℕ → Bool) (files : ℕ → Option DiskFile) (lost : ℕ → Bool) : Type 0 where
   -- rule 1
   pub within : (n : ℕ) (file : DiskFile) → files n ≡ Some file → LieWithin g file.segments
@@ -63,5 +63,5 @@ pub record IsMapped (g : Geometry) (marked : ℕ → Bool) (files : ℕ → Opti
   pub once : (n : ℕ) (file : DiskFile) → files n ≡ Some file → AreDistinct (owned g n file)
   pub apart : (n m : ℕ) (one other : DiskFile) (c : ℕ) → files n ≡ Some one → files m ≡ Some other
       → has_cluster g n one c ≡ true → has_cluster g m other c ≡ true → n ≡ m
-  -- the lost clusters are those that are in use for nothing
+  -- the lost clusters are those that are marked and in no file
   pub lost_are : (c : ℕ) → (lost c ≡ true) ↔ IsLost g marked files c

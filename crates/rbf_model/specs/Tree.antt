@@ -1,5 +1,5 @@
--- Directories, and the tree that their entries make. `dirs` gives the bytes of each directory by the number of its
--- descriptor, and no bytes for a number that is no directory's.
+-- Directories, and the tree of their entries. `dirs` gives the bytes of each directory by the number of its descriptor,
+-- and no bytes for any other number.
 use Rattle.std.specs.Prelude.{◌≡◌, ◌≢◌, ℕ, ◌+◌, ◌*◌, ◌≤◌, true, List, [], ◌∷◌, length, Some}
 use Rattle.os9_base.specs.Name.{SameName}
 use Rattle.rbf_model.specs.Fields.{directory_entry, is_used, entry_name_field, descriptor_field}
@@ -23,7 +23,7 @@ pub record EntryNames (contents : List ℕ) (i n : ℕ) : Type 0 where
   pub entry : HasEntry contents i
   pub descriptor : descriptor_field (directory_entry contents i) ≡ n
 
--- the files that are reached: the root, and each number of the volume that a reached directory names
+-- the reached files: the root, and each number of the volume that a reached directory names
 pub data Reached (g : Geometry) (dirs : ℕ → List ℕ) : ℕ → Type 0 where
   root : Reached g dirs g.root
   named : {d i n : ℕ} → Reached g dirs d → EntryNames (dirs d) i n → IsNumber g n → Reached g dirs n
@@ -63,7 +63,7 @@ HasNames contents =
     (i : ℕ) → 2 ≤ i → HasEntry contents i
     → (name : List ℕ) × (entry_name_field (directory_entry contents i) ≡ Some name) × IsProper name
 
--- and no two of them the same one
+-- and no two of them have the same name
 abbrev pub HasDifferentNames : List ℕ → Type 0
 HasDifferentNames contents =
     (i j : ℕ) (one other : List ℕ) → 2 ≤ i → 2 ≤ j → HasEntry contents i → HasEntry contents j

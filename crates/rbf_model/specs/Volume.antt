@@ -25,17 +25,16 @@ listing (Some file) = if is_directory file then file.contents else []
 abbrev pub directories : (ℕ → Option DiskFile) → ℕ → List ℕ
 directories files n = listing (files n)
 
--- each file is as its descriptor says, and its segments hold its size
+-- each file is the one that its descriptor represents, and its segments hold its size
 pub record Shows (sectors : ℕ → List ℕ) (v : DiskVolume) : Type 0 where
   pub ident : v.ident ≡ sectors 0
   pub shown : (n : ℕ) (file : DiskFile) → v.files n ≡ Some file → file ≡ file_at sectors n
   pub room : (n : ℕ) (file : DiskFile) → v.files n ≡ Some file → has_room file.segments (size_field (sectors n)) ≡ true
 
--- The rules on directories, for the files of a volume: they are those that are reached from the root, each by one
--- entry,
--- and the directories are in order.
+-- The rules on directories, for the files of a volume: the files are those that are reached from the root, each by one
+-- entry, and the directories are in order.
 pub record IsTree (g : Geometry) (files : ℕ → Option DiskFile) : Type 0 where
-  -- the files are those that are reached
+  -- the files are the reached ones
   pub reached : (n : ℕ) → IsSome (files n) ↔ Reached g (directories files) n
   -- rule 6
   pub root : (file : DiskFile) → files g.root ≡ Some file → is_directory file ≡ true
@@ -70,7 +69,7 @@ pub record Vol (image : List ℕ) (v : DiskVolume) : Type 0 where
   pub sound : Sound (image_disk image) v
   pub rest : v.rest ≡ drop (256 * (image_geometry image).total) image
 
--- the cluster is one of the file's, if there is one
+-- the cluster is one of the file's, if there is a file
 abbrev pub in_file : Geometry → ℕ → Option DiskFile → ℕ → Bool
 in_file g n None c = false
 in_file g n (Some file) c = has_cluster g n file c

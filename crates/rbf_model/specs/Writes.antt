@@ -1,4 +1,4 @@
--- What the write of one sector makes of an image, and a change of one file of a volume.
+-- The result of the write of one sector of an image, and of a change of one file of a volume.
 use Rattle.std.specs.Prelude.{◌≡◌, ◌≢◌, ◌⊎◌, ℕ, ◌+◌, ◌*◌, ◌≤◌, ◌==◌, Bool, true, false, List, ◌++◌, length, take, drop, Option, Some, if◌then◌else◌}
 use Rattle.os9_base.specs.Name.{SameName}
 use Rattle.rbf_model.specs.Fields.{directory_entry, is_used, entry_name_field}
@@ -12,7 +12,7 @@ use Rattle.rbf_model.specs.Volume.{DiskVolume, in_file}
 abbrev pub put_sector : List ℕ → ℕ → List ℕ → List ℕ
 put_sector image s bytes = take (256 * s) image ++ bytes ++ drop (256 * s + 256) image
 
--- the same of a disk
+-- the same for a disk
 abbrev pub put : (ℕ → List ℕ) → ℕ → List ℕ → ℕ → List ℕ
 put disk s bytes n = if n == s then bytes else disk n
 
@@ -20,16 +20,17 @@ put disk s bytes n = if n == s then bytes else disk n
 abbrev pub put_at : List ℕ → ℕ → List ℕ → List ℕ
 put_at contents at bytes = take at contents ++ bytes ++ drop (at + length bytes) contents
 
--- files, of which the one of number n is another, or is no more
+-- the files, with file n replaced or removed
 abbrev pub put_file : (ℕ → Option DiskFile) → ℕ → Option DiskFile → ℕ → Option DiskFile
 put_file files n file m = if m == n then file else files m
 
--- which clusters are lost after that: none of the file's, and the whole ones that it gave up besides those that were
+-- the clusters that are lost after that: those lost before and the whole ones that the file gave up, but none of the
+-- new file's
 abbrev pub lost_after : Geometry → (ℕ → Option DiskFile) → (ℕ → Bool) → ℕ → Option DiskFile → ℕ → Bool
 lost_after g files lost n file c =
     if in_file g n file c then false else (if in_file g n (files n) c then is_whole g c else lost c)
 
--- a volume whose file of number n is another, or is no more
+-- a volume with file n replaced or removed
 abbrev pub with_file : Geometry → DiskVolume → ℕ → Option DiskFile → DiskVolume
 with_file g v n file = record {
   ident = v.ident;
@@ -38,7 +39,7 @@ with_file g v n file = record {
   rest = v.rest;
 }
 
--- a volume whose file of number n is another in the same place: one with the same segments
+-- a volume with file n replaced by one with the same segments
 abbrev pub with_file_in_place : DiskVolume → ℕ → DiskFile → DiskVolume
 with_file_in_place v n file =
     record { ident = v.ident; files = put_file v.files n (Some file); lost = v.lost; rest = v.rest }

@@ -1,4 +1,4 @@
-//! What RBF's disks are: the volume that an image represents, and what one sector write makes of it.
+//! RBF's disks: the volume that an image represents, and the result of one sector write.
 #![tactic(auto)]
 
 pub mod volume;

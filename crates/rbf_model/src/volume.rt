@@ -11,7 +11,7 @@ ghost use Rattle.rbf_model.specs.Faults.{ImageBreaks};
 ghost use Rattle.rbf_model.specs.Keeps.{Keeps};
 ghost use Rattle.rbf_model.specs.Search.{IsFound, image_volume};
 
-/// An image represents one volume at most.
+/// An image represents at most one volume.
 pub fn one_volume()
     ensures { (image : List ℕ) (v w : DiskVolume) → Vol image v → Vol image w → v ≡ w }
 {}
@@ -22,7 +22,7 @@ pub fn no_rule_is_broken()
         Vol image v → ImageBreaks image rule lsn → ⊥ }
 {}
 
-/// An image on which no rule is broken represents the volume of what is reached on it.
+/// An image that breaks no rule represents the volume of its reached files.
 pub fn rules_suffice()
     ensures { (image numbers : List ℕ) → HasHeader image
         → Keeps (image_disk image)
@@ -38,7 +38,7 @@ pub fn free_clusters_are_unmarked()
         (range_with_len 0 (cluster_count (image_geometry image))) }
 {}
 
-/// A walk in a volume that begins at one of its files and arrives anywhere arrives at another.
+/// A walk in a volume that begins at one of its files ends, if it arrives, at one of its files.
 pub fn walks_arrive_at_files()
     ensures { (image : List ℕ) (v : DiskVolume) (user : ℕ) (execute : Bool) (d n : ℕ)
         (names : List (List ℕ)) → Vol image v → IsSome (v.files d)

@@ -1,7 +1,6 @@
-//! The laws of a write of one sector: each says which volume an image represents after it.
+//! The laws of a write of one sector: each gives the volume that an image represents after it.
 //!
-//! A call that changes a volume is a list of such writes, so what it represents after any of them
-//! follows.
+//! A call that changes a volume is a list of such writes, so the volume after any of them follows.
 
 ghost use Rattle.std.specs.Prelude.{◌≡◌, ℕ, ◌&&◌, ◌||◌, not, Bool, List, length, Option, Some, None};
 ghost use Rattle.rbf_model.specs.Geometry.{image_geometry, sector};
@@ -19,7 +18,7 @@ pub fn marked_clusters_are_lost()
         → Vol (put_sector image s bytes) (with_lost v (λ c. v.lost c || taken c)) }
 {}
 
-/// Lost clusters whose marks are cleared in one sector of the map are lost no more. The marks of
+/// Lost clusters whose marks are cleared in one sector of the map are no longer lost. The marks of
 /// clusters that are not whole and in no file may be cleared with them.
 pub fn cleared_clusters_are_free()
     ensures { (image : List ℕ) (v : DiskVolume) (s : ℕ) (bytes : List ℕ) (freed : ℕ → Bool) →
@@ -28,8 +27,8 @@ pub fn cleared_clusters_are_free()
         → Vol (put_sector image s bytes) (with_lost v (λ c. v.lost c && not (freed c))) }
 {}
 
-/// A write to a sector of a free or lost cluster, to one that nothing owns, or to a file's sector
-/// of which no byte below the file's size changes, leaves the volume as it was.
+/// A write to a sector of a free or lost cluster, to a sector without an owner, or to a file's
+/// sector in which no byte below the file's size changes, leaves the volume unchanged.
 pub fn unseen_writes_leave_the_volume()
     ensures { (image : List ℕ) (v : DiskVolume) (s : ℕ) (bytes : List ℕ) →
         Vol image v → length bytes ≡ 256
@@ -37,7 +36,8 @@ pub fn unseen_writes_leave_the_volume()
         → Vol (put_sector image s bytes) v }
 {}
 
-/// A write to a sector of a file that is no directory changes those of its contents that it holds.
+/// A write to a sector of a file that is not a directory changes the file's contents in that
+/// sector.
 pub fn data_is_overwritten()
     ensures { (image : List ℕ) (v : DiskVolume) (n j s : ℕ) (file : DiskFile) (bytes : List ℕ) →
         Vol image v → length bytes ≡ 256
@@ -67,7 +67,7 @@ pub fn entry_becomes_used()
         (Some (file_at (sector image) n))) }
 {}
 
-/// A descriptor that gives a directory one entry more brings the file that it names into the
+/// A descriptor that gives a directory one more entry brings the file that it names into the
 /// volume.
 pub fn directory_grows_by_an_entry()
     ensures { (image : List ℕ) (v : DiskVolume) (entry : DirectoryEntry) (bytes : List ℕ)
@@ -80,7 +80,7 @@ pub fn directory_grows_by_an_entry()
         (Some (file_at (sector image) n))) }
 {}
 
-/// A used entry that becomes free takes the file that it named out of the volume, and loses its
+/// A used entry that becomes free removes the file that it named from the volume, and loses its
 /// whole clusters.
 pub fn entry_becomes_free()
     ensures { (image : List ℕ) (v : DiskVolume) (entry : DirectoryEntry) (write : SectorWrite)

@@ -42,12 +42,12 @@ pub record AreDotted (disk : Disk) (dotted : List Bool) : Type 0 where
   pub there : (n : ℕ) → IsNumber disk.geometry n → HasDots disk.geometry (searchable_bytes disk) n
       → get_or dotted n false ≡ true
 
--- the descriptor is that of a directory that does not begin so
+-- the descriptor is that of a directory that does not begin with its dots
 abbrev pub IsWithoutDots : Disk → ℕ → ℕ → Type 0
 IsWithoutDots disk n s = (s ≡ n)
     × ((is_directory (file_at disk.sectors n) ≡ true) × (HasDots disk.geometry (searchable_bytes disk) n → ⊥))
 
--- each number of the volume begins so or does not
+-- for each number of the volume it is decided whether it begins with its dots
 abbrev pub AreDotsDecided : Disk → Type 0
 AreDotsDecided disk = (n : ℕ) → IsNumber disk.geometry n
     → HasDots disk.geometry (searchable_bytes disk) n ⊎ (HasDots disk.geometry (searchable_bytes disk) n → ⊥)

@@ -1,4 +1,4 @@
--- The names of a directory, told apart with the case of letters ignored, for rule 8.
+-- The names of a directory, compared with the case of letters ignored, for rule 8.
 use Rattle.rbf_model.specs.Disk.{Disk}
 use Rattle.std.specs.Prelude.{◌≡◌, ◌⊎◌, ℕ, ◌<◌, ◌≤◌, true, List, length, get_or, Some}
 use Rattle.std.specs.Ordering.{nat_cmp}
@@ -9,7 +9,7 @@ use Rattle.rbf_model.specs.Fields.{directory_entry, entry_name_field}
 use Rattle.rbf_model.specs.Search.{searchable_bytes}
 use Rattle.rbf_model.specs.Tree.{HasEntry, IsProper, HasNames, HasDifferentNames}
 
--- the characters of the name, none of them zero, in lower case, and zeros behind them
+-- the characters of the name, none of them zero, in lower case, with zeros after them
 pub record IsKey (name key : List ℕ) : Type 0 where
   pub size : length key ≡ 29
   pub characters : (k : ℕ) → k < length name → 1 ≤ get_or name k 0
@@ -26,7 +26,7 @@ pub record IsKeyAdded (old new : BTreeSet (List ℕ)) (key : List ℕ) : Type 0 
   pub there : HasKey new key
   pub only : (q : List ℕ) → HasKey new q → HasKey old q ⊎ (q ≡ key)
 
--- a proper name that an entry has, and its key, which is in the set
+-- the proper name of an entry, and its key, which is in the set
 pub record IsNamedSo (contents : List ℕ) (keys : BTreeSet (List ℕ)) (k : ℕ) : Type 0 where
   pub name : List ℕ
   pub key : List ℕ
@@ -53,7 +53,7 @@ pub record AreNamed (contents : List ℕ) (keys : BTreeSet (List ℕ)) (i : ℕ)
       → entry_name_field (directory_entry contents j) ≡ Some one
       → entry_name_field (directory_entry contents k) ≡ Some other → SameName one other → j ≡ k
 
--- an entry has no proper name, or two have the same
+-- an entry has no proper name, or two have the same name
 abbrev pub IsBadlyNamed : List ℕ → Type 0
 IsBadlyNamed contents = (HasNames contents → ⊥) ⊎ (HasDifferentNames contents → ⊥)
 

@@ -1,4 +1,4 @@
--- Which links name a descriptor that another link names too, for rule 9.
+-- The links that name a descriptor that another link also names, for rule 9.
 use Rattle.std.specs.Prelude.{◌≡◌, ◌⊎◌, ℕ, ◌<◌, ◌≤◌, List, get_or, Option, Some, None}
 use Rattle.rbf_reach.specs.declared.links.Link.{Link}
 
@@ -6,7 +6,7 @@ use Rattle.rbf_reach.specs.declared.links.Link.{Link}
 abbrev pub link_at : List Link → ℕ → Link
 link_at links k = get_or links k (record { directory = 0; entry = 0; descriptor = 0 })
 
--- the two are one entry
+-- the two links are the same entry
 abbrev pub AreSame : Link → Link → Type 0
 AreSame one other = (one.directory ≡ other.directory) × (one.entry ≡ other.entry)
 
@@ -20,7 +20,7 @@ pub record AreFirsts (links : List Link) (firsts : List (Option ℕ)) (k : ℕ) 
   pub each : (n j : ℕ) → get_or firsts n None ≡ Some j → (j < k) × IsFirst links n j
   pub there : (j : ℕ) → j < k → (m : ℕ) × (get_or firsts (link_at links j).descriptor None ≡ Some m)
 
--- the link in place k names the root's descriptor, or one that a first link names which is another entry
+-- the link in place k names the root's descriptor, or a descriptor whose first link is another entry
 abbrev pub IsNamedAgain : List Link → ℕ → ℕ → ℕ → Type 0
 IsNamedAgain links root k n =
     (n ≡ (link_at links k).descriptor)

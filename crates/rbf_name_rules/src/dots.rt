@@ -15,7 +15,7 @@ use rbf_reach::{
 use rbf_sector::{Entry, read_entry};
 use std::alloc::{AllocError, Global};
 
-// Is the one entry `.` of this directory, and the other `..` for this parent?
+// Whether the one entry is `.` of this directory, and the other `..` for this parent.
 fn are_dots(own: &Entry, parent: &Entry, d: u32, p: u32) -> bool
     ensures { Decides result (AreDots own.now parent.now d p) }
 {
@@ -31,7 +31,7 @@ fn are_dots(own: &Entry, parent: &Entry, d: u32, p: u32) -> bool
     spells(&parent.name, b"..")
 }
 
-// Are the first two entries of a directory itself and this parent?
+// Whether the first two entries of a directory are itself and this parent.
 fn begins_with_dots(image: &IdentifiedImage<'_>, dir: &Directory, p: u32) -> bool
     requires { IsDirectory image.now dir.now }
     ensures { Decides result

@@ -13,7 +13,8 @@ use rbf_sector::read_entry;
 use std::alloc::{AllocError, Global};
 use std::collections::BTreeSet;
 
-// Is the entry free, or has it a proper name that no earlier entry has? Then its key is added.
+// Whether the entry is free, or has a proper name that no earlier entry has. The key of the name is
+// then added.
 fn add_name(
     image: &IdentifiedImage<'_>,
     dir: &Directory,
@@ -46,7 +47,7 @@ fn add_name(
     Ok(fresh)
 }
 
-// Have the used entries after the first two proper names that differ?
+// Whether the used entries after the first two have proper names that differ.
 fn is_well_named(
     alloc: Global,
     image: &IdentifiedImage<'_>,
@@ -69,7 +70,7 @@ fn is_well_named(
     Ok(true)
 }
 
-// The descriptor, if it is that of a directory whose names are not so.
+// The descriptor, if it is that of a directory whose names do not keep that rule.
 fn badly_named(
     alloc: Global,
     image: &IdentifiedImage<'_>,
@@ -86,8 +87,8 @@ fn badly_named(
     Ok(Some(file.number))
 }
 
-/// The least directory that breaks rule 8: an entry after the first two has no proper name, or
-/// two have the same, with the case of letters ignored. None if the rule is kept.
+/// The least directory that breaks rule 8: an entry after the first two has no proper name, or two
+/// have the same name, with the case of letters ignored. None if the rule is kept.
 ///
 /// # Errors
 ///

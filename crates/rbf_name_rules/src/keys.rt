@@ -6,7 +6,7 @@ use os9_base::name::Name;
 use std::alloc::AllocError;
 use std::collections::BTreeSet;
 
-// A letter in lower case, any other character as it is.
+// A letter in lower case; any other character is unchanged.
 fn lower(character: u8) -> u8
     ensures { result ≡ lower_lem character }
 {
@@ -17,7 +17,7 @@ fn lower(character: u8) -> u8
     }
 }
 
-// The characters of a name in lower case, and zeros behind them.
+// The characters of a name in lower case, with zeros after them.
 pub fn key_of(name: &Name) -> [u8; 29]
     ensures { IsKey name.now result }
 {
@@ -28,7 +28,7 @@ pub fn key_of(name: &Name) -> [u8; 29]
     key
 }
 
-// Adds a key, and answers whether it is new.
+// Adds a key, and returns whether it is new.
 pub fn add_key(keys: &mut BTreeSet<[u8; 29]>, key: [u8; 29]) -> Result<bool, AllocError>
     ensures added { OnOk result (IsKeyAdded keys.old keys.new key) }
     ensures fresh { IfOk result

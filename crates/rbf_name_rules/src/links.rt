@@ -9,8 +9,7 @@ use rbf_reach::{IdentifiedImage, Link, least_of};
 use rbf_sector::Ident;
 use std::alloc::{AllocError, Global};
 
-// Does the link name the root's descriptor, or is it another entry than the first of its
-// descriptor?
+// Whether the link names the root's descriptor, or is not the first link of its descriptor.
 fn is_again(root: u32, first: &Link, link: &Link) -> bool
     ensures { MatchBool result ((link.now.descriptor ≡ root) ⊎ (AreSame first.now link.now → ⊥))
         ((link.now.descriptor ≡ root → ⊥) × AreSame first.now link.now) }
@@ -19,7 +18,7 @@ fn is_again(root: u32, first: &Link, link: &Link) -> bool
     link.descriptor == root || !same
 }
 
-// The first link that names the descriptor: this one, which is then noted, where there is none.
+// The first link that names the descriptor. If there is none, it is this one, which is then noted.
 fn first_of(firsts: &mut Vec<Option<usize>>, n: u32, k: usize) -> usize
     requires { n < length firsts.old.items }
     ensures noted { IsGiven firsts.old.items firsts.new.items k n }
@@ -34,7 +33,7 @@ fn first_of(firsts: &mut Vec<Option<usize>>, n: u32, k: usize) -> usize
     }
 }
 
-// The descriptor of the link in place `k`, if it is the root's or another link names it before.
+// The descriptor of the link in place `k`, if it is the root's or an earlier link names it.
 fn named_again(
     links: &[Link],
     firsts: &mut Vec<Option<usize>>,
@@ -57,8 +56,8 @@ fn named_again(
     }
 }
 
-/// The least descriptor that breaks rule 9: two entries name it, or it is the root's and one does.
-/// None if the rule is kept.
+/// The least descriptor that breaks rule 9: two entries name it, or it is the root's and one entry
+/// names it. None if the rule is kept.
 ///
 /// # Errors
 ///

@@ -4,7 +4,7 @@ ghost use Rattle.os9_base.specs.Name.{stored_name};
 
 use os9_base::name::{Name, header_name};
 
-// Is the name this text?
+// Whether the name is this text.
 pub fn is_text(name: &Name, text: &[u8]) -> bool
     ensures { Decides result (name.now ≡ text.now) }
 {
@@ -19,7 +19,7 @@ pub fn is_text(name: &Name, text: &[u8]) -> bool
     true
 }
 
-// Does the name of an entry spell this text?
+// Whether the name of an entry is this text.
 pub fn spells(bytes: &[u8; 29], text: &[u8]) -> bool
     ensures { Decides result (stored_name bytes.now ≡ Some text.now) }
 {

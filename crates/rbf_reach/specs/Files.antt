@@ -8,7 +8,7 @@ use Rattle.rbf_reach.specs.declared.file.FoundFile.{FoundFile}
 use Rattle.rbf_reach.specs.declared.image.IdentifiedImage.{IdentifiedImage}
 use Rattle.rbf_reach.specs.Reading.{disk_on}
 
--- the descriptor that stands in a sector
+-- the descriptor in a sector
 pub record IsFdIn (bytes : List ℕ) (fd : Fd) : Type 0 where
   pub attr : fd.attr ≡ attributes_field bytes
   pub owner : fd.owner ≡ owner_field bytes
@@ -18,7 +18,7 @@ pub record IsFdIn (bytes : List ℕ) (fd : Fd) : Type 0 where
   pub created : fd.created ≡ created_field bytes
   pub segs : fd.segs ≡ segments_field bytes
 
--- a file of the image: a number of its volume, and the descriptor that stands there
+-- a file of the image: a number of its volume, and the descriptor in that sector
 pub record IsFileOn (image : IdentifiedImage) (file : FoundFile) : Type 0 where
   pub number : file.number < image.ident.total
   pub fd : IsFdIn (sector image.bytes.now file.number) file.fd
@@ -27,7 +27,7 @@ pub record IsFileOn (image : IdentifiedImage) (file : FoundFile) : Type 0 where
 abbrev pub found_numbers : List FoundFile → List ℕ
 found_numbers files = map (λ file. file.number) files
 
--- the files are those that are reached, each with its descriptor
+-- the files are the reached ones, each with its descriptor
 pub record AreFiles (image : IdentifiedImage) (files : List FoundFile) : Type 0 where
   pub found : IsFound (disk_on image) (found_numbers files)
   pub read : All (IsFileOn image) files

@@ -1,7 +1,7 @@
--- Tables of what is noted first for each number.
+-- Tables of the first note for each number.
 use Rattle.std.specs.Prelude.{◌≡◌, ◌⊎◌, ℕ, List, length, get_or, Option, Some, None}
 
--- place c of the table has been given n, if it had nothing
+-- place c of the table has been given n, if it was empty
 pub record IsGiven (old new : List (Option ℕ)) (n c : ℕ) : Type 0 where
   pub size : length new ≡ length old
   pub kept : (d m : ℕ) → get_or old d None ≡ Some m → get_or new d None ≡ Some m

@@ -8,7 +8,7 @@ use Rattle.rbf_model.specs.Segments.{segment_sectors}
 abbrev pub entry_at_position : (ℕ → List ℕ) → ℕ → List ℕ
 entry_at_position disk e = directory_entry (disk (e / 8)) (e % 8)
 
--- the positions of a list of ranges, each given by its first position and how many it has
+-- the positions of a list of ranges, each given by its first position and its number of positions
 abbrev pub positions_in : List (ℕ × ℕ) → List ℕ
 positions_in ranges = flat_map segment_sectors ranges
 

@@ -1,4 +1,4 @@
--- What is read of an identified image: its descriptors and its directories.
+-- The descriptors and directories that are read from an identified image.
 use Rattle.rbf_model.specs.Disk.{Disk, disk_of}
 use Rattle.std.specs.Prelude.{◌≡◌, ℕ, ◌*◌, ◌<◌, ◌==◌, ◌&&◌, Bool, List, length}
 use Rattle.std.specs.List.{list_all}
@@ -16,17 +16,17 @@ use Rattle.rbf_reach.specs.declared.image.IdentifiedImage.{IdentifiedImage}
 abbrev pub disk_on : IdentifiedImage → Disk
 disk_on image = disk_of (geometry_of image.ident) (sector image.bytes.now)
 
--- the bytes of a directory that can be searched, and no bytes for any other descriptor
+-- the bytes of a searchable directory, and no bytes for any other descriptor
 abbrev pub listed : IdentifiedImage → ℕ → List ℕ
 listed image n = searchable_bytes (disk_on image) n
 
--- a descriptor's segments, and how many entries it has for the rules
+-- a descriptor's segments, and the number of its entries for the rules
 pub record IsDirectory (image : IdentifiedImage) (dir : Directory) : Type 0 where
   pub number : dir.number < image.ident.total
   pub segments : dir.segs ≡ segments_field (sector image.bytes.now dir.number)
   pub entries : 32 * dir.entries ≡ length (listed image dir.number)
 
--- a descriptor of a directory that can be searched
+-- a descriptor of a searchable directory
 abbrev pub is_searchable_descriptor : Geometry → Fd → Bool
 is_searchable_descriptor g fd =
     (bit_at fd.attr 7 == 1) && list_all (is_within g) fd.segs && has_room fd.segs fd.size && is_directory_size fd.size

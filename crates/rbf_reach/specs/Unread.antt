@@ -1,12 +1,12 @@
--- The positions that are still to be read, by the place to which each leads.
+-- The unread positions, in a table that has for each place the one to which it leads.
 use Rattle.std.specs.Prelude.{ℕ, ◌<◌, ◌≤◌, List, length, get_or}
 use Rattle.rbf_reach.specs.declared.unread.Unread.{Unread}
 
--- place e leads on
+-- place e leads to a later one
 abbrev pub LeadsOn : List ℕ → ℕ → Type 0
 LeadsOn next e = e < get_or next e 0
 
--- no place leads back, none out of the table, and none over a place that does not lead on
+-- no place leads back, none out of the table, and none past a place that does not lead to a later one
 pub record AreOrdered (next : List ℕ) : Type 0 where
   pub after : (e : ℕ) → e < length next → e ≤ get_or next e 0
   pub within : (e : ℕ) → e < length next → get_or next e 0 < length next
@@ -15,6 +15,6 @@ pub record AreOrdered (next : List ℕ) : Type 0 where
 abbrev pub IsOrdered : Unread → Type 0
 IsOrdered unread = AreOrdered unread.next.items
 
--- position e has been read: its place leads on
+-- position e has been read: its place leads to a later one
 abbrev pub IsRead : Unread → ℕ → Type 0
 IsRead unread e = LeadsOn unread.next.items e

@@ -1,4 +1,4 @@
--- The search for the descriptors that are reached.
+-- The search for the reached descriptors.
 use Rattle.rbf_model.specs.Disk.{Disk}
 use Rattle.std.specs.Prelude.{◌≡◌, ℕ, ◌+◌, ◌*◌, true, length}
 use Rattle.rbf_model.specs.Geometry.{IsNumber}
@@ -8,8 +8,7 @@ use Rattle.rbf_reach.specs.Found.{IsSearch}
 use Rattle.rbf_reach.specs.Positions.{PositionNames}
 use Rattle.rbf_reach.specs.Unread.{IsOrdered, IsRead}
 
--- the marks are those of what is found, and what the entries in all positions that are not still to be read name is
--- found
+-- the marks are those of the found descriptors, and every descriptor that an entry in a read position names is found
 pub record IsSearching (disk : Disk) (search : Search) : Type 0 where
   pub marks : IsSearch search.seen.items search.found.items
   pub size : length search.seen.items ≡ disk.geometry.total

@@ -11,8 +11,8 @@ use crate::image::IdentifiedImage;
 use rbf_sector::{Fd, Ident};
 use rbf_segs::Segs;
 
-/// A descriptor as far as a search needs it: its number, its segments, and how many entries it
-/// has, which are none if it is no directory that can be searched.
+/// The fields of a descriptor that a search needs: its number, its segments, and the number of its
+/// entries, which is 0 if it is not a searchable directory.
 #[derive(Clone, Copy, Debug)]
 pub struct Directory {
     pub number: u32,
@@ -20,7 +20,7 @@ pub struct Directory {
     pub entries: u32,
 }
 
-/// A file as far as a search needs it.
+/// The fields of a file that a search needs.
 pub fn directory_of(image: &IdentifiedImage<'_>, file: &FoundFile) -> Directory
     requires { IsFileOn image.now file.now }
     ensures number { result.number ≡ file.now.number }
@@ -33,7 +33,7 @@ pub fn directory_of(image: &IdentifiedImage<'_>, file: &FoundFile) -> Directory
     }
 }
 
-// How many entries a search of this file finds.
+// The number of entries that a search of this file finds.
 fn entry_count(fd: &Fd, ident: &Ident) -> u32
     ensures { 32 * result
         ≡ (if is_searchable_descriptor (geometry_of ident.now) fd.now then fd.now.size else 0) }
@@ -45,7 +45,7 @@ fn entry_count(fd: &Fd, ident: &Ident) -> u32
     }
 }
 
-// Can this file be searched as a directory?
+// Whether this file can be searched as a directory.
 fn is_searchable(fd: &Fd, ident: &Ident) -> bool
     ensures { result ≡ is_searchable_descriptor (geometry_of ident.now) fd.now }
 {
@@ -54,7 +54,7 @@ fn is_searchable(fd: &Fd, ident: &Ident) -> bool
     fd.attr >> 7 == 1 && lie_within(&fd.segs, ident) && u64::from(fd.size) <= held && size
 }
 
-/// Do the segments begin behind the identification sector and end within the volume?
+/// Whether the segments begin after the identification sector and end within the volume.
 pub fn lie_within(segs: &Segs, ident: &Ident) -> bool
     ensures { result ≡ list_all (is_within (geometry_of ident.now)) segs.now }
 {

@@ -18,7 +18,7 @@ pub fn sector(image: &[u8], n: u32) -> [u8; 256]
     bytes
 }
 
-/// The image with its identification, if it has the header of a volume that it holds.
+/// The image with its identification, if its header is that of a volume that it holds.
 pub fn identify(image: &[u8]) -> Option<IdentifiedImage<'_>>
     ensures none { IfNone result (¬ HasHeader image.now) }
     ensures bytes { IfSome result (λ it. it.bytes.now ≡ image.now) }
@@ -40,7 +40,7 @@ pub fn identify(image: &[u8]) -> Option<IdentifiedImage<'_>>
     }
 }
 
-/// Does the map mark this cluster?
+/// Whether the map marks this cluster.
 pub fn is_marked(image: &[u8], c: u32) -> bool
     requires { 256 + c / 8 < length image.now }
     ensures { result ≡ is_marked_lem (sector_of image.now) c }

@@ -2,8 +2,8 @@ ghost use Rattle.rbf_reach.specs.Identified.{IsIdent};
 
 use rbf_sector::Ident;
 
-/// An image that holds the volume of which its identification sector speaks, with what that sector
-/// says.
+/// An image that holds the volume that its identification sector describes, with the fields of that
+/// sector.
 #[derive(Clone, Copy, Debug)]
 pub struct IdentifiedImage<'a> {
     pub bytes: &'a [u8],

@@ -1,7 +1,7 @@
 ghost use Rattle.std.specs.Prelude.{◌≡◌};
 ghost use Rattle.rbf_reach.specs.Least.{lesser_of};
 
-/// The lesser of two numbers of which either may be missing.
+/// The lesser of two numbers, either of which may be missing.
 pub fn least_of(one: Option<u32>, other: Option<u32>) -> Option<u32>
     ensures { result ≡ lesser_of one other }
 {

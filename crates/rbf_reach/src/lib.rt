@@ -1,4 +1,4 @@
-//! The search of an image: its header, and the descriptors and entries that are found on it.
+//! The search of an image: its header, and the descriptors and entries found on it.
 #![tactic(auto)]
 
 pub use directory::{Directory, directory_of, entry_bytes, lie_within};

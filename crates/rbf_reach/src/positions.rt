@@ -6,7 +6,7 @@ ghost use Rattle.rbf_reach.specs.Positions.{entry_at_position, positions_in, seg
 use crate::directory::Directory;
 use std::alloc::AllocError;
 
-/// Is the entry in a position used?
+/// Whether the entry in a position is used.
 pub fn is_used(image: &[u8], e: u32) -> bool
     requires { 32 * (e + 1) ≤ length image.now }
     ensures { result ≡ is_used_lem (entry_at_position (sector_of image.now) e) }
@@ -25,8 +25,8 @@ pub fn position_bytes(image: &[u8], e: u32) -> [u8; 32]
     entry
 }
 
-/// Lists the positions of a directory's entries, in order, as ranges: each by its first position and how many
-/// it has.
+/// Lists the positions of a directory's entries, in order, as ranges: each has its first position
+/// and its number of positions.
 ///
 /// # Errors
 ///

@@ -2,9 +2,9 @@ ghost use Rattle.std.specs.Prelude.{◌≡◌, ◌⊎◌, ◌↔◌, ℕ, ◌+�
 
 use std::alloc::{AllocError, Global};
 
-/// The positions that are still to be read, up to a number of positions: a union-find with path
-/// halving, in which each position that was read leads to a later one, with none between them that
-/// is still to be read, and each other one, and the end, to itself.
+/// The unread positions, up to a number of positions: a union-find with path halving. Each position
+/// that was read leads to a later one, with no unread position between them. Each unread position,
+/// and the end, leads to itself.
 #[derive(Drop)]
 pub struct Unread {
     pub next: Vec<u32>,
@@ -13,7 +13,7 @@ pub struct Unread {
 impl Unread {
     ghost use Rattle.rbf_reach.specs.Unread.{IsOrdered, IsRead};
 
-    /// All of so many positions.
+    /// All of `positions` positions.
     ///
     /// # Errors
     ///
@@ -31,8 +31,8 @@ impl Unread {
         Ok(Unread { next })
     }
 
-    /// The first position from this one on that is still to be read, or the end. The places on the way
-    /// are led closer to it.
+    /// The first unread position from this one on, or the end. The places on the route are made to
+    /// lead closer to it.
     pub fn first(&mut self, from: u32) -> u32
         requires ordered { IsOrdered self.old }
         requires place { from < length self.old.next.items }

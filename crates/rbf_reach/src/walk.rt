@@ -16,8 +16,8 @@ use crate::unread::Unread;
 use rbf_sector::{Ident, read_entry};
 use std::alloc::{AllocError, Global};
 
-// The descriptors that are found so far, a mark for each number of the volume that says whether it
-// is one of them, and the positions whose entries are still to be read.
+// The descriptors found so far, a table that marks their numbers, and the positions whose entries
+// are unread.
 #[derive(Drop)]
 struct Search {
     seen: Vec<bool>,
@@ -37,8 +37,8 @@ fn used_descriptor(bytes: &[u8; 32], ident: &Ident) -> Option<u32>
     Some(entry.lsn)
 }
 
-// The descriptor that an entry after the first two names, if it is used and the number is one of
-// the volume.
+// The descriptor that an entry after the first two names, if the entry is used and the number is
+// one of the volume.
 pub fn named(image: &IdentifiedImage<'_>, dir: &Directory, i: u32) -> Option<u32>
     requires directory { IsDirectory image.now dir.now }
     requires after { 2 ≤ i }
@@ -88,8 +88,8 @@ impl Search {
         Ok(())
     }
 
-    // Finds what the entries in the positions from one up to another name. Those that were read before
-    // are passed over, so that each is read once, however many directories have it.
+    // Finds what the entries in the positions from one up to another name. Positions that were read
+    // before are skipped, so each is read once, however many directories have it.
     fn read_range(
         &mut self,
         image: &IdentifiedImage<'_>,
@@ -137,9 +137,9 @@ impl Search {
     }
 }
 
-/// The files that are reached from the root of a volume, each once: the root, and what a directory
-/// that is reached and can be searched names by a used entry after its first two (this project's own
-/// rule of which files an image has).
+/// The files that are reached from the root of a volume, each once: the root, and the files that a
+/// reached, searchable directory names by a used entry after its first two (this project's own rule
+/// of which files an image has).
 ///
 /// # Errors
 ///

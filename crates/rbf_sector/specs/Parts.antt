@@ -1,8 +1,8 @@
--- A part of a sector, written over.
+-- A part of a sector that is overwritten.
 use Rattle.std.specs.Prelude.{◌≡◌, ℕ, ◌+◌, ◌<◌, ◌≤◌, List, length, take, drop, slice_index}
 use Rattle.byteorder.specs.Endian.{big_from}
 
--- the bytes are as they were, but for this many from a place on
+-- the bytes are unchanged, except `count` bytes from place `at` on
 pub record KeepsBeside (old new : List ℕ) (at count : ℕ) : Type 0 where
   pub same_length : length new ≡ length old
   pub before : (i : ℕ) → i < at → slice_index new i ≡ slice_index old i

@@ -24,7 +24,7 @@ pub fn read_entry(b: &[u8; 32]) -> Entry
     }
 }
 
-/// Writes an entry, which fills its 32 bytes.
+/// Writes an entry over its 32 bytes.
 pub fn write_entry(e: &Entry, b: &mut [u8; 32])
     requires { e.now.lsn < 16777216 }
     ensures name { take 29 b.new ≡ e.now.name }

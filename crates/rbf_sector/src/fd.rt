@@ -41,8 +41,8 @@ pub fn read_fd(b: &[u8; 256]) -> Fd
     }
 }
 
-/// Writes a file descriptor. Fewer than 48 segments are ended by one pair of zeros, and the bytes
-/// behind it stay.
+/// Writes a file descriptor. A list of fewer than 48 segments ends with one pair of zeros, and the
+/// bytes after it are unchanged.
 pub fn write_fd(f: &Fd, b: &mut [u8; 256])
     ensures attr { attributes_field b.new ≡ f.now.attr }
     ensures owner { owner_field b.new ≡ f.now.owner }
@@ -64,7 +64,7 @@ pub fn write_fd(f: &Fd, b: &mut [u8; 256])
     write_segs(&f.segs, b);
 }
 
-// Writes a segment list, and one pair of zeros behind it where there is room.
+// Writes a segment list, followed by one pair of zeros if there is room.
 fn write_segs(segs: &Segs, b: &mut [u8; 256])
     ensures segs { segments_field b.new ≡ segs.now }
     ensures ended { length segs.now < 48 → segment_field b.new (length segs.now) ≡ (0, 0) }

@@ -6,11 +6,11 @@ ghost use Rattle.rbf_sector.specs.Ident.{geometry_of};
 
 use crate::parts::{u16_at, u24_at};
 
-/// What the identification sector, LSN 0, says of its volume (OS-9 Technical Reference, Random
-/// Block File Manager, "Identification Sector").
+/// The fields of the identification sector, LSN 0 (OS-9 Technical Reference, Random Block File
+/// Manager, "Identification Sector").
 ///
-/// `cluster` is the sectors per cluster; `boot` and `boot_size` are the bootstrap file's first
-/// sector and its size in bytes.
+/// `cluster` is the number of sectors per cluster; `boot` and `boot_size` are the bootstrap file's
+/// first sector and its size in bytes.
 #[derive(Clone, Copy, Debug, PartialEq, Eq)]
 pub struct Ident {
     pub total: u32,
@@ -40,8 +40,8 @@ pub fn read_ident(b: &[u8; 256]) -> Ident
     }
 }
 
-/// Does this project take a volume of this size, with these clusters and this root? It has from 4
-/// to 524,280 sectors, and 1, 2, 4, 8, 16, 32 or 64 sectors per cluster.
+/// Whether this project accepts a volume of this size, with these clusters and this root. It has
+/// from 4 to 524,280 sectors, and 1, 2, 4, 8, 16, 32 or 64 sectors per cluster.
 pub fn is_header(ident: &Ident) -> bool
     ensures { Decides result (IsHeader (geometry_of ident.now)) }
 {
@@ -51,7 +51,7 @@ pub fn is_header(ident: &Ident) -> bool
     size && clusters && root
 }
 
-/// Has the map a bit for each cluster, and does it end within the volume?
+/// Whether the map has a bit for each cluster and ends within the volume.
 pub fn has_map(ident: &Ident) -> bool
     ensures { Decides result (HasMap (geometry_of ident.now)) }
 {
@@ -59,7 +59,7 @@ pub fn has_map(ident: &Ident) -> bool
     u64::from(ident.total) <= bits && u32::from(system_sectors(ident)) <= ident.total
 }
 
-/// How many sectors the system has, from LSN 0 on: the identification sector, and those of the map.
+/// The number of system sectors, from LSN 0 on: the identification sector, and those of the map.
 pub fn system_sectors(ident: &Ident) -> u16
     ensures count { result ≡ 1 + map_sectors (geometry_of ident.now) }
     ensures few { result ≤ 257 }

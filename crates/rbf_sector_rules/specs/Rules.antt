@@ -11,7 +11,7 @@ use Rattle.rbf_reach.specs.Positions.{entry_at_position}
 use Rattle.rbf_sector_rules.specs.declared.descriptors.OwnRule.{OwnRule}
 use Rattle.rbf_sector_rules.specs.declared.descriptors.OwnRule.TheVariants.{Room, Size}
 
--- a used entry names no descriptor of the volume
+-- a used entry does not name a descriptor of the volume
 abbrev pub HasBadNumber : Geometry → List ℕ → Type 0
 HasBadNumber g contents = (i : ℕ) × HasEntry contents i
     × (IsNumber g (descriptor_field (directory_entry contents i)) → ⊥)
@@ -21,7 +21,7 @@ pub record IsBadPosition (disk : Disk) (e : ℕ) : Type 0 where
   pub used : is_used (entry_at_position disk.sectors e) ≡ true
   pub number : IsNumber disk.geometry (descriptor_field (entry_at_position disk.sectors e)) → ⊥
 
--- the descriptor breaks rule 1: it has a segment that is not within the volume, or a used entry that names no
+-- the descriptor breaks rule 1: it has a segment that is not within the volume, or a used entry that does not name a
 -- descriptor of the volume
 abbrev pub BreaksNumbers : Disk → ℕ → Type 0
 BreaksNumbers disk n = (list_all (is_within disk.geometry) (segments_field (disk.sectors n)) ≡ false)

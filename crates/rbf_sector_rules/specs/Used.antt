@@ -13,6 +13,6 @@ used_by disk n = owned disk.geometry n (file_at disk.sectors n)
 abbrev pub IsUnmarked : Disk → ℕ → Type 0
 IsUnmarked disk s = is_marked disk.sectors (s / disk.geometry.cluster) ≡ false
 
--- and the sector is one of the list
+-- the same for a sector of the list
 abbrev pub IsUnmarkedIn : Disk → List ℕ → ℕ → Type 0
 IsUnmarkedIn disk sectors s = (has sectors s ≡ true) × IsUnmarked disk s

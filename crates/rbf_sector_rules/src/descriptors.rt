@@ -17,11 +17,11 @@ use rbf_sector::Fd;
 pub enum OwnRule {
     /// Rule 5: the segments hold the size.
     Room,
-    /// Rule 6: the root is a directory, and a directory has whole entries, two at least.
+    /// Rule 6: the root is a directory, and a directory has whole entries, at least two.
     Size,
 }
 
-// Does this file break the rule?
+// Whether this file breaks the rule.
 fn breaks(image: &IdentifiedImage<'_>, rule: OwnRule, file: &FoundFile) -> bool
     requires { IsFileOn image.now file.now }
     ensures { Decides result (BreaksOwn rule (disk_on image.now) file.now.number) }
@@ -61,7 +61,7 @@ fn breach_of(image: &IdentifiedImage<'_>, rule: OwnRule, file: &FoundFile) -> Op
     }
 }
 
-/// The least descriptor of those found that breaks the rule. None if the rule is kept.
+/// The least found descriptor that breaks the rule. None if the rule is kept.
 pub fn least_breach(image: &IdentifiedImage<'_>, files: &[FoundFile], rule: OwnRule) -> Option<u32>
     requires { AreFiles image.now files.now }
     ensures { IsLeastBreach (disk_on image.now) (rule_number rule) result }

@@ -4,7 +4,7 @@ ghost use Rattle.rbf_reach.specs.Least.{IsLeastBreach};
 use rbf_reach::IdentifiedImage;
 use rbf_sector::has_map;
 
-/// The breach of rule 2, the map's, which is shown at LSN 1. None if the rule is kept.
+/// The breach of rule 2, on the map, which is reported at LSN 1. None if the rule is kept.
 pub fn map_breach(image: &IdentifiedImage<'_>) -> Option<u32>
     ensures { IsLeastBreach (disk_on image.now) 2 result }
 {

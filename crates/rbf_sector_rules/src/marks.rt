@@ -15,7 +15,7 @@ use crate::owners::list_segments;
 use rbf_reach::{FoundFile, IdentifiedImage, is_marked, least_of};
 use std::alloc::{AllocError, Global};
 
-// Does the map mark the cluster of this sector?
+// Whether the map marks the cluster of this sector.
 fn is_sector_marked(image: &IdentifiedImage<'_>, s: u32) -> bool
     requires map { HasMap (geometry_of image.now.ident) }
     requires number { s < image.now.ident.total }
@@ -24,7 +24,7 @@ fn is_sector_marked(image: &IdentifiedImage<'_>, s: u32) -> bool
     is_marked(image.bytes, s / u32::from(image.ident.cluster))
 }
 
-// For each sector the least from it on whose cluster is not marked, or the total.
+// For each sector the least one from it on whose cluster is not marked, or the total.
 fn list_next_unmarked(alloc: Global, image: &IdentifiedImage<'_>) -> Result<Vec<u32>, AllocError>
     requires { HasMap (geometry_of image.now.ident) }
     ensures { IfOk result
@@ -66,7 +66,7 @@ fn least_unmarked_of(
 }
 
 /// The least sector that breaks rule 3: it is in use, and the map does not mark its cluster. None
-/// where the rule is kept. The image has to keep rules 1 and 2.
+/// if the rule is kept. The image must keep rules 1 and 2.
 ///
 /// # Errors
 ///

@@ -1,6 +1,6 @@
 ghost use Rattle.std.specs.Prelude.{◌≡◌, ◌+◌, ◌<◌, ◌≤◌, MatchOption, length, slice_index};
 
-// The next of the first number of a run, if it is one of the run.
+// The next of the first number of a range, if it is in the range.
 pub fn next_in_range(nexts: &[u32], first: u32, count: u32) -> Option<u32>
     requires some { 1 ≤ count }
     requires within { first + count ≤ length nexts.now }

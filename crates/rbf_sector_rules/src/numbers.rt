@@ -15,7 +15,7 @@ use rbf_reach::{
 use rbf_sector::read_entry;
 use std::alloc::{AllocError, Global};
 
-// Has the position a used entry that names no descriptor of the volume?
+// Whether the position has a used entry that does not name a descriptor of the volume.
 fn is_bad_position(image: &IdentifiedImage<'_>, e: u32) -> bool
     requires { e < 8 * image.now.ident.total }
     ensures { Decides result (IsBadPosition (disk_on image.now) e) }
@@ -27,7 +27,7 @@ fn is_bad_position(image: &IdentifiedImage<'_>, e: u32) -> bool
     entry.lsn == 0 || entry.lsn >= image.ident.total
 }
 
-// The place behind the last such position; 0 if there is none.
+// The place behind the last such position, or 0 if there is none.
 fn end_of_bad(image: &IdentifiedImage<'_>) -> u32
     ensures within { result ≤ 8 * image.now.ident.total }
     ensures none { (e : ℕ) → result ≤ e → e < 8 * image.now.ident.total
@@ -42,7 +42,7 @@ fn end_of_bad(image: &IdentifiedImage<'_>) -> u32
     0
 }
 
-// For each position the first such position from it on, or how many positions there are. Most images
+// For each position the first such position from it on, or the number of positions. Most images
 // have none.
 fn list_next_bad(alloc: Global, image: &IdentifiedImage<'_>) -> Result<Vec<u32>, AllocError>
     ensures { IfOk result
@@ -61,7 +61,7 @@ fn list_next_bad(alloc: Global, image: &IdentifiedImage<'_>) -> Result<Vec<u32>,
     Ok(nexts)
 }
 
-// Does a used entry of a directory name no descriptor of the volume?
+// Whether a used entry of a directory does not name a descriptor of the volume.
 fn has_bad_number(
     image: &IdentifiedImage<'_>,
     nexts: &[u32],
@@ -108,7 +108,7 @@ fn badly_numbered(
 }
 
 /// The least descriptor that breaks rule 1: a segment of it is not within the volume, or a used
-/// entry of it names no descriptor of the volume. None if the rule is kept.
+/// entry of it does not name a descriptor of the volume. None if the rule is kept.
 ///
 /// # Errors
 ///

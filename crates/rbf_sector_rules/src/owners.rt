@@ -21,8 +21,9 @@ fn push_segments(segments: &mut Vec<(u32, u16)>, segs: &Segs) -> Result<(), Allo
     Ok(())
 }
 
-/// Lists the segments of sectors of an owner, each by its first sector and how many it has: for the
-/// root's file the identification sector and the map, then the descriptor, then the segments.
+/// Lists the segments of sectors of an owner, each with its first sector and its number of sectors:
+/// for the root's file the identification sector and the map, then the descriptor, then the
+/// segments.
 ///
 /// # Errors
 ///

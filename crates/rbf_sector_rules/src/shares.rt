@@ -12,7 +12,7 @@ use rbf_reach::{FoundFile, IdentifiedImage};
 use std::alloc::{AllocError, Global};
 
 /// The least sector that breaks rule 4: one owner uses it twice, or it is the first of a cluster
-/// that has two owners. None if the rule is kept. The image has to keep rules 1 and 2.
+/// that has two owners. None if the rule is kept. The image must keep rules 1 and 2.
 ///
 /// # Errors
 ///

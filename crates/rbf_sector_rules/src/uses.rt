@@ -7,14 +7,14 @@ ghost use Rattle.rbf_reach.specs.Given.{IsGiven};
 
 use std::alloc::{AllocError, Global};
 
-/// An owner of sectors: its place among the files that are found, and its descriptor.
+/// An owner of sectors: its place among the files found, and its descriptor.
 #[derive(Clone, Copy, Debug)]
 pub struct Owner {
     pub place: usize,
     pub descriptor: u32,
 }
 
-/// What is known of rule 4 when the sectors of some owners have been gone over.
+/// What is known of rule 4 after the sectors of some owners have been noted.
 #[derive(Drop)]
 pub struct Uses {
     /// For each sector the place of the owner that used it last.
@@ -25,7 +25,7 @@ pub struct Uses {
     pub least: u32,
 }
 
-// Gives a cluster to an owner, if it has none. Has it another one?
+// Gives a cluster to an owner, if it has none, and returns whether it has another owner.
 fn give(owners: &mut Vec<Option<u32>>, n: u32, c: u32) -> bool
     requires { c < length owners.old.items }
     ensures given { IsGiven owners.old.items owners.new.items n c }
@@ -51,7 +51,7 @@ fn is_user(user: Option<usize>, place: usize) -> bool
     }
 }
 
-// Notes that the owner in this place uses a sector. Was that noted before?
+// Notes that the owner in this place uses a sector, and returns whether that was noted before.
 fn note_user(users: &mut Vec<Option<usize>>, place: usize, s: u32) -> bool
     requires { s < length users.old.items }
     ensures noted { users.new.items ≡ slice_set users.old.items s (Some place) }
@@ -65,7 +65,7 @@ fn note_user(users: &mut Vec<Option<usize>>, place: usize, s: u32) -> bool
 impl Uses {
     ghost use Rattle.rbf_sector_rules.specs.Noted.{HasUser, HasOwner, IsNoted};
 
-    /// No owner has been gone over, of a volume of so many sectors.
+    /// No owner has been noted yet, for a volume of `total` sectors.
     ///
     /// # Errors
     ///
@@ -86,7 +86,7 @@ impl Uses {
         })
     }
 
-    // Notes that an owner uses a sector, where clusters have so many sectors.
+    // Notes that an owner uses a sector, for clusters of `cluster` sectors.
     fn note(&mut self, cluster: u32, owner: Owner, s: u32)
         requires cluster { 0 < cluster }
         requires users { s < length self.old.users.items }
@@ -103,9 +103,9 @@ impl Uses {
         }
     }
 
-    // Notes that an owner uses the sectors of a segment. Each of them is new or ends the segment: behind one
-    // that shows a breach, or whose cluster begins no lower than the least breach, there is none that
-    // is less.
+    // Notes that an owner uses the sectors of a segment. It ends at the first sector that shows a
+    // breach, or whose cluster does not begin below the least breach: no later sector shows a
+    // lesser breach.
     fn note_segment(&mut self, cluster: u32, owner: Owner, segment: (u32, u16))
         requires cluster { 0 < cluster }
         requires users { segment.0 + segment.1 ≤ length self.old.users.items }
@@ -124,7 +124,7 @@ impl Uses {
         }
     }
 
-    /// Notes that an owner uses the sectors of its segments, where clusters have so many sectors.
+    /// Notes that an owner uses the sectors of its segments, for clusters of `cluster` sectors.
     pub fn note_segments(&mut self, cluster: u32, owner: Owner, segments: &[(u32, u16)])
         requires cluster { 0 < cluster }
         requires segments { All IsSegment segments.now }

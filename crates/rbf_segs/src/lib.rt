@@ -1,4 +1,4 @@
-//! Segment lists: which sectors a file has, in order, as at most 48 segments.
+//! Segment lists: the sectors of a file, in order, as at most 48 segments.
 #![tactic(auto)]
 
 pub use segs::{MAX_SEGMENTS, Segs, SegsFull};

@@ -2,7 +2,7 @@ ghost use Rattle.std.specs.Prelude.{◌≡◌, ℕ, ◌+◌, ◌-◌, ◌*◌, �
 ghost use Rattle.rbf_model.specs.Segments.{sectors_of, appended_segments, shortened_segments};
 ghost use Rattle.rbf_segs.specs.Segments.{IsSegment, Lengthens};
 
-// How many sectors the segments have.
+// The number of sectors in the segments.
 pub fn total(runs: &[(u32, u16)]) -> u32
     requires { length runs.now ≤ 48 }
     ensures count { result ≡ length (sectors_of runs.now) }
@@ -15,7 +15,7 @@ pub fn total(runs: &[(u32, u16)]) -> u32
     sectors
 }
 
-// The sector at this place of all that the segments have.
+// The sector at this place among all sectors of the segments.
 pub fn sector_at(runs: &[(u32, u16)], place: u32) -> Option<u32>
     requires { All IsSegment runs.now }
     ensures { result ≡ slice_get (sectors_of runs.now) place }
@@ -30,7 +30,7 @@ pub fn sector_at(runs: &[(u32, u16)], place: u32) -> Option<u32>
     None
 }
 
-// The last sector of all that the segments have.
+// The last of all sectors of the segments.
 pub fn last_sector(runs: &[(u32, u16)]) -> Option<u32>
     requires { All IsSegment runs.now }
     ensures { result ≡ slice_get (sectors_of runs.now) (length (sectors_of runs.now) - 1) }
@@ -53,8 +53,8 @@ pub fn lengthened(runs: &[(u32, u16)], lsn: u32, count: u16) -> Option<(u32, u16
     Some((first, had.checked_add(count)?))
 }
 
-// Leaves the first `sectors` sectors, with zeros in the places behind their segments, and answers how
-// many segments they are.
+// Keeps the first `sectors` sectors, with zeros in the places after their segments, and returns the
+// number of those segments.
 pub fn shorten(places: &mut [(u32, u16)], sectors: u32) -> usize
     ensures places { places.new ≡ shortened_segments sectors places.old
         ++ replicate (length places.old - result) (0, 0) }

@@ -6,11 +6,11 @@ use crate::segment_list::{last_sector, lengthened, sector_at, shorten, total};
 use std::marker::Model;
 use thiserror::Error;
 
-/// The most segments that a file descriptor has room for (OS-9 Technical Reference, Random Block
+/// The greatest number of segments in a file descriptor (OS-9 Technical Reference, Random Block
 /// File Manager, FD.SEG).
 pub const MAX_SEGMENTS: usize = 48;
 
-/// No segment can be added: the list has [`MAX_SEGMENTS`].
+/// No segment can be added: the list already has [`MAX_SEGMENTS`].
 #[derive(Clone, Copy, Debug, PartialEq, Eq, Error)]
 #[error("segment list full")]
 pub struct SegsFull;
@@ -52,7 +52,7 @@ impl Segs {
         }
     }
 
-    /// How many sectors the segments have together.
+    /// The total number of sectors in the segments.
     pub fn sectors(&self) -> u32
         ensures count { result ≡ length (sectors_of self.now) }
         ensures few { result ≤ 48 * 65535 }
@@ -60,7 +60,7 @@ impl Segs {
         total(&self.places[..usize::from(self.len)])
     }
 
-    /// How many segments there are.
+    /// The number of segments.
     pub fn runs(&self) -> u8
         ensures count { result ≡ length self.now }
         ensures segments { IsSegments self.now }
@@ -77,7 +77,7 @@ impl Segs {
         self.places[usize::from(i)]
     }
 
-    /// Adds a segment of its own, joined with no other; refused exactly if there are
+    /// Adds a separate segment, not joined with another; refused if and only if there are already
     /// [`MAX_SEGMENTS`].
     pub fn add_run(&mut self, lsn: u32, count: u16) -> Result<(), SegsFull>
         requires lsn_fits { lsn < 16777216 }
@@ -94,7 +94,7 @@ impl Segs {
         Ok(())
     }
 
-    /// The sector at this place of all sectors of the list, counted from 0. None if the list has
+    /// The sector at this place among all sectors of the list, counted from 0. None if the list has
     /// no such place.
     pub fn lsn_of(&self, sector: u32) -> Option<u32>
         ensures { result ≡ slice_get (sectors_of self.now) sector }
@@ -102,7 +102,7 @@ impl Segs {
         sector_at(&self.places[..usize::from(self.len)], sector)
     }
 
-    /// The last sector of all. None if there is no sector.
+    /// The last of all sectors. None if there is no sector.
     pub fn last(&self) -> Option<u32>
         ensures { result ≡ slice_get (sectors_of self.now) (length (sectors_of self.now) - 1) }
     {
@@ -110,8 +110,8 @@ impl Segs {
     }
 
     /// Adds `n` sectors from `lsn` on: they lengthen the last segment if they follow it and its
-    /// count stays below 65,536, and are a segment of their own otherwise. Refused exactly if they
-    /// would be one segment too many.
+    /// count stays below 65,536, and otherwise become a separate segment. Refused if and only if
+    /// they would be one segment too many.
     pub fn append(&mut self, lsn: u32, n: u16) -> Result<(), SegsFull>
         requires lsn_fits { lsn < 16777216 }
         requires some { 1 ≤ n }
@@ -131,7 +131,7 @@ impl Segs {
         }
     }
 
-    /// Leaves the first `sectors` sectors, and of the segments those that still have a sector.
+    /// Keeps the first `sectors` sectors, and only the segments that still have a sector.
     pub fn cut(&mut self, sectors: u32)
         requires { sectors ≤ length (sectors_of self.old) }
         ensures sectors { sectors_of self.new ≡ take sectors (sectors_of self.old) }

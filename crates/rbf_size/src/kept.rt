@@ -6,8 +6,8 @@ ghost use Rattle.rbf_size.specs.Kept.{kept_sectors, sectors_beside};
 use rbf_segs::Segs;
 use rbf_write::Loaded;
 
-// The segments of a file that is cut to a size: those of the sectors that the size needs, and of
-// the next ones that lie in the cluster of the one before them.
+// The segments of a file after a cut to a size: those of the sectors that the size needs, and of
+// the next ones in the cluster of the sector before them.
 pub fn kept_segments(k: u16, loaded: &Loaded, size: u32) -> Segs
     requires some { 1 ≤ k }
     requires room { sector_count size ≤ length (sectors_of loaded.now.file.segs) }
@@ -19,7 +19,7 @@ pub fn kept_segments(k: u16, loaded: &Loaded, size: u32) -> Segs
     segs
 }
 
-// The end of the sectors from a place on that lie in the cluster of the one before that place.
+// The end of the sectors from a place on that are in the cluster of the sector before that place.
 fn end_beside(k: u16, loaded: &Loaded, place: u32) -> u32
     requires some { 1 ≤ k }
     requires within { place ≤ length (sectors_of loaded.now.file.segs) }
@@ -38,7 +38,7 @@ fn end_beside(k: u16, loaded: &Loaded, place: u32) -> u32
     end
 }
 
-// The sector before the one in a place: the descriptor's is before the first.
+// The sector before the one in a place; before the first is the descriptor.
 fn sector_before(loaded: &Loaded, place: u32) -> u32
     requires { place ≤ length (sectors_of loaded.now.file.segs) }
     ensures { result ≡ get_or (loaded.now.number ∷ sectors_of loaded.now.file.segs) place 0 }

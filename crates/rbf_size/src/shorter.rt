@@ -19,13 +19,13 @@ use rbf_sector::Fd;
 use rbf_segs::Segs;
 use rbf_write::Loaded;
 
-/// Cuts a file that is no directory to a size: its descriptor is written with the sectors that it
-/// keeps and its new date, and then its clusters that have none of these are given back.
+/// Cuts a file that is not a directory to a size: its descriptor is written with the sectors that
+/// it keeps and its new date, and then the clusters that have none of these sectors are given back.
 ///
 /// # Errors
 ///
-/// `Device` if a write of the drive fails: that of the descriptor, then nothing has changed, or one
-/// of the map, then the file has been cut and some of the clusters are lost.
+/// `Device` if a write of the drive fails: if it is that of the descriptor, nothing has changed; if
+/// it is one of the map, the file has been cut and some of the clusters are lost.
 pub fn cut(
     volume: &mut Volume,
     d: &mut dyn BlockDriver,
@@ -62,7 +62,7 @@ pub fn cut(
     Ok(())
 }
 
-// Writes the descriptor of a file with these segments, another size and the date of that change.
+// Writes the descriptor of a file with these segments, a new size and the date of that change.
 fn store_cut(
     volume: &mut Volume,
     d: &mut dyn BlockDriver,

@@ -12,17 +12,17 @@ use os9_outer::drive::BlockDriver;
 use rbf_access::{FileFault, Volume};
 use rbf_write::{lay_over, load_file};
 
-/// Gives a file that is no directory a size, in bytes. A longer one gains the clusters that it
-/// needs, and what is added is zeros; a shorter one gives back the clusters that it needs no more.
-/// Either sets its date. To give it the size that it has changes nothing (OS-9 System Programmer's
-/// Manual, I$SetStt, SS.Size).
+/// Sets the size, in bytes, of a file that is not a directory. A longer file gains the clusters
+/// that it needs, and zeros are added; a shorter one gives back the clusters that it no longer
+/// needs. Either change sets its date. Setting the current size changes nothing (OS-9 System
+/// Programmer's Manual, I$SetStt, SS.Size).
 ///
 /// # Errors
 ///
-/// If no fault comes, `NoCluster` exactly if fewer clusters are free than the size needs, and
-/// `TooManyRuns` if one that was chosen finds no place in the list of segments: then nothing has
-/// changed. `Device` if a call of the drive fails: then the file is as it was, or it has been cut,
-/// and clusters may be lost; in a call that was to be refused nothing has changed.
+/// Without a drive fault, `NoCluster` if and only if fewer clusters are free than the size needs,
+/// and `TooManyRuns` if a chosen one does not fit the list of segments: then nothing has changed.
+/// `Device` if a call of the drive fails: then the file is unchanged, or it has been cut, and
+/// clusters may be lost; if the call would have been refused, nothing has changed.
 pub fn set_size(
     volume: &mut Volume,
     d: &mut dyn BlockDriver,

@@ -13,7 +13,7 @@ use Rattle.rbf_walk.specs.declared.error.DirError.{DirError}
 use Rattle.rbf_update.specs.Entries.{MayFree, sector_of_entry, with_entry_bytes}
 use Rattle.rbf_update.specs.declared.deletion.Deletable.{Deletable}
 
--- the entry of directory d that has a name, and that may be made free: its sector, and what its file's descriptor says
+-- the entry of directory d with a name, which may be made free: its sector, and the fields of its file's descriptor
 pub record IsDeletable (media : Option (List ℕ)) (d : ℕ) (name : List ℕ) (found : Deletable) : Type 0 where
   pub free : MayFree media d found.place
   pub there : place_of free.place.dir.contents name ≡ Some found.place
@@ -31,7 +31,7 @@ abbrev pub descriptor_found : Result Deletable DirError → Result ℕ DirError
 descriptor_found (Ok found) = Ok found.descriptor
 descriptor_found (Err error) = Err error
 
--- the entry of directory d that has the name has been made free
+-- the entry of directory d with the name has been made free
 pub record FreesName (v w : DiskVolume) (d : ℕ) (name : List ℕ) : Type 0 where
   pub dir : DiskFile
   pub is : v.files d ≡ Some dir
@@ -39,14 +39,14 @@ pub record FreesName (v w : DiskVolume) (d : ℕ) (name : List ℕ) : Type 0 whe
   pub there : place_of dir.contents name ≡ Some place
   pub freed : EntryIsFreed v w d place
 
--- how many calls look for it at most: that of the directory's descriptor, and if the user may change the directory,
--- those of its sectors up to the one that has the name, and that of the descriptor that is found
+-- the greatest number of calls that look for it: one for the directory's descriptor; if the user may change the
+-- directory, one for each of its sectors up to the one that has the name, and one for the descriptor that is found
 abbrev pub deletion_calls : DiskFile → List ℕ → ℕ → Bool → ℕ
 deletion_calls dir name user execute =
     if may_change dir user execute
     then 1 + sectors_searched dir.contents name + (if is_some (look_up dir.contents name) then 1 else 0) else 1
 
--- and if the file may be deleted, a read and a write of its entry's sector
+-- and if the file may be deleted, a read and a write of its entry's sector in addition
 abbrev pub freeing_calls : DiskVolume → DiskFile → List ℕ → ℕ → Bool → ℕ
 freeing_calls v dir name user execute =
     deletion_calls dir name user execute + calls_on (deletion_end v.files dir name user execute) (λ n. 2)

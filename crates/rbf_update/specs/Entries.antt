@@ -1,4 +1,4 @@
--- Entries of a directory that are written in their places.
+-- Entries of a directory that are overwritten in their places.
 use Rattle.std.specs.Prelude.{◌≡◌, ℕ, ◌+◌, ◌*◌, ◌/◌, ◌%◌, ◌≤◌, true, false, Option, Some, List, length, get_or}
 use Rattle.rbf_model.specs.Disk.{image_disk}
 use Rattle.rbf_model.specs.Fields.{directory_entry, descriptor_field, is_used}
@@ -10,7 +10,7 @@ use Rattle.rbf_model.specs.Writes.{IsNewEntry}
 use Rattle.rbf_access.specs.Mounted.{Represents}
 use Rattle.rbf_update.specs.Becomes.{with_piece}
 
--- the sector that holds the entry in place i of a directory: there are 8 in each
+-- the sector that holds the entry in place i of a directory: each sector has 8
 abbrev pub sector_of_entry : DiskFile → ℕ → ℕ
 sector_of_entry dir i = get_or (sectors_of dir.segments) (i / 8) 0
 
@@ -18,7 +18,7 @@ sector_of_entry dir i = get_or (sectors_of dir.segments) (i / 8) 0
 abbrev pub with_entry_bytes : Option (List ℕ) → DiskFile → ℕ → List ℕ → Option (List ℕ)
 with_entry_bytes media dir i bytes = with_piece media (sector_of_entry dir i) (32 * (i % 8)) bytes
 
--- a place behind the first two of directory d of the volume that the media represents
+-- a place after the first two of directory d of the volume that the media represents
 pub record IsPlace (media : Option (List ℕ)) (d i : ℕ) : Type 0 where
   pub content : DiskVolume
   pub on : Represents media content
@@ -28,14 +28,14 @@ pub record IsPlace (media : Option (List ℕ)) (d i : ℕ) : Type 0 where
   pub after : 2 ≤ i
   pub within : 32 * (i + 1) ≤ length dir.contents
 
--- a free place, and the entry of a new file, which stands on the disk, by a name that is not in the directory
+-- a free place, and the entry of a new file, which is on the disk, by a name that is not in the directory
 pub record MayFill (media : Option (List ℕ)) (d i : ℕ) (entry : List ℕ) : Type 0 where
   pub place : IsPlace media d i
   pub free : is_used (directory_entry place.dir.contents i) ≡ false
   pub new : IsNewEntry place.dir.contents i entry (descriptor_field entry)
   pub ready : IsReady (image_disk place.on.image) place.content d (descriptor_field entry)
 
--- the place of a used entry that names a file which is no directory
+-- the place of a used entry that names a file, not a directory
 pub record MayFree (media : Option (List ℕ)) (d i : ℕ) : Type 0 where
   pub place : IsPlace media d i
   pub used : is_used (directory_entry place.dir.contents i) ≡ true

@@ -17,12 +17,12 @@ use rbf_access::{FileFault, Volume};
 use rbf_sector::{Fd, read_fd};
 use rbf_walk::DirError;
 
-/// Gives a file or directory other attributes (SS.Attr, this project's own argument): bit 7, which
-/// says what it is, stays, and the date of its last change is `now`.
+/// Sets the attributes of a file or directory (SS.Attr, this project's own argument): bit 7, its
+/// kind, is unchanged, and the date of its last change is `now`.
 ///
 /// # Errors
 ///
-/// `Device` if an access of the drive fails; then the media is as it was.
+/// `Device` if an access of the drive fails; then the media is unchanged.
 pub fn set_fd_attr(
     v: &mut Volume,
     d: &mut dyn BlockDriver,
@@ -53,8 +53,8 @@ pub fn set_fd_attr(
 ///
 /// # Errors
 ///
-/// `NotAllowed` for any other user, `Device` if an access of the drive fails; then the media is as
-/// it was.
+/// `NotAllowed` for any other user, `Device` if an access of the drive fails; then the media is
+/// unchanged.
 pub fn set_attr(
     v: &mut Volume,
     d: &mut dyn BlockDriver,
@@ -85,7 +85,7 @@ pub fn set_attr(
     Ok(())
 }
 
-// Gives a descriptor other attributes: its kind stays.
+// Sets the attributes in a descriptor, except for its kind.
 fn put_attributes(descriptor: &mut [u8; 256], attr: u8, now: TimePacket)
     ensures { descriptor.new ≡ attributed descriptor.old attr now }
 {
@@ -98,7 +98,7 @@ fn put_attributes(descriptor: &mut [u8; 256], attr: u8, now: TimePacket)
     );
 }
 
-// May a user change the attributes of this file?
+// Whether a user may change the attributes of this file.
 fn owns(file: &Fd, user: u16) -> bool
     ensures { (of : DiskFile) → IsFdOf of file.now → result ≡ owns_file of user }
 {

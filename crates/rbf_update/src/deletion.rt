@@ -18,7 +18,7 @@ use rbf_walk::{DirError, Searched, is_open, may, search};
 const WRITE: u8 = 2;
 
 /// An entry that may be deleted: its place in the directory, the sector that has it, and the
-/// descriptor that it names, with what that says of the file.
+/// descriptor that it names, with the fields of that descriptor.
 #[derive(Clone, Copy, Debug)]
 pub struct Deletable {
     pub place: u32,
@@ -27,15 +27,15 @@ pub struct Deletable {
     pub file: Fd,
 }
 
-/// Deletes the name of a file from a directory, for a user, and answers what was found of the file.
-/// It has gone from the volume then, and its whole clusters are lost until they are given back. For
-/// its descriptor and for that of the directory one call of the drive each is made.
+/// Deletes the name of a file from a directory, for a user, and returns what was found of the file.
+/// The file is then removed from the volume, and its whole clusters are lost until they are given
+/// back. One call of the drive is made for its descriptor, and one for that of the directory.
 ///
 /// # Errors
 ///
-/// `NotAllowed` if the user may not search or may not write the directory, and for a directory or
-/// a file that the user may not write; `NotFound` if the name is not there; `Device` if an access
-/// of the drive fails. The media is as it was then.
+/// `NotAllowed` if the user may not search or may not write the directory, and for a directory or a
+/// file that the user may not write; `NotFound` if the name is not there; `Device` if an access of
+/// the drive fails. Then the media is unchanged.
 pub fn delete_name(
     v: &mut Volume,
     d: &mut dyn BlockDriver,
@@ -62,16 +62,16 @@ pub fn delete_name(
     Ok(found)
 }
 
-/// The entry of a directory that has a name, if a user may delete it: an entry of a file, and not
-/// of a directory (OS-9 Technical Reference, I$Delete). It makes one call of the drive for each of
-/// the two descriptors, and at most as many more as the directory has sectors up to the one with the
+/// The entry of a directory that has a name, if a user may delete it: an entry of a file, not of a
+/// directory (OS-9 Technical Reference, I$Delete). It makes one call of the drive for each of the
+/// two descriptors, and at most one more for each sector of the directory up to the one with the
 /// name.
 ///
 /// # Errors
 ///
 /// `NotAllowed` if the user may not search or may not write the directory, before any access of its
 /// sectors; `NotFound` if the name is not there; `NotAllowed` for a directory or a file that the
-/// user may not write; `Device` if an access of the drive fails. The media stays.
+/// user may not write; `Device` if an access of the drive fails. The media is unchanged.
 pub fn find_deletable(
     v: &mut Volume,
     d: &mut dyn BlockDriver,
@@ -113,14 +113,14 @@ pub fn find_deletable(
     }
 }
 
-// Is it a directory that a user may search and change?
+// Whether it is a directory that a user may search and change.
 fn may_change(fd: &Fd, user: u16, execute: bool) -> bool
     ensures { (file : DiskFile) → IsFdOf file fd.now → result ≡ may_change_lem file user execute }
 {
     is_open(fd, user, execute) && may(fd, user, WRITE)
 }
 
-// Is it a file, and no directory, that a user may delete?
+// Whether it is a file, not a directory, that a user may delete.
 fn may_delete(fd: &Fd, user: u16) -> bool
     ensures { (file : DiskFile) → IsFdOf file fd.now → result ≡ may_delete_lem (Some file) user }
 {

@@ -11,13 +11,13 @@ use crate::sector::put_bytes;
 use os9_outer::drive::BlockDriver;
 use rbf_access::{FileFault, Volume};
 
-/// Makes an entry free that [`crate::find_deletable`] has found: its first byte is 0 then, and the
-/// others stay (OS-9 Technical Reference, Random Block File Manager, "Directories"). The entry's
-/// sector is read and written.
+/// Makes free an entry that [`crate::find_deletable`] has found: its first byte becomes 0, and the
+/// others are unchanged (OS-9 Technical Reference, Random Block File Manager, "Directories"). The
+/// entry's sector is read and written.
 ///
 /// # Errors
 ///
-/// `Device` if an access of the drive fails; then the media is as it was.
+/// `Device` if an access of the drive fails; then the media is unchanged.
 pub fn free_entry(
     v: &mut Volume,
     d: &mut dyn BlockDriver,

@@ -1,5 +1,5 @@
-//! Changes of a mounted RBF volume by one sector, over a drive that may fail: an entry of a
-//! directory that is made free in its place, and the attributes of a file.
+//! Changes of a mounted RBF volume by one sector write, over a drive that may fail: an entry of a
+//! directory is made free in its place, or the attributes of a file are set.
 #![tactic(auto)]
 
 pub use attributes::{set_attr, set_fd_attr};

@@ -1,4 +1,4 @@
--- A directory that is searched for a name.
+-- The search of a directory for a name.
 use Rattle.std.specs.Prelude.{◌≡◌, ℕ, ◌+◌, ◌*◌, ◌/◌, ◌<◌, ◌≤◌, Bool, true, false, Option, Some, None, List, length, slice_index}
 use Rattle.os9_base.specs.Name.{IsName, lower}
 use Rattle.rbf_model.specs.Fields.{directory_entry, descriptor_field}
@@ -18,7 +18,7 @@ use Rattle.rbf_walk.specs.declared.directory.Searched.TheVariants.{Found, Absent
 abbrev pub NonePasses : (List ℕ → Bool) → List ℕ → ℕ → Type 0
 NonePasses test bytes count = (k : ℕ) → k < count → test (directory_entry bytes k) ≡ false
 
--- of so many, the entry in place i is the first that passes
+-- of the first `count` entries, the one in place i is the first that passes
 pub record IsFirst (test : List ℕ → Bool) (bytes : List ℕ) (count i : ℕ) : Type 0 where
   pub below : i < count
   pub passes : test (directory_entry bytes i) ≡ true
@@ -39,7 +39,7 @@ pub record IsFdOn (media : Option (List ℕ)) (fd : Fd) : Type 0 where
   pub is : content.files number ≡ Some file
   pub fields : IsFdOf file fd
 
--- what holds of each file that has this descriptor
+-- a fact about each file that has this descriptor
 abbrev pub OnFd : Option (List ℕ) → Fd → (DiskFile → Type 0) → Type 0
 OnFd media fd fact =
     (v : DiskVolume) (n : ℕ) (file : DiskFile) → Represents media v → v.files n ≡ Some file → IsFdOf file fd
@@ -53,22 +53,22 @@ pub record IsFoundAt (contents name : List ℕ) (place descriptor : ℕ) : Type 
   pub descriptor_is : descriptor ≡ descriptor_field (directory_entry contents place)
   pub names : look_up contents name ≡ Some descriptor
 
--- no entry has the name, and a new one goes to this place
+-- no entry has the name, and a new one is put into this place
 pub record IsAbsent (contents name : List ℕ) (free : ℕ) : Type 0 where
   pub nowhere : place_of contents name ≡ None
   pub names_none : look_up contents name ≡ None
   pub free_is : free ≡ entry_place contents
 
--- what a search of these bytes for a name answers
+-- the answer of a search of these bytes for a name
 abbrev pub IsSearched : List ℕ → List ℕ → Searched → Type 0
 IsSearched contents name (Found place descriptor) = IsFoundAt contents name place descriptor
 IsSearched contents name (Absent free) = IsAbsent contents name free
 
--- the sectors up to the one with the entry in this place, or all of so many: there are 8 entries in each
+-- the number of sectors up to the one with the entry in this place, or all; each sector has 8 entries
 abbrev pub sectors_to : Option ℕ → ℕ → ℕ
 sectors_to None all = all
 sectors_to (Some place) all = place / 8 + 1
 
--- how many sectors of a directory a search for a name reads at most: none behind the one that has the name
+-- the greatest number of a directory's sectors that a search for a name reads: none after the one that has the name
 abbrev pub sectors_searched : List ℕ → List ℕ → ℕ
 sectors_searched contents name = sectors_to (place_of contents name) (sector_count (length contents))

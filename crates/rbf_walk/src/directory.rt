@@ -12,9 +12,9 @@ use os9_outer::drive::BlockDriver;
 use rbf_access::{FileFault, Volume};
 use rbf_sector::Fd;
 
-/// What a search of a directory finds: the entry that has the name, by its place, and the
-/// descriptor that it names; or that no entry has it, and the place of the first free entry, which
-/// is that behind the last where none is free.
+/// The result of a search of a directory: the place of the entry with the name, and the descriptor
+/// that it names; or, if no entry has the name, the place of the first free entry, which is the one
+/// after the last if none is free.
 #[derive(Clone, Copy, Debug, PartialEq, Eq)]
 pub enum Searched {
     Found { place: u32, descriptor: u32 },
@@ -22,7 +22,7 @@ pub enum Searched {
 }
 
 /// Searches a directory, whose descriptor is given, for a name; the case of letters is ignored. It
-/// makes at most as many calls of the drive as the directory has sectors up to the one that has the
+/// makes at most one call of the drive for each sector of the directory up to the one that has the
 /// name.
 ///
 /// # Errors
@@ -67,7 +67,7 @@ pub fn search(
     })
 }
 
-// The first free entry so far: the one before, or else one of the sector in this place.
+// The first free entry so far: an earlier one, otherwise one of the sector in this place.
 fn first_free(before: Option<u32>, sector: &[u8; 256], count: u32, place: u32) -> Option<u32>
     requires few { count ≤ 8 }
     requires low { place < 2 ^ 27 }

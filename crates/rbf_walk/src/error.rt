@@ -22,7 +22,7 @@ pub enum DirError {
 }
 
 impl DirError {
-    /// The number of the error that a call answers which ended so: E$FNA, E$BPNam, E$PNNF, E$CEF,
+    /// The number of the error that a call with this result answers: E$FNA, E$BPNam, E$PNNF, E$CEF,
     /// or that of the file call (System Programmer's Manual, error codes).
     pub fn number(&self) -> u8
         ensures { result ≡ directory_error self.now }

@@ -11,13 +11,13 @@ use os9_base::name::Name;
 use os9_outer::drive::BlockDriver;
 use rbf_access::Volume;
 
-/// Goes from a directory along the names of a path list, for a user, and answers the descriptor
-/// that is reached. Each directory that is searched must let the user read it, or execute it in
-/// search of a file to execute (OS-9 Technical Reference, I$Open).
+/// Walks from a directory along the names of a path list, for a user, and returns the descriptor at
+/// its end. The user must be allowed to read each searched directory, or to execute it in search of
+/// a file to execute (OS-9 Technical Reference, I$Open).
 ///
 /// # Errors
 ///
-/// `NotAllowed` at the first name that is looked up in a file that is no directory or may not be
+/// `NotAllowed` at the first name that is looked up in a file that is not a directory or may not be
 /// searched, `NotFound` at the first that is not there, `Device` if a read of the drive fails.
 pub fn walk(
     v: &mut Volume,
@@ -45,7 +45,7 @@ pub fn walk(
     Ok(at)
 }
 
-// Where a directory's name leads a user.
+// The end of the step of one name, for a user.
 fn step(
     v: &mut Volume,
     d: &mut dyn BlockDriver,

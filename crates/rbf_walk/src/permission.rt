@@ -9,9 +9,9 @@ const READ: u8 = 1;
 
 const EXECUTE: u8 = 4;
 
-/// May a user use the file as the mode asks: 1 to read, 2 to write, 4 to execute, and sums of
-/// these? The owner and user 0 have the low three bits of the attributes, others the next three
-/// (OS-9 Technical Reference, File Descriptors, FD.ATT). Other bits of the mode ask for nothing.
+/// Whether a user may use the file as the mode asks: 1 to read, 2 to write, 4 to execute, and sums
+/// of these. The owner and user 0 have the low three bits of the attributes, others the next three
+/// (OS-9 Technical Reference, File Descriptors, FD.ATT). Other bits of the mode are ignored.
 pub fn may(fd: &Fd, user: u16, mode: u8) -> bool
     ensures { result ≡ permits fd.now.attr fd.now.owner user mode }
 {
@@ -30,7 +30,7 @@ fn granted(fd: &Fd, user: u16) -> u8
     }
 }
 
-/// Is it a directory that a user may search, for a file to execute or for any other?
+/// Whether it is a directory that a user may search, for a file to execute or for any other.
 pub fn is_open(fd: &Fd, user: u16, execute: bool) -> bool
     ensures { (file : DiskFile) → IsFdOf file fd.now → result ≡ may_search file user execute }
 {

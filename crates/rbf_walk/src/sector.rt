@@ -14,7 +14,7 @@ pub struct NameEnd {
     pub last: u8,
 }
 
-// How many of a directory's entries are in the sector in this place.
+// The number of a directory's entries in the sector in this place.
 pub fn entries_in(entries: u32, place: u32) -> u32
     requires { place < 2 ^ 27 }
     ensures { result ≡ min 8 (entries - 8 * place) }
@@ -72,7 +72,8 @@ pub fn descriptor_in(sector: &[u8; 256], i: u32) -> u32
     read_entry(&entry_at(sector, i)).lsn
 }
 
-// Is the entry in a place of a sector used, and has it this name, with the case of letters ignored?
+// Whether the entry in a place of a sector is used and has this name, with the case of letters
+// ignored.
 fn has_name_at(sector: &[u8; 256], i: u32, name: &Name, end: NameEnd) -> bool
     requires entry { i < 8 }
     requires end { IsEndOf name.now end }
@@ -87,8 +88,8 @@ fn has_name_at(sector: &[u8; 256], i: u32, name: &Name, end: NameEnd) -> bool
     has_name(&entry_at(sector, i), name)
 }
 
-// Does an entry end where the name does, and with that character? No other one has the name, so most
-// entries need no further look.
+// Whether an entry ends at the end of the name, and with the same character. No other entry has the
+// name, so most entries need no further test.
 fn ends_alike(sector: &[u8; 256], i: u32, end: NameEnd) -> bool
     requires entry { i < 8 }
     requires within { end.at < 32 }
@@ -102,8 +103,8 @@ fn ends_alike(sector: &[u8; 256], i: u32, end: NameEnd) -> bool
     lower(byte % 128) == end.last
 }
 
-// Has an entry the characters of the name before the last one? No other one has the name. They differ
-// near the end most often.
+// Whether an entry has the characters of the name before the last one. No other entry has the name.
+// Most entries differ near the end.
 fn begins_alike(sector: &[u8; 256], i: u32, name: &Name) -> bool
     requires { i < 8 }
     ensures { entry_has_name name.now (directory_entry sector.now i) ≡ true → result ≡ true }
@@ -120,7 +121,7 @@ fn begins_alike(sector: &[u8; 256], i: u32, name: &Name) -> bool
     true
 }
 
-// A letter in lower case, any other character as it is.
+// A letter in lower case; any other character is unchanged.
 fn lower(character: u8) -> u8
     ensures { result ≡ lower_lem character }
 {
@@ -151,7 +152,7 @@ fn entry_at(sector: &[u8; 256], i: u32) -> [u8; 32]
     entry
 }
 
-// Is the entry used, and has it this name, with the case of letters ignored?
+// Whether the entry is used and has this name, with the case of letters ignored.
 fn has_name(entry: &[u8; 32], name: &Name) -> bool
     ensures { result ≡ entry_has_name name.now entry.now }
 {

@@ -1,4 +1,4 @@
--- Files that are changed, their descriptors that have been read, and the clusters that they need.
+-- Changed files, their descriptors that have been read, and the clusters that they need.
 use Rattle.std.specs.Prelude.{◌≡◌, ℕ, ◌*◌, ◌^◌, ◌<◌, false, Option, Some, List}
 use Rattle.os9_outer.specs.Drive.{sector_at}
 use Rattle.rbf_model.specs.Fields.{segments_field}
@@ -10,7 +10,7 @@ use Rattle.rbf_access.specs.Reading.{IsFdOf, OnFile}
 pub use Rattle.rbf_access.specs.Reading.{OnVolumeFile}
 use Rattle.rbf_write.specs.declared.loaded.Loaded.{Loaded}
 
--- the media represents a volume with a file of this number that is no directory
+-- the media represents a volume with a file of this number that is not a directory
 pub record HasDataFile (media : Option (List ℕ)) (n : ℕ) : Type 0 where
   pub content : DiskVolume
   pub on : Represents media content
@@ -25,11 +25,11 @@ pub record IsLoaded (media : Option (List ℕ)) (n : ℕ) (loaded : Loaded) : Ty
   pub list_is : segments_field loaded.descriptor ≡ loaded.file.segs
   pub says : OnFile media n (λ file. IsFdOf file loaded.file)
 
--- so many clusters hold bytes up to an end that a descriptor can name
+-- `count` clusters hold bytes up to an end that a descriptor can name
 pub record IsClusterCount (k : ℕ) (segments : List (ℕ × ℕ)) (end count : ℕ) : Type 0 where
   pub fits : end < 2 ^ 32
   pub count_is : count ≡ clusters_needed k segments end
 
--- no volume has as many clusters as hold bytes up to that end
+-- no volume has enough clusters to hold bytes up to that end
 abbrev pub IsPastVolumes : ℕ → List (ℕ × ℕ) → ℕ → Type 0
 IsPastVolumes k segments end = 524280 < clusters_needed k segments end * k

@@ -1,4 +1,4 @@
--- A descriptor that is written when the bytes of its file stand.
+-- A descriptor that is written after the bytes of its file.
 use Rattle.std.specs.Prelude.{◌≡◌, ℕ, ◌<◌, ◌≤◌, Option, List, length}
 use Rattle.os9_base.specs.declared.registers.TimePacket.{TimePacket}
 use Rattle.os9_outer.specs.Drive.{sector_count, with_sector}
@@ -10,7 +10,7 @@ use Rattle.rbf_access.specs.Mounted.{IsSound}
 use Rattle.rbf_files.specs.Changed.{HasFields}
 use Rattle.rbf_write.specs.declared.loaded.Loaded.{Loaded}
 
--- the descriptor with another size, these segments, and the date of that change
+-- the descriptor with a new size, these segments, and the date of that change
 pub record IsResized (loaded : Loaded) (segments : List (ℕ × ℕ)) (size : ℕ) (now : TimePacket) (bytes : List ℕ)
     : Type 0 where
   pub whole : length bytes ≡ 256
@@ -18,7 +18,7 @@ pub record IsResized (loaded : Loaded) (segments : List (ℕ × ℕ)) (size : �
   pub list : segments_field bytes ≡ segments
   pub end : KeepsListEnd loaded.descriptor bytes
 
--- it is written where the bytes end behind the old size
+-- it is written if the bytes end after the old size
 pub data IsFinished (loaded : Loaded) (segments : List (ℕ × ℕ)) (end : ℕ) (now : TimePacket)
     (before after : Option (List ℕ)) : Type 0 where
   stays : end ≤ loaded.file.size → after ≡ before → IsFinished loaded segments end now before after
@@ -26,7 +26,7 @@ pub data IsFinished (loaded : Loaded) (segments : List (ℕ × ℕ)) (end : ℕ)
       → after ≡ with_sector before loaded.number bytes → IsFinished loaded segments end now before after
 
 -- a descriptor that was read may be written with these segments: it is on the drive and lists those of the file, these
--- are the same or have another number of sectors, and the media represents a volume when it has been written so
+-- are the same or have another number of sectors, and the media represents a volume after the write
 pub record MayFinish (media : Option (List ℕ)) (loaded : Loaded) (segments : List (ℕ × ℕ))
     (written : Option (List ℕ) → Type 0) : Type 0 where
   pub number : loaded.number < sector_count media

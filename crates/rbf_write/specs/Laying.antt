@@ -24,11 +24,11 @@ pub record Laying : Type 0 where
   pub bytes : List ℕ
   pub now : TimePacket
 
--- the contents then
+-- the resulting contents
 abbrev pub laid_contents : List ℕ → Laying → List ℕ
 laid_contents contents laying = put_at (extended contents laying.at) laying.at laying.bytes
 
--- the file then, with these segments: only a change of its size changes its date
+-- the resulting file, with these segments; its date changes only if its size does
 abbrev pub laid_file : DiskFile → Laying → List (ℕ × ℕ) → DiskFile
 laid_file file laying segments =
     record file {
@@ -39,36 +39,36 @@ laid_file file laying segments =
           else minute_of laying.now;
     }
 
--- how many clusters it needs for that
+-- the number of clusters that it needs for that
 abbrev pub laying_needs : DiskVolume → DiskFile → Laying → ℕ
 laying_needs v file laying =
     clusters_needed (cluster_size v) file.segments (length (laid_contents file.contents laying))
 
--- where they end
+-- the end of these bytes in the file
 abbrev pub laying_end : Laying → ℕ
 laying_end laying = laying.at + length laying.bytes
 
--- the bytes of the segments' sectors stay from a place of the file on, also those that its size does not reach
+-- the bytes of the segments' sectors are unchanged from a place of the file on, even those after its size
 abbrev pub KeepsBytesFrom : ℕ → List (ℕ × ℕ) → List ℕ → List ℕ → Type 0
 KeepsBytesFrom end segments old new =
     (place : ℕ) → end ≤ place
     → get_or (segment_bytes (sector new) segments) place 0 ≡ get_or (segment_bytes (sector old) segments) place 0
 
--- what has stayed on the media where file n was given these segments and bytes up to an end, beside what the volume
--- shows
+-- what is unchanged on the media, in addition to what the volume shows, if file n was given these segments and bytes up
+-- to an end
 pub record IsTidyChange (before after : Option (List ℕ)) (n : ℕ) (segments : List (ℕ × ℕ)) (end : ℕ) : Type 0 where
   pub image : List ℕ
   pub now : List ℕ
   pub was : before ≡ Some image
   pub is : after ≡ Some now
-  -- all sectors but those of the file, its descriptor and the map
+  -- all sectors except those of the file, its descriptor and the map
   pub others : (s : ℕ) → ¬ IsMapSector (image_geometry image) s → s ≢ n → has (sectors_of segments) s ≡ false
       → sector now s ≡ sector image s
-  -- and of those of the file all that is behind the bytes
+  -- in the file's sectors, everything after the bytes
   pub behind : KeepsBytesFrom end segments image now
-  -- the marks behind the whole clusters
+  -- the marks after the whole clusters
   pub map_end : KeepsMapEnd image now (λ _. false)
-  -- the end of the list of segments and the bytes behind it
+  -- the end of the list of segments and the bytes after it
   pub list : KeepsListEnd (sector image n) (sector now n)
 
 -- the clusters of all sectors of the segments are marked
@@ -77,8 +77,8 @@ AllAreMarked image segments =
     (s : ℕ) → has (sectors_of segments) s ≡ true
     → is_marked (sector image) (s / (image_geometry image).cluster) ≡ true
 
--- what a fault has left as it was, where file n was to be given these segments and bytes up to an end: its descriptor,
--- and all sectors but those of the segments and of the map
+-- what a fault has left unchanged, if file n was to be given these segments and bytes up to an end: its descriptor, and
+-- all sectors except those of the segments and of the map
 pub record IsTidyStop (before after : Option (List ℕ)) (n : ℕ) (segments : List (ℕ × ℕ)) (end : ℕ) : Type 0 where
   pub image : List ℕ
   pub now : List ℕ
@@ -88,7 +88,7 @@ pub record IsTidyStop (before after : Option (List ℕ)) (n : ℕ) (segments : L
   pub others : (s : ℕ) → ¬ IsMapSector (image_geometry image) s → has (sectors_of segments) s ≡ false
       → sector now s ≡ sector image s
   pub behind : KeepsBytesFrom end segments image now
-  -- a sector beside the map is as it was until all clusters of the segments are marked
+  -- a sector outside the map is unchanged until all clusters of the segments are marked
   pub marks : (s : ℕ) → ¬ IsMapSector (image_geometry image) s
       → (sector now s ≡ sector image s) ⊎ AllAreMarked now segments
   pub map_end : KeepsMapEnd image now (λ _. false)
@@ -104,7 +104,7 @@ pub record IsLaidOver (v : DiskVolume) (old : DiskFile) (laying : Laying) (befor
   pub tidy : IsTidyChange before after laying.number (with_clusters (cluster_size v) old.segments gained)
       (laying_end laying)
 
--- a fault has ended it: a front of the bytes is there, and clusters that were taken may be lost
+-- a fault has ended it: a front of the bytes is written, and clusters that were taken may be lost
 pub record LayingEnds (v : DiskVolume) (old : DiskFile) (laying : Laying) (before after : Option (List ℕ))
     : Type 0 where
   pub count : ℕ
@@ -114,7 +114,7 @@ pub record LayingEnds (v : DiskVolume) (old : DiskFile) (laying : Laying) (befor
   pub left : DiskVolume
   pub on : Represents after left
   pub lose : MayLose (replaced v laying.number (Some (with_front old laying.at laying.bytes count))) left (has taken)
-  -- the first byte comes after the last mark
+  -- the first byte is written after the last mark
   pub order : (count ≡ 0) ⊎ ((c : ℕ) → has taken c ≡ true → left.lost c ≡ true)
   pub tidy : IsTidyStop before after laying.number (with_clusters (cluster_size v) old.segments taken)
       (laying_end laying)
@@ -125,7 +125,7 @@ pub record LayingIsFull (v : DiskVolume) (old : DiskFile) (laying : Laying) (bef
   pub few : free_total v < laying_needs v old laying
   pub media_kept : after ≡ before
 
--- enough are free, and a cluster that was chosen finds no place in the list
+-- enough are free, and a chosen cluster does not fit the list
 pub record LayingIsTooLong (v : DiskVolume) (old : DiskFile) (laying : Laying) (before after : Option (List ℕ))
     : Type 0 where
   pub enough : laying_needs v old laying ≤ free_total v
@@ -134,7 +134,7 @@ pub record LayingIsTooLong (v : DiskVolume) (old : DiskFile) (laying : Laying) (
       (length (laid_contents old.contents laying)) chosen
   pub media_kept : after ≡ before
 
--- what it answers, and what it leaves then
+-- its answers, and what each leaves
 abbrev pub AnswersLaying : DiskVolume → DiskFile → Laying → Option (List ℕ) → Option (List ℕ)
     → Result (Unit {0}) FileFault → Type 0
 AnswersLaying v old laying before after (Ok done) = IsLaidOver v old laying before after

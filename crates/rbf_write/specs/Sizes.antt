@@ -1,4 +1,4 @@
--- What a change of a file's size answers, and what it leaves then.
+-- The answers of a change of a file's size, and what each leaves.
 use Rattle.std.specs.Prelude.{◌≡◌, ◌≢◌, ℕ, ◌+◌, ◌<◌, ◌≤◌, nat_lt, Option, Some, List, [], length, Bool, false, Result, Ok, Err, if◌then◌else◌}
 use Rattle.os9_base.specs.declared.registers.TimePacket.{TimePacket}
 use Rattle.rbf_model.specs.Geometry.{image_geometry, sector}
@@ -19,50 +19,49 @@ use Rattle.rbf_access.specs.Mounted.{Represents}
 use Rattle.rbf_write.specs.Laying.{KeepsBytesFrom, IsTidyStop}
 use Rattle.rbf_write.specs.Outcomes.{laying_calls}
 
--- a size that file n is given, at a time
+-- the setting of the size of file n, at a time
 pub record Sizing : Type 0 where
   pub number : ℕ
   pub size : ℕ
   pub now : TimePacket
 
--- how many clusters it needs besides
+-- the number of clusters that it needs in addition
 abbrev pub size_needs : DiskVolume → DiskFile → Sizing → ℕ
 size_needs v file sizing = clusters_needed (cluster_size v) file.segments sizing.size
 
--- the clusters that a file gives up which is cut to that size
+-- the clusters that a file gives up when it is cut to that size
 abbrev pub given_up : DiskVolume → DiskFile → Sizing → ℕ → Bool
 given_up v file sizing c =
     is_given_up (shape v) sizing.number file
     (cut_file (cluster_size v) sizing.number file sizing.size (minute_of sizing.now)) c
 
--- the clusters that are given up: none where the file is made longer
+-- the clusters that are given up: none if the file is made longer
 abbrev pub giving_up : DiskVolume → DiskFile → Sizing → ℕ → Bool
 giving_up v file sizing c = if nat_lt sizing.size (length file.contents) then given_up v file sizing c else false
 
--- the segments in whose sectors zeros are laid: none where the file is cut
+-- the segments in whose sectors zeros are laid: none if the file is cut
 abbrev pub zeroed_segments : DiskFile → Sizing → List (ℕ × ℕ) → List (ℕ × ℕ)
 zeroed_segments old sizing segments = if nat_lt (length old.contents) sizing.size then segments else []
 
--- what has stayed on the media where file n has got a size with zeros in these segments, and some clusters were given
--- up
+-- what is unchanged on the media if file n got a size with zeros in these segments, and some clusters were given up
 pub record IsTidySize (before after : Option (List ℕ)) (n : ℕ) (segments : List (ℕ × ℕ)) (size : ℕ) (gone : ℕ → Bool)
     : Type 0 where
   pub image : List ℕ
   pub now : List ℕ
   pub was : before ≡ Some image
   pub is : after ≡ Some now
-  -- all sectors but those of the segments, its descriptor and the map
+  -- all sectors except those of the segments, its descriptor and the map
   pub others : (s : ℕ) → ¬ IsMapSector (image_geometry image) s → s ≢ n → has (sectors_of segments) s ≡ false
       → sector now s ≡ sector image s
-  -- and of those of the segments all that is behind the size
+  -- in the segments' sectors, everything after the size
   pub behind : KeepsBytesFrom size segments image now
-  -- the marks behind the whole clusters, but that of a cluster that is given up
+  -- the marks after the whole clusters, except that of a cluster that is given up
   pub map_end : KeepsMapEnd image now gone
-  -- the end of the list of segments and the bytes behind it
+  -- the end of the list of segments and the bytes after it
   pub list : KeepsListEnd (sector image n) (sector now n)
 
--- and after a fault, where the file had been cut: only the map and its descriptor have changed, and that mark may stand
--- still
+-- the same after a fault, if the file had been cut: only the map and its descriptor have changed, and that mark may
+-- still be set
 pub record IsTidyCut (before after : Option (List ℕ)) (n : ℕ) (gone : ℕ → Bool) : Type 0 where
   pub image : List ℕ
   pub now : List ℕ
@@ -72,8 +71,8 @@ pub record IsTidyCut (before after : Option (List ℕ)) (n : ℕ) (gone : ℕ �
   pub map_end : MayKeepMapEnd image now gone
   pub list : KeepsListEnd (sector image n) (sector now n)
 
--- by how the fault ended the call: all has stayed; the clusters had been chosen, and all but the map and sectors of the
--- segments that the file was to have has stayed; or all but the map and its descriptor
+-- by how the fault ended the call: nothing has changed; or the clusters had been chosen, and only the map and sectors
+-- of the planned segments have changed; or only the map and its descriptor have
 abbrev pub IsTidyEnd : (left : List ℕ) (v w : DiskVolume) (sizing : Sizing) → (ℕ → Bool) → Option (List ℕ)
     → Option (List ℕ) → SizeEnds left v w sizing.number sizing.size sizing.now → Type 0
 IsTidyEnd left v w sizing gone media now (ends.before same) = now ≡ media
@@ -106,7 +105,7 @@ pub record SizeIsFull (v : DiskVolume) (old : DiskFile) (sizing : Sizing) (befor
   pub few : free_total v < size_needs v old sizing
   pub media_kept : after ≡ before
 
--- error 217: enough are free, and a cluster that was chosen finds no place in the list of segments
+-- error 217: enough are free, and a chosen cluster does not fit the list of segments
 pub record SizeIsTooLong (v : DiskVolume) (old : DiskFile) (sizing : Sizing) (before after : Option (List ℕ))
     : Type 0 where
   pub enough : size_needs v old sizing ≤ free_total v
@@ -122,12 +121,12 @@ AnswersSize v old sizing before after (Err (Device n)) = SizeIsEnded v old sizin
 AnswersSize v old sizing before after (Err NoCluster) = SizeIsFull v old sizing before after
 AnswersSize v old sizing before after (Err TooManyRuns) = SizeIsTooLong v old sizing before after
 
--- how many sectors of the map have a mark of a cluster that is given up
+-- the number of the map's sectors that have a mark of a cluster that is given up
 abbrev pub giving_calls : DiskVolume → DiskFile → Sizing → ℕ
 giving_calls v file sizing = marking_sectors (shape v) (given_up v file sizing)
 
--- how many calls of the drive it makes at most: that of the descriptor alone where the size stays, those of a write up
--- to the new end, or two and one for each sector of the map that has a mark of the clusters that are given up
+-- the greatest number of its drive calls: only that of the descriptor if the size is unchanged, those of a write up to
+-- the new end, or two and one for each sector of the map that has a mark of the clusters that are given up
 abbrev pub size_calls : DiskVolume → DiskFile → ℕ → Sizing → ℕ
 size_calls v file marks sizing =
     if nat_lt (length file.contents) sizing.size then 1 + laying_calls v file marks sizing.size sizing.size

@@ -4,8 +4,8 @@ ghost use Rattle.rbf_write.specs.Files.{IsClusterCount, IsPastVolumes};
 
 use rbf_segs::Segs;
 
-// How many clusters a file with these segments needs besides, to hold bytes up to `end`. None if no
-// volume has as many.
+// The number of clusters that a file with these segments still needs to hold bytes up to `end`.
+// None if no volume has that many.
 pub fn clusters_for(k: u16, segs: &Segs, end: usize) -> Option<u32>
     requires { 1 ≤ k }
     ensures { MatchOption result (IsPastVolumes k segs.now end) (IsClusterCount k segs.now end) }

@@ -18,9 +18,9 @@ use rbf_growth::grow;
 use rbf_sector::Fd;
 use rbf_segs::Segs;
 
-/// Lays bytes over those of a file from `at` on, with zeros between its end and that place. The file
-/// gains the clusters that it needs, then its sectors are written upwards, and its descriptor is
-/// written last, if its size has changed.
+/// Lays bytes over those of a file from `at` on, with zeros between its end and that place. The
+/// file gains the clusters that it needs, then its sectors are written upwards, and its descriptor
+/// is written last, if its size has changed.
 ///
 /// # Errors
 ///
@@ -56,8 +56,7 @@ pub fn lay_over(
     Ok(())
 }
 
-// Writes the descriptor of a file with these segments, if its bytes go up to another end than
-// before.
+// Writes the descriptor of a file with these segments, if its bytes now have another end.
 fn finish(
     volume: &mut Volume,
     d: &mut dyn BlockDriver,

@@ -9,7 +9,7 @@ use os9_outer::drive::BlockDriver;
 use rbf_access::{FileFault, Volume};
 use rbf_sector::{Fd, read_fd};
 
-/// A file whose descriptor has been read: the descriptor's number and bytes, and what they say.
+/// A file whose descriptor has been read: the descriptor's number, bytes and fields.
 #[derive(Clone, Copy, Debug)]
 pub struct Loaded {
     pub number: u32,

@@ -11,17 +11,17 @@ use os9_base::registers::TimePacket;
 use os9_outer::drive::BlockDriver;
 use rbf_access::{FileFault, Volume};
 
-/// Writes bytes to a file that is no directory, from `at` on. Between its end and that place it has
-/// zeros then. A write that changes its size sets its date. To write no bytes changes nothing and
-/// makes no call of the drive (OS-9 System Programmer's Manual, I$Write).
+/// Writes bytes to a file that is not a directory, from `at` on. Zeros fill the file between its
+/// end and that place. A write that changes the size sets the file's date. A write of no bytes
+/// changes nothing and makes no call of the drive (OS-9 System Programmer's Manual, I$Write).
 ///
 /// # Errors
 ///
-/// If no fault comes, `NoCluster` exactly if fewer clusters are free than the write needs, and
-/// `TooManyRuns` if one that was chosen finds no place in the list of segments: then nothing has
-/// changed. `Device` if a call of the drive fails: then the file may have a first part of the
-/// bytes, up to the end of a sector and its old size, and clusters may be lost; in a call that was
-/// to be refused nothing has changed.
+/// Without a drive fault, `NoCluster` if and only if fewer clusters are free than the write needs,
+/// and `TooManyRuns` if a chosen one does not fit the list of segments: then nothing has changed.
+/// `Device` if a call of the drive fails: then the file may have a first part of the bytes, up to
+/// the end of a sector and its old size, and clusters may be lost; if the call would have been
+/// refused, nothing has changed.
 pub fn write_at(
     volume: &mut Volume,
     d: &mut dyn BlockDriver,

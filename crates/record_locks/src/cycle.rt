@@ -85,7 +85,7 @@ fn is_led_on(held: &[Option<Held>], asked: Held, p: Pid, leading: &[bool; LOCK_P
     held.iter().any(|place| leads_on(place, asked, p, leading))
 }
 
-/// Does the lock conflict with that of this place, and is its owner this process or a marked one?
+/// Does the lock conflict with the held one of this place, and is the holder `p` or marked?
 fn leads_on(place: &Option<Held>, asked: Held, p: Pid, leading: &[bool; LOCK_PROCESSES]) -> bool
     ensures { result ≡ is_opposed_by asked
         (λ next. (next == p.0) || slice_index_or leading.now next false) place.now }
@@ -102,7 +102,7 @@ fn leads_on(place: &Option<Held>, asked: Held, p: Pid, leading: &[bool; LOCK_PRO
     }
 }
 
-/// Does the lock conflict with that of this place, and is its owner marked?
+/// Does the lock conflict with the held one of this place, and is the holder marked?
 fn is_opposed(place: &Option<Held>, asked: Held, leading: &[bool; LOCK_PROCESSES]) -> bool
     ensures { result
         ≡ is_opposed_by asked (λ next. slice_index_or leading.now next false) place.now }

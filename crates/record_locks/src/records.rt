@@ -117,7 +117,7 @@ impl Records {
     ///
     /// # Errors
     ///
-    /// Out of memory. Nothing has changed then.
+    /// Out of memory. Nothing changes then.
     pub fn hold(&mut self, path: u8, lock: Held, bytes: &[u8]) -> Result<(), OutOfMemory>
         requires path { IsPath path }
         requires may { MayHold self.old.locks lock }
@@ -138,7 +138,7 @@ impl Records {
     ///
     /// # Errors
     ///
-    /// Out of memory. Nothing has changed then.
+    /// Out of memory. Nothing changes then.
     pub fn write(&mut self, path: u8, lock: Held, bytes: &[u8]) -> Result<(), OutOfMemory>
         requires path { IsPath path }
         requires free { conflicts self.old.locks lock ≡ false }
@@ -152,8 +152,8 @@ impl Records {
         Ok(())
     }
 
-    /// Takes the lock of a system path away, if it holds one, and enters a Drop. No memory is taken:
-    /// the history has room for the entry.
+    /// Takes the lock of a system path away, if it holds one, and enters a Drop. No memory is
+    /// taken: the history has room for the entry.
     pub fn drop_lock(&mut self, path: u8)
         requires { IsPath path }
         ensures { self.new ≡ without_lock self.old path }

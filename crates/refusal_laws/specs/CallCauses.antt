@@ -1,4 +1,5 @@
--- Why calls are refused that are none on files and directories (System Programmer's Manual, "System calls", each call).
+-- Why calls other than those on files and directories are refused (System Programmer's Manual, "System calls", each
+-- call).
 use Rattle.std.specs.Prelude.{◌≡◌, ◌≢◌, ◌⊎◌, ℕ, ◌+◌, ◌-◌, ◌<◌, Bool, true, false, IsSome, Option, Some, None, Result, Ok, Err, List, [], length}
 use Rattle.os9_base.specs.declared.errors.TheConstants.{E_BADTIME, E_BMODE, E_BNAM, E_BPADDR, E_BPNUM, E_IPRCID, E_MEMFUL, E_MNF, E_NOCHLD, E_NORAM, E_NOTRDY, E_PTHFUL, E_UNKSVC, E_USIGP}
 use Rattle.proc_model.specs.Memory.{free_blocks, map_at}
@@ -38,7 +39,7 @@ use Rattle.touch_laws.specs.LoadCauses.{LinkCause, StartCause, TestCause}
 
 -- ---- a call on a terminal or a pipe
 
--- a read or a write of a path that was opened on a file or a directory which is not there, as no path of a run is
+-- a read or a write of a path that was opened on a file or a directory that does not exist, as on no path of a run
 pub record IsOnLostFile (call : IoCall) (caller : Caller) (files : Files) : Type 0 where
   pub moves : IsSome (direction_of_call call)
   pub opened : OpenPath
@@ -47,8 +48,8 @@ pub record IsOnLostFile (call : IoCall) (caller : Caller) (files : Files) : Type
   pub on : place_of_target opened.desc.target ≡ Some place
   pub lost : file_in files place ≡ None
 
--- why a call that is on no file is refused, and changes nothing, by its number. A path list that it reads leads to a
--- terminal or a pipe: so no name of it, no device and no directory is the cause
+-- why a call that is not on a file is refused, and changes nothing, by its number. A path list that it reads leads to a
+-- terminal or a pipe, so the cause is not a name of it, a device or a directory
 pub data DeviceCause (call : IoCall) (caller : Caller) (files : Files) (terms number : ℕ) : Type 0 where
   path_table_full : number ≡ E_PTHFUL → IsFull call caller files.io (length files.drives) terms
       → DeviceCause call caller files terms number
@@ -62,14 +63,14 @@ pub data DeviceCause (call : IoCall) (caller : Caller) (files : Files) (terms nu
 
 -- ---- a call on processes and modules
 
--- the name that F$Link and F$UnLoad read at X, and F$PrsNam behind one slash, or why there is none
+-- the name that F$Link and F$UnLoad read at X, and F$PrsNam after one slash, or why there is none
 abbrev pub name_read : ProcCall → Inner → ℕ → Option (Result (List ℕ) NameFault)
 name_read Call.Link m p = Some (name_at (cells_at m p) (regs_at m p).x)
 name_read Call.UnLoad m p = Some (name_at (cells_at m p) (regs_at m p).x)
 name_read Call.PrsNam m p = Some (name_at (cells_at m p) (past_slash (cells_at m p) (regs_at m p).x))
 name_read call m p = None
 
--- F$PrsNam reads a name, and the byte behind it is not there
+-- F$PrsNam reads a name, and there is no byte after it
 pub record EndsAtGap (m : Inner) (p : ℕ) : Type 0 where
   pub name : List ℕ
   pub read : name_at (cells_at m p) (past_slash (cells_at m p) (regs_at m p).x) ≡ Ok name
@@ -84,7 +85,7 @@ MissesByte Call.Crc m p =
     ⊎ (user_bytes (cells_at m p) (regs_at m p).u 3 ≡ None)
 MissesByte call m p = name_read call m p ≡ Some (Err Unreadable)
 
--- 235: the bytes at the address are no name, or the names that F$CmpNam compares differ
+-- 235: the bytes at the address are not a name, or the names that F$CmpNam compares differ
 abbrev pub HasBadName : ProcCall → Inner → ℕ → Type 0
 HasBadName Call.CmpNam m p = same_names (cells_at m p) (regs_at m p).x (regs_at m p).y (regs_at m p).b ≡ Some false
 HasBadName call m p = name_read call m p ≡ Some (Err NoName)
@@ -101,27 +102,27 @@ abbrev pub FindsNoModule : ProcCall → Inner → ℕ → Type 0
 FindsNoModule Call.UnLink m p = module_at m.memory.modules (map_at m.memory p) (regs_at m p).u ≡ None
 FindsNoModule call m p = Finds call m p None
 
--- how many blocks F$Mem asks for, and how many more than the data area has
+-- the number of blocks that F$Mem asks for, and the number beyond those of the data area
 abbrev pub blocks_asked : Inner → ℕ → ℕ
 blocks_asked m p = blocks_of_pages (page_count (d_of (regs_at m p)))
 
 abbrev pub blocks_more : Inner → ℕ → ℕ
 blocks_more m p = blocks_asked m p - (map_at m.memory p).low
 
--- 207 of F$Mem: a data area has no more pages, or a slot behind it is named or there are too few
+-- 207 of F$Mem: a data area has no more pages, or a slot after it is named or there are too few
 abbrev pub HasNoSlots : Inner → ℕ → Type 0
 HasNoSlots m p =
     (most_pages < page_count (d_of (regs_at m p)))
     ⊎ (is_free_run (map_at m.memory p) (map_at m.memory p).low (blocks_more m p) ≡ false)
 
--- a module that is entered is linked and started as the first one of a file that is in memory
+-- an entered module is linked and started like the first one of a file that is in memory
 abbrev pub in_memory : Inner → Entered → Loaded
 in_memory m found = record { first = found; memory = m.memory }
 
 abbrev pub no_file : ProgramFile
 no_file = record { bytes = []; next = 0 }
 
--- the process that begins: a new one of F$Fork, if there is a number for it, or that which calls F$Chain
+-- the process that begins: a new one of F$Fork, if there is a number for it, or the caller of F$Chain
 abbrev pub begins : ProcCall → Inner → ℕ → Option ℕ
 begins Call.Fork m p = free_process m.records
 begins Call.Chain m p = Some p
@@ -133,7 +134,7 @@ starts_program Call.Fork = true
 starts_program Call.Chain = true
 starts_program call = false
 
--- why a call is refused, F$Fork and F$Chain where a module is entered that their registers name, by the number
+-- why a call is refused, by the number; F$Fork and F$Chain if their registers name an entered module
 pub data ProcCause (m : Inner) (p : ℕ) (call : ProcCall) (number : ℕ) : Type 0 where
   bad_address : number ≡ E_BPADDR → MissesByte call m p → ProcCause m p call number
   bad_name : number ≡ E_BNAM → HasBadName call m p → ProcCause m p call number

@@ -1,4 +1,4 @@
--- Why a call on paths is refused (System Programmer's Manual, "I/O service requests"), but for the end of a file and a
+-- Why a call on paths is refused (System Programmer's Manual, "I/O service requests"), except the end of a file and a
 -- write error.
 use Rattle.std.specs.Prelude.{◌≡◌, ◌≢◌, ◌⊎◌, ℕ, ◌+◌, ◌-◌, ◌<◌, ◌≤◌, ⊤, false, true, Option, Some, None, IsSome, option_and_then, Err, Ok, length}
 use Rattle.std.specs.Option.{option_map_or}
@@ -37,38 +37,39 @@ pub record IsOn (call : IoCall) (caller : Caller) (io : Io) (target : Target) : 
   pub names : open_path io caller.process.0 (path_number call caller.regs) ≡ Some opened
   pub target_is : opened.desc.target ≡ target
 
--- what a call looks for that reads a path list; any other names a path by its number
+-- the search of a call that reads a path list; any other names a path by its number
 abbrev pub search_of : IoCall → Option Search
 search_of Call.Open = Some what_is_there
 search_of Call.Create = Some a_new_place
 search_of call = None
 
--- the call reads this path list, and looks for this
+-- the call reads this path list, for this search
 pub record LooksFor (call : IoCall) (caller : Caller) (search : Search) (list : PathList) : Type 0 where
   pub search_is : search_of call ≡ Some search
   pub list_is : path_list caller.cells caller.regs.x ≡ Ok list
 
--- the device at which a list starts, if it names one that is there
+-- the device at which a list starts, if it names an existing one
 abbrev pub device_at : ℕ → ℕ → PathList → Option Dev
 device_at drives terms list = option_and_then (device_of drives terms) list.device
 
--- a device that is no drive
+-- a device that is not a drive
 abbrev pub IsNoDrive : Dev → Type 0
 IsNoDrive (Device.Drive drive) = ⊥
 IsNoDrive (Device.Term terminal) = ⊤
 IsNoDrive Device.Pipe = ⊤
 
--- the byte is one of a list, with others behind it: a character of a name without bit 7, or a slash
+-- the byte belongs to a list and is not its last: a character of a name without bit 7, or a slash
 abbrev pub IsOfList : Option ℕ → Type 0
 IsOfList None = ⊥
 IsOfList (Some byte) = (goes_on byte ≡ true) ⊎ (byte ≡ slash)
 
--- the list at X goes on up to this address
+-- the list at X continues up to this address
 pub record GoesOnTo (caller : Caller) (at : ℕ) : Type 0 where
   pub behind : caller.regs.x ≤ at
   pub bytes : (k : ℕ) → caller.regs.x ≤ k → k < at → IsOfList (user_cell caller.cells k)
 
--- how many bytes a read or a write asks for, or the longest line: what is kept of it says it, or Y at its first attempt
+-- the number of bytes that a read or a write asks for, or the longest line: from what is kept of it, or from Y at its
+-- first attempt
 abbrev pub asked_by : Caller → Io → ℕ
 asked_by caller io = option_map_or (λ kept. kept.count) (kept_at io caller.process.0) caller.regs.y
 
@@ -78,7 +79,7 @@ asked_by caller io = option_map_or (λ kept. kept.count) (kept_at io caller.proc
 abbrev pub GivesNumber : IoCall → Type 0
 GivesNumber call = (call ≡ Call.Dup) ⊎ IsSome (search_of call)
 
--- 200: the sixteen numbers of the process are in use; of a call that opens a path also the 64 paths, or the sixteen
+-- 200: the sixteen numbers of the process are in use; for a call that opens a path also the 64 paths, or the sixteen
 -- pipes
 pub data IsFull (call : IoCall) (caller : Caller) (io : Io) (drives terms : ℕ) : Type 0 where
   numbers : GivesNumber call → free_number io.paths caller.process.0 ≡ None → IsFull call caller io drives terms
@@ -86,7 +87,7 @@ pub data IsFull (call : IoCall) (caller : Caller) (io : Io) (drives terms : ℕ)
   pipes : (search : Search) (list : PathList) → LooksFor call caller search list
       → device_at drives terms list ≡ Some Device.Pipe → free_pipe io.pipes ≡ None → IsFull call caller io drives terms
 
--- 201: the number names no path of the process
+-- 201: the number does not name a path of the process
 pub record NamesNoPath (call : IoCall) (caller : Caller) (io : Io) : Type 0 where
   pub names_one : search_of call ≡ None
   pub none : open_path io caller.process.0 (path_number call caller.regs) ≡ None
@@ -96,8 +97,8 @@ abbrev pub Allows : Direction → ℕ → Type 0
 Allows Reading mode = can_read mode ≡ true
 Allows Writing mode = can_write mode ≡ true
 
--- 203: the mode of the path that is to be opened has no bit of those that it needs, or the path of a read or a write
--- was opened without them
+-- 203: the mode of the path to be opened has no bit of those that it needs, or the path of a read or a write was opened
+-- without them
 abbrev pub LacksMode : IoCall → Caller → Io → Type 0
 LacksMode Call.Open caller io = is_mode caller.regs.a ≡ false
 LacksMode Call.Create caller io = can_write caller.regs.a ≡ false
@@ -106,7 +107,7 @@ LacksMode call caller io =
     × (open_path io caller.process.0 (path_number call caller.regs) ≡ Some opened)
     × (Allows way opened.desc.mode → ⊥)
 
--- 208: the status of this code is not there to be asked for, and none can be set
+-- 208: the status of this code cannot be asked for, and none can be set
 abbrev pub HasNoStatus : IoCall → ℕ → Type 0
 HasNoStatus Call.GetStt code = ((code ≡ SS_OPT) ⊎ (code ≡ SS_READY) ⊎ (code ≡ SS_EOF)) → ⊥
 HasNoStatus Call.SetStt code = ⊤
@@ -119,14 +120,14 @@ pub record IsOnDisk (call : IoCall) (caller : Caller) (io : Io) : Type 0 where
   pub sector : ℕ
   pub on : IsOn call caller io (File drive sector) ⊎ IsOn call caller io (Folder drive sector)
 
--- one of so many bytes from an address on is in no named slot or past FFFF
+-- one of `count` bytes from an address on is in no named slot or past FFFF
 pub record HasGap (cells : Cells) (from count : ℕ) : Type 0 where
   pub at : ℕ
   pub behind : from ≤ at
   pub within : at < from + count
   pub missing : user_cell cells at ≡ None
 
--- the list at X goes on up to a byte that is in no named slot or past FFFF
+-- the list at X continues up to a byte that is in no named slot or past FFFF
 pub record ListBreaksOff (caller : Caller) : Type 0 where
   pub at : ℕ
   pub front : GoesOnTo caller at
@@ -146,7 +147,7 @@ IsUnreadable Call.GetStt caller io =
     (caller.regs.b ≡ SS_OPT) × HasGap caller.cells caller.regs.x OPTION_BYTES
 IsUnreadable call caller io = ⊥
 
--- the list at X goes on up to an address at which a name has to stand, and none does: it is X, or behind a slash
+-- the list at X continues up to an address at which a name is required and missing: it is X, or after a slash
 pub record NamesNothing (caller : Caller) : Type 0 where
   pub at : ℕ
   pub front : GoesOnTo caller at
@@ -155,9 +156,9 @@ pub record NamesNothing (caller : Caller) : Type 0 where
   pub no_name : name_at caller.cells at ≡ Err NoName
   pub list : path_list caller.cells caller.regs.x ≡ Err NoName
 
--- 215: a name that has to stand in the list is none; or the list that was read leads nowhere by its names: the last
--- one of what is to be made is that of a directory itself or of the one above it, a slash stands behind a terminal or a
--- pipe, or the root of a drive is to be made
+-- 215: a required name in the list is missing or invalid; or the names of the list lead nowhere: the last one of what
+-- is to be made is that of a directory itself or of the one above it, a slash is after a terminal or a pipe, or the
+-- root of a drive is to be made
 pub data IsBadName (call : IoCall) (caller : Caller) (drives terms : ℕ) : Type 0 where
   no_name : IsSome (search_of call) → NamesNothing caller → IsBadName call caller drives terms
   dots : (search : Search) (list : PathList) → LooksFor call caller search list → makes_dots search list ≡ true
@@ -169,14 +170,14 @@ pub data IsBadName (call : IoCall) (caller : Caller) (drives terms : ℕ) : Type
       → device_at drives terms list ≡ Some (Device.Drive drive) → length list.names ≡ 0
       → IsBadName call caller drives terms
 
--- 216: the list begins with no slash, and no process has a directory
+-- 216: the list does not begin with a slash, and no process has a directory
 pub record HasNoDirectory (call : IoCall) (caller : Caller) : Type 0 where
   pub search : Search
   pub list : PathList
   pub looks : LooksFor call caller search list
   pub relative : list.device ≡ None
 
--- 221: the list starts at a device that is not there, or at a drive: none is mounted
+-- 221: the list starts at a device that does not exist, or at a drive while none is mounted
 pub record HasNoDevice (call : IoCall) (caller : Caller) (drives terms : ℕ) : Type 0 where
   pub search : Search
   pub list : PathList
@@ -193,7 +194,7 @@ pub record HasNoByte (call : IoCall) (caller : Caller) (io : Io) : Type 0 where
   pub on : IsOn call caller io target
   pub none : ready_count io target ≡ 0
 
--- the cause of a refusal that changes nothing, on a machine with so many drives and terminals, by its number
+-- the cause of a refusal that changes nothing, on a machine with this number of drives and terminals, by its number
 pub data StatedCause (call : IoCall) (caller : Caller) (io : Io) (drives terms number : ℕ) : Type 0 where
   path_table_full : number ≡ E_PTHFUL → IsFull call caller io drives terms
       → StatedCause call caller io drives terms number

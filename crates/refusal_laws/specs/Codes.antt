@@ -1,4 +1,4 @@
--- The codes of all calls, and those that are no call's (System Programmer's Manual, "System calls").
+-- The codes of all calls, and the unknown codes (System Programmer's Manual, "System calls").
 use Rattle.std.specs.Prelude.{ℕ, ◌==◌, Bool, List, [], ◌∷◌, ◌++◌, map}
 use Rattle.std.specs.List.{list_any, range_with_len}
 use Rattle.call_rules.specs.declared.proc_call.ProcCall.TheVariants as Proc

@@ -1,5 +1,5 @@
--- What a call on paths leaves that is refused (System Programmer's Manual, "I/O service requests"; what remains of a
--- read or a write that has begun is this project's own).
+-- What a refused call on paths leaves (System Programmer's Manual, "I/O service requests"; what remains of a read or a
+-- write that has begun is this project's own).
 use Rattle.std.specs.Prelude.{◌≡◌, ◌≢◌, ◌⊎◌, ◌<◌, ℕ, min, false, true, Option, Some, None, List, [], ◌∷◌, ◌++◌, length, take, drop}
 use Rattle.std.specs.Option.{option_map_or}
 use Rattle.os9_base.specs.Count.{Rose}
@@ -35,8 +35,8 @@ use Rattle.refusal_laws.specs.Causes.{IsOn, StatedCause, asked_by}
 
 -- ---- the processes
 
--- memory stays, and with it the bytes that each process sees; so does all else of the processes but B and the condition
--- codes of the caller, which waits no more, and has no call any more
+-- memory is unchanged, and so are the bytes that each process sees and everything else of the processes, except B and
+-- the condition codes of the caller, which does not wait any more, and whose call is over
 pub record LeavesProcesses (m : Inner) (p number : ℕ) (n : Inner) : Type 0 where
   pub memory : n.memory ≡ m.memory
   pub order : n.order ≡ m.order
@@ -49,12 +49,13 @@ pub record LeavesProcesses (m : Inner) (p number : ℕ) (n : Inner) : Type 0 whe
 
 -- ---- input and output
 
--- input and output stay but for what is kept of the call of the process, which goes; the terminals stay
+-- input and output are unchanged, except what is kept of the call of the process, which is removed; the terminals are
+-- unchanged
 pub record ChangesNothing (p : ℕ) (io new : Io) (before after : List TerminalState) : Type 0 where
   pub now : new ≡ with_call io p None
   pub same : after ≡ before
 
--- the state where a terminal is this one, or a pipe holds these bytes, and nothing is kept of a call
+-- the state with this terminal, or with these bytes in a pipe, and nothing kept of a call
 abbrev pub on_terminal : Io → ℕ → Terminal → ℕ → Io
 on_terminal io n terminal p = with_call (with_terminal io n terminal) p None
 
@@ -63,11 +64,11 @@ on_pipe io n bytes p = with_call (with_pipe_bytes io n bytes) p None
 
 -- ---- reads
 
--- how many bytes the attempts of a call have moved before
+-- the number of bytes that earlier attempts of a call have moved
 abbrev pub moved_before : Caller → Io → ℕ
 moved_before caller io = option_map_or (λ kept. kept.moved) (kept_at io caller.process.0) 0
 
--- the path on which a call was made that waits, or is made
+-- the path on which a pending call was made, or a new one is made
 abbrev pub path_of : Caller → Io → OpenPath → SysPath
 path_of caller io opened = option_map_or (λ kept. kept.path) (kept_at io caller.process.0) opened.path
 
@@ -77,7 +78,7 @@ kind_of Call.Read = Some Bytes
 kind_of Call.ReadLn = Some WholeLine
 kind_of call = None
 
--- the call is this read, as a terminal has it: it asks for 256 bytes at most
+-- the call is this read, in the form for a terminal: it asks for 256 bytes at most
 pub record IsRequest (call : IoCall) (caller : Caller) (io : Io) (request : Reading) : Type 0 where
   pub kind : kind_of call ≡ Some request.kind
   pub process : request.process ≡ caller.process
@@ -89,13 +90,13 @@ pub record IsGiven (bytes : List ℕ) (old now : TerminalState) : Type 0 where
   pub keys : now.keys ≡ old.keys
   pub faults : now.faults ≡ old.faults
 
--- the terminal failed, and its count of faults rose; its keys to come stay
+-- the terminal failed, and its count of faults rose; its keys to come are unchanged
 pub record HasFailed (old now : TerminalState) : Type 0 where
   pub faults : Rose old.faults now.faults
   pub keys : now.keys ≡ old.keys
 
 -- 211 of a terminal: a read that has moved no byte, or whose line is empty, finds the key 1B. It has used the keys up
--- to and with that one, their echo is out, no read is unfinished there, and the caller is the last user.
+-- to and including that one, their echo is out, no read is unfinished there, and the caller is the last user.
 pub record EndsAtKey (call : IoCall) (caller : Caller) (io new : Io) (before after : List TerminalState) : Type 0 where
   pub terminal : ℕ
   pub on : IsOn call caller io (Term terminal)
@@ -147,7 +148,7 @@ sent_by Call.WritLn caller io = line_bytes caller (kept_at io caller.process.0)
 sent_by Call.PErr caller io = Some (error_line caller.regs.b)
 sent_by call caller io = None
 
--- what a terminal puts of them: behind the carriage return of a line a line feed
+-- what a terminal puts of them: a line feed after the carriage return of a line
 abbrev pub put_by : IoCall → List ℕ → List ℕ
 put_by Call.WritLn bytes = line_put bytes
 put_by Call.PErr bytes = line_put bytes
@@ -165,17 +166,17 @@ pub record WriteFails (call : IoCall) (caller : Caller) (io new : Io) (before af
   pub out : ChangesOneTerminal (λ old now. PutsPart (put_by call bytes) old now × HasFailed old now)
       terminal before after
 
--- the bytes that a write has still to move
+-- the bytes that a write still has to move
 abbrev pub left_of : Caller → Io → List ℕ → List ℕ
 left_of caller io bytes = drop (moved_before caller io) bytes
 
--- what a pipe holds where as many of them as it has room for came in
+-- what a pipe holds after those of them for which it has room were put in
 abbrev pub held_then : Caller → Io → ℕ → List ℕ → List ℕ
 held_then caller io pipe bytes =
     pipe_bytes io pipe ++ take (pipe_room (pipe_bytes io pipe)) (left_of caller io bytes)
 
--- 245 of a pipe: nobody else could end a wait of the caller. As many bytes as there was room for are in the pipe, and
--- where what is kept of the call is of it, the pipe is full.
+-- 245 of a pipe: nobody else could end a wait of the caller. The bytes for which there was room are in the pipe, and if
+-- what is kept of the call is of it, the pipe is full.
 pub record FindsNoReader (call : IoCall) (caller : Caller) (io new : Io) (before after : List TerminalState)
     : Type 0 where
   pub pipe : ℕ
@@ -187,7 +188,7 @@ pub record FindsNoReader (call : IoCall) (caller : Caller) (io new : Io) (before
   pub full : IsAgain call caller.regs io caller.process.0 → pipe_room (held_then caller io pipe bytes) ≡ 0
   pub same : after ≡ before
 
--- ---- an attempt that is refused
+-- ---- a refused attempt
 
 -- what is left after 211
 abbrev pub LeftAtEnd : IoCall → Caller → Io → Io → List TerminalState → List TerminalState → Type 0
@@ -201,7 +202,7 @@ LeftAtFault call caller io new before after =
     ⊎ WriteFails call caller io new before after
     ⊎ FindsNoReader call caller io new before after
 
--- an attempt of a call on paths by a process that is refused with this number
+-- an attempt of a call on paths by a process, refused with this number
 pub record Refusal : Type 0 where
   pub call : IoCall
   pub process : ℕ
@@ -214,7 +215,7 @@ pub record Refusal : Type 0 where
   pub left : List TerminalState  -- the terminals then
   pub attempted : IoAttempts call inner io drives process (refused number) new terms left
 
--- the process that calls
+-- the calling process
 abbrev pub caller_in : Refusal → Caller
 caller_in it = caller_of it.inner it.process
 

@@ -1,4 +1,4 @@
--- What an event leaves that is an attempt of a call which is refused, and why it is refused.
+-- What is left by an event that is a refused attempt of a call, and why it is refused.
 use Rattle.std.specs.Prelude.{◌≡◌, ◌≢◌, ◌⊎◌, ℕ, true, false, IsSome, Some, None, length}
 use Rattle.os9_base.specs.declared.errors.TheConstants.{E_EOF, E_UNKSVC, E_WRITE}
 use Rattle.os9_base.specs.declared.registers.TimePacket.{TimePacket}
@@ -42,7 +42,7 @@ pub record IsRefused (s : State) (code number : ℕ) (t : State) : Type 0 where
 
 -- what is left of terminals, pipes and paths
 pub data LeftOnDevice (s : State) (p : ℕ) (call : IoCall) (number : ℕ) (t : State) : Type 0 where
-  -- all but what is kept of the call, which goes
+  -- everything but what is kept of the call, which is removed
   but_the_call : DeviceCause call (caller_of s.inner p) s.files (length s.terms) number
       → ChangesNothing p s.files.io t.files.io s.terms t.terms → LeftOnDevice s p call number t
   end_of_file : number ≡ E_EOF → LeftAtEnd call (caller_of s.inner p) s.files.io t.files.io s.terms t.terms
@@ -50,7 +50,7 @@ pub data LeftOnDevice (s : State) (p : ℕ) (call : IoCall) (number : ℕ) (t : 
   write_error : number ≡ E_WRITE → LeftAtFault call (caller_of s.inner p) s.files.io t.files.io s.terms t.terms
       → LeftOnDevice s p call number t
 
--- the call is one on terminals and pipes, and on no file: all else stays, and no drive fails
+-- the call is one on terminals and pipes, and not on a file: everything else is unchanged, and no drive fails
 pub record RefusedOnDevice (s : State) (p : ℕ) (now : TimePacket) (call : PathCall) (number : ℕ) (t : State)
     : Type 0 where
   pub device : IoCall
@@ -77,8 +77,8 @@ made_by s p now call = record {
 abbrev pub step_of : State → ℕ → TimePacket → PathCall → FileStep
 step_of s p now call = file_step call (asker_of s.inner p now) s.files (length s.terms)
 
--- the drive that the call reached has failed, and no other one, and the number is that of its fault. Of the volume that
--- was in it that is left which the definition of the call lets a fault leave; the other volumes are as they were
+-- the drive that the call reached has failed, and no other one, and the number is that of its fault. What is left of
+-- its volume is what the definition of the call lets a fault leave; the other volumes are unchanged
 pub record FailsOnDrive (s : State) (p : ℕ) (now : TimePacket) (call : PathCall) (number : ℕ) (t : State)
     : Type 0 where
   pub drive : ℕ
@@ -92,9 +92,9 @@ pub record FailsOnDrive (s : State) (p : ℕ) (now : TimePacket) (call : PathCal
   pub mounted : volume_at t.files drive ≡ Some left
   pub others : (other : ℕ) → other ≢ drive → volume_at t.files other ≡ volume_at s.files other
 
--- the call is on a file or a directory, or on nothing: all stays but what is kept of a call, which goes. The volumes
--- stay, and the number has its cause; or the drive that it reached has failed. A call that changes no volume leaves
--- them also then
+-- the call is on a file or a directory, or on nothing: everything is unchanged but what is kept of a call, which is
+-- removed. The volumes are unchanged, and the number has its cause; or the drive that it reached has failed. A call
+-- that changes no volume leaves them unchanged even then
 pub record RefusedOnFile (s : State) (p : ℕ) (now : TimePacket) (call : PathCall) (number : ℕ) (t : State)
     : Type 0 where
   pub io : t.files.io ≡ with_call s.files.io p None
@@ -107,7 +107,7 @@ pub record RefusedOnFile (s : State) (p : ℕ) (now : TimePacket) (call : PathCa
 
 -- ---- a load
 
--- a file of modules was asked for, and read or not: all stays but what the drive that was reached counts. Where that
+-- a file of modules was asked for, and read or not: everything is unchanged but what the reached drive counts. If that
 -- drive has failed, the number is that of the fault; else it has its cause
 pub record RefusedLoad (s : State) (p : ℕ) (now : TimePacket) (test : Step ProgramFile → Step ProgramFile)
     (Cause : Type 0) (number : ℕ) (t : State) : Type 0 where
@@ -122,16 +122,16 @@ pub record RefusedLoad (s : State) (p : ℕ) (now : TimePacket) (test : Step Pro
 
 -- ---- any other call
 
--- what a call leaves beside memory and the processes, at the time that it is, and why it is refused
+-- what a call leaves in addition to memory and the processes, at the current time, and why it is refused
 pub data LeavesRest (s : State) (p : ℕ) (now : TimePacket) (code number : ℕ) (t : State) : Type 0 where
-  -- a call on processes and modules, also F$Fork and F$Chain of a module that is entered: all
+  -- a call on processes and modules, also F$Fork and F$Chain of an entered module: all
   of_processes : (call : ProcCall) → service_of code ≡ on_processes call
       → (starts_program call ≡ true → IsSome (named_program s.inner p))
       → attempted call s.inner p ≡ refused number → ProcCause s.inner p call number → rest_of t ≡ rest_of s
       → LeavesRest s p now code number t
   of_time : (call : TimeCall) → service_of code ≡ on_time call → TimeCause s.inner p call number
       → rest_of t ≡ rest_of s → LeavesRest s p now code number t
-  -- a code that is no call's: all
+  -- an unknown code: all
   of_no_call : service_of code ≡ no_call → number ≡ E_UNKSVC → rest_of t ≡ rest_of s → LeavesRest s p now code number t
   -- F$Load, and F$Fork and F$Chain of a file
   of_load : service_of code ≡ loads

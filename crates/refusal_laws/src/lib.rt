@@ -1,4 +1,4 @@
-//! Laws of refusals: what a refused attempt of a call leaves as it was, and why it is refused.
+//! Laws of refusals: what a refused attempt of a call leaves unchanged, and why it is refused.
 #![tactic(auto)]
 
 pub mod codes;

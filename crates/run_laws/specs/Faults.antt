@@ -39,15 +39,14 @@ pub record NoneFailed (s t : State) : Type 0 where
   pub terminals : AllZip NotFailed s.terms t.terms
   pub drives : NoDriveFailed s.files.drives t.files.drives
 
--- every count of faults can still rise: none is at its last value
+-- every count of faults can still rise: none is at its greatest value
 pub record CanRise (s : State) : Type 0 where
   pub terminals : AllByRecursion (λ (terminal : TerminalState). terminal.faults < 2 ^ 64 - 1) s.terms
   pub drives : (drive : ℕ) → (drive_at s.files.drives drive).faults < 2 ^ 64 - 1
 
 -- ---- what the machine may choose
 
--- file n needs clusters beside those that it has, to be of this size; or its list of segments is longer than that of a
--- file on a disk may be
+-- file n needs more clusters to be of this size; or its list of segments is longer than that of a file on a disk may be
 pub record NeedsClusters (v : DiskVolume) (n : ℕ) (size : DiskFile → ℕ) : Type 0 where
   pub file : DiskFile
   pub is : v.files n ≡ Some file
@@ -92,7 +91,7 @@ after_effect s p effect =
     with_rest s (after_attempt s.inner p (result_of s.inner p (io_effect effect)))
     (record (rest_of s) { files = files_after p (with_drives_after effect s.files.drives) })
 
--- an event makes the change of the volume that such an attempt asks for, with some clusters, or finds no place for one
+-- an event makes the change of the volume that such an attempt asks for, with some clusters, or finds no place for them
 pub record ChoosesClusters (s : State) (choice : MayChoose s) (end : EventEnd) (t : State) : Type 0 where
   pub effect : FileEffect
   pub does : IsChanged choice.deed.it (asker_of s.inner choice.p choice.now) s.files effect
@@ -110,21 +109,21 @@ pub record SameButClusters (s : State) (end : EventEnd) (t : State) (other : Eve
 abbrev pub HasNoVolumes : State → Type 0
 HasNoVolumes s = (drive : ℕ) → volume_at s.files drive ≡ None
 
--- ---- what is one
+-- ---- sameness
 
--- two events are one
+-- two events are the same
 pub record SameEvent (end : EventEnd) (t : State) (other : EventEnd) (u : State) : Type 0 where
   pub ends : end ≡ other  -- how they end
   pub last : t ≡ u  -- the states then
 
--- two slices are one
+-- two slices are the same
 pub record SameSlice (states : List State) (end : SliceEnd) (t : State) (others : List State) (other : SliceEnd)
     (u : State) : Type 0 where
   pub through : states ≡ others  -- the states after their events
   pub ends : end ≡ other  -- how they end
   pub last : t ≡ u  -- the states at their ends
 
--- two runs are one
+-- two runs are the same
 pub record SameRun (states : List State) (written : List ℕ) (t : State) (others : List State) (bytes : List ℕ)
     (u : State) : Type 0 where
   pub through : states ≡ others  -- the states after their events

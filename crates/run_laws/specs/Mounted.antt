@@ -1,4 +1,4 @@
--- What holds of the volumes in every state of a run.
+-- Facts of the volumes in every state of a run.
 use Rattle.std.specs.Prelude.{◌≡◌, ℕ, ◌<◌, Some, length}
 use Rattle.rbf_model.specs.File.{DiskFile}
 use Rattle.rbf_model.specs.Volume.{DiskVolume}
@@ -11,12 +11,12 @@ use Rattle.machine_model.specs.State.{State}
 abbrev pub HasNumbers : DiskVolume → Type 0
 HasNumbers v = (n : ℕ) (file : DiskFile) → v.files n ≡ Some file → n < (shape v).total
 
--- each mounted volume is in a drive that is there, and its files have numbers of its sectors
+-- each mounted volume is in an existing drive, and its files have numbers of its sectors
 pub record AreMounted (files : Files) : Type 0 where
   pub drives : (drive : ℕ) (v : DiskVolume) → volume_at files drive ≡ Some v → drive < length files.drives
   pub numbers : (drive : ℕ) (v : DiskVolume) → volume_at files drive ≡ Some v → HasNumbers v
 
--- what holds of a state from which the machine goes on
+-- facts of a state from which the machine goes on
 pub record CanGo (s : State) : Type 0 where
   pub running : IsRunning s
   pub mounted : AreMounted s.files

@@ -15,6 +15,6 @@ pub data Reaches : State → State → Type 0 where
   by_choice : {s next t : State} → Choose s next → Reaches next t → Reaches s t
   by_emptying : {s t : State} → Reaches (record s { terms = terminals_emptied s.terms }) t → Reaches s t
 
--- in no state that is reached the chosen process attempts a call that takes clusters
+-- in no reached state the chosen process attempts a call that takes clusters
 abbrev pub NeverChooses : State → Type 0
 NeverChooses s = (m : State) → Reaches s m → MayChoose m → ⊥

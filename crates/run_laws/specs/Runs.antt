@@ -1,4 +1,4 @@
--- Events, slices and runs that there are.
+-- The existence of events, slices and runs.
 use Rattle.std.specs.Prelude.{◌≡◌, ◌⊎◌, ℕ, Some, List}
 use Rattle.os9_outer.specs.TerminalState.{fault_counts}
 use Rattle.call_rules.specs.Ready.{attempts, act_of}
@@ -28,7 +28,7 @@ pub record MakesFile (s : State) : Type 0 where
   pub volume : DiskVolume
   pub mounted : volume_at s.files drive ≡ Some volume
 
--- a state has an event in which no terminal fails, and no drive but where a file or a directory is made
+-- a state has an event in which no terminal fails, and no drive unless a file or a directory is made
 pub record HasEvent (s : State) : Type 0 where
   pub end : EventEnd
   pub last : State
@@ -36,7 +36,7 @@ pub record HasEvent (s : State) : Type 0 where
   pub counts : SameCounts s last
   pub drives : NoneFailed s.files.drives last.files.drives ⊎ MakesFile s
 
--- a slice of so many instructions comes to an end without a terminal's failure, and without volumes of no drive either
+-- a slice of n instructions ends without a failure of a terminal, and without volumes also of a drive
 pub record HasSlice (n : ℕ) (s : State) : Type 0 where
   pub states : List State
   pub end : SliceEnd
@@ -45,7 +45,7 @@ pub record HasSlice (n : ℕ) (s : State) : Type 0 where
   pub counts : SameCounts s last
   pub drives : HasNoVolumes s → NoneFailed s.files.drives last.files.drives
 
--- there is a run over these slices in which no terminal fails, and without volumes no drive either
+-- there is a run over these slices in which no terminal fails, and without volumes no drive
 pub record HasRun (slices : List ℕ) (s : State) : Type 0 where
   pub states : List State
   pub written : List ℕ

@@ -1,4 +1,4 @@
-//! States that are equal but for keys that come later, as laws of what they do.
+//! The events, slices and runs of states that are equal but for later keys, as laws.
 
 ghost use Rattle.std.specs.Prelude.{◌≡◌, ℕ, ◌+◌, ◌≤◌, List};
 ghost use Rattle.event_rules.specs.declared.ends.EventEnd.{EventEnd};
@@ -9,8 +9,8 @@ ghost use Rattle.machine_model.specs.State.{State};
 ghost use Rattle.run_laws.specs.Session.{IsRunOf, Session, Turn};
 ghost use Rattle.run_laws.specs.Later.{Rests, SameTo, SameTickTo, SameChoiceTo, SameEventTo, SameSliceTo};
 
-/// Of two states that are equal but for keys that come after a tick, one has each tick up to that
-/// one and each choice that the other has, and they are equal but for those keys then.
+/// Of two states that are equal but for keys after a tick, one has each tick up to that one and
+/// each choice that the other has, and they are equal but for those keys after it.
 pub fn later_keys_change_no_tick()
     ensures tick { (later : ℕ) (rests : List Rests) (s t other : State) → s.inner.tick + 1 ≤ later
         → SameTo later rests s other → Tick s t → SameTickTo later rests t other }
@@ -32,8 +32,8 @@ pub fn later_keys_change_no_slice()
         → SameSliceTo later rests n states end t other }
 {}
 
-/// A run whose keys are loaded while it goes is the run of its script as recorded: it writes the same
-/// bytes, through states that differ by keys alone that were not loaded yet.
+/// A run whose keys are loaded while it goes is the run of its recorded script: it writes the same
+/// bytes, through states that differ only by keys that were not loaded yet.
 pub fn a_session_is_the_run_of_its_script()
     ensures session { (turns : List Turn) (s t : State) (states : List State) (written : List ℕ)
         → Session turns s states written t → IsRunOf turns s states written t }

@@ -1,4 +1,4 @@
-//! Runs of the machine: every slice comes to an end, and there is a run over every list of slices.
+//! Runs of the machine: every slice ends, and there is a run over every list of slices.
 
 ghost use Rattle.std.specs.Prelude.{◌≡◌, ℕ, ◌<◌, ◌≤◌, List, Some, length, true};
 ghost use Rattle.civil_time.specs.CivilTime.{is_time_packet};
@@ -25,11 +25,11 @@ pub fn volumes_stay_in_their_drives()
     ensures choice { (s t : State) → Choose s t → CanGo s → CanGo t }
 {}
 
-/// A machine never stands still: the chosen process has an event while it lives, in which no
-/// terminal fails, and no drive unless it makes a file or a directory and a volume is mounted. Every
-/// slice comes to an end, and there is a run over every list of slices, from the start of a machine
-/// with a drive for each image on; no terminal has to fail in them, and without volumes no drive. If
-/// counts of faults stay, and could rise, no device has failed.
+/// A machine never stops: the chosen process has an event while it lives, in which no terminal
+/// fails, and no drive unless it makes a file or a directory and a volume is mounted. Every slice
+/// ends, and there is a run over every list of slices, from the start of a machine with a drive for
+/// each image; no terminal has to fail in them, and without volumes no drive. If counts of faults
+/// are unchanged, and could rise, no device has failed.
 pub fn some_run()
     ensures event { (s : State) (p : ℕ) → CanGo s → s.chosen ≡ Some p
         → IsLiving s.inner.records p → HasEvent s }

@@ -20,10 +20,11 @@ pub fn no_volume_is_mounted()
     ensures choice { (s t : State) → Choose s t → HasNoVolumes s → HasNoVolumes t }
 {}
 
-/// Two events of one state in which no device fails are one, unless the chosen process attempts a
-/// call that takes clusters of a volume: a write or a size for which a file needs some, or a new file
-/// or directory. Then both make the same change of that volume and differ in the clusters alone, or
-/// end with E$SLF if one of them finds no place in the file's list. Two ticks are one.
+/// Two events of one state in which no device fails are the same, unless the chosen process
+/// attempts a call that takes clusters of a volume: a write or a size for which a file needs some,
+/// or a new file or directory. Then both make the same change of that volume and differ only in the
+/// clusters, or end with E$SLF if one of them finds no place in the file's list. Two ticks are the
+/// same.
 pub fn events_without_faults_are_one()
     ensures event { (s t u : State) (end other : EventEnd) → Event s end t → Event s other u
         → NoneFailed s t → NoneFailed s u
@@ -31,9 +32,9 @@ pub fn events_without_faults_are_one()
     ensures tick { (s t u : State) → Tick s t → Tick s u → NoneFailed s t → NoneFailed s u → t ≡ u }
 {}
 
-/// Without faults a run in which no clusters can be taken is one, and so is each without volumes: two
-/// slices, and two runs over the same slices, from one state write the same bytes through the same
-/// states.
+/// Without faults a run in which no clusters can be taken is the only one, and so is each without
+/// volumes: two slices, and two runs over the same slices, from one state write the same bytes
+/// through the same states.
 pub fn a_run_without_volumes_is_one()
     ensures without { (s : State) → HasNoVolumes s → NeverChooses s }
     ensures slice { (n : ℕ) (s t u : State) (states others : List State) (end other : SliceEnd)

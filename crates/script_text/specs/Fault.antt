@@ -3,7 +3,7 @@ use Rattle.std.specs.Prelude.{ℕ, ⊤, Result, Ok, Err}
 use Rattle.script_text.specs.declared.fault.LineFault.{LineFault}
 use Rattle.script_text.specs.declared.fault.LineFault.TheVariants.{Line, OutOfMemory}
 
--- the fact holds of the line that is refused, where one is
+-- the fact holds of the refused line, if there is one
 abbrev pub OnLine : {T : Type 0} → Result T LineFault → (ℕ → Type 0) → Type 0
 OnLine (Ok _) fact = ⊤
 OnLine (Err (Line line)) fact = fact line

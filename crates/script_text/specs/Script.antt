@@ -18,7 +18,7 @@ tick_of digits = within 0 1000000 (number_of digits)
 abbrev pub terminal_names : List (List ℕ)
 terminal_names = codes "TERM" ∷ codes "T1" ∷ codes "T2" ∷ codes "T3" ∷ []
 
--- the number of the terminal of this name, if it is one of so many
+-- the number of the terminal of this name, if it is below the number of terminals
 abbrev pub terminal_of : ℕ → List ℕ → Option ℕ
 terminal_of terminals name =
     option_and_then (λ number. if nat_lt number terminals then Some number else None)
@@ -43,7 +43,7 @@ keys_at tick term [] = None
 keys_at tick term (byte ∷ bytes) =
     Some (map (key_at tick term) (byte ∷ bytes))
 
--- the keys that words give: a tick, one of so many terminals, and one or more bytes
+-- the keys that words give: a tick, a terminal of the machine, and one or more bytes
 abbrev pub words_keys : ℕ → List (List ℕ) → Option (List ScriptKey)
 words_keys terminals (tick ∷ terminal ∷ bytes) =
     option_and_then
@@ -51,7 +51,7 @@ words_keys terminals (tick ∷ terminal ∷ bytes) =
     (tick_of tick)
 words_keys terminals _ = None
 
--- the keys that a line gives, for a machine with so many terminals
+-- the keys that a line gives, for a machine with this number of terminals
 abbrev pub line_keys : ℕ → List ℕ → Option (List ScriptKey)
 line_keys terminals line =
     if is_skipped line then Some [] else (if is_edged line then None else words_keys terminals (line_words line))
@@ -66,16 +66,16 @@ never_fall (key ∷ next ∷ keys) = nat_le key.tick next.tick && never_fall (ne
 abbrev pub are_few_keys : List ScriptKey → Bool
 are_few_keys keys = never_fall keys && nat_le (length keys) 1000000
 
--- the keys that the text gives a machine with so many terminals, or its first line that breaks a rule
+-- the keys that the text gives a machine with this number of terminals, or its first line that breaks a rule
 abbrev pub keys_of : ℕ → List ℕ → Result (List ScriptKey) ℕ
 keys_of terminals text = text_gives (line_keys terminals) are_few_keys text
 
--- a key that a text can give a machine with so many terminals
+-- a key that a text can give a machine with this number of terminals
 pub record IsKey (terminals : ℕ) (key : ScriptKey) : Type 0 where
   pub there : key.term < terminals
   pub early : key.tick ≤ 1000000
 
--- keys that a text can give a machine with so many terminals
+-- keys that a text can give a machine with this number of terminals
 pub record AreKeys (terminals : ℕ) (keys : List ScriptKey) : Type 0 where
   pub few : length keys ≤ 1000000
   pub each : All (IsKey terminals) keys

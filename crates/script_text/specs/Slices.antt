@@ -1,4 +1,4 @@
--- The list of slices: how many instructions each slice has (this project's own).
+-- The list of slices: the number of instructions of each slice (this project's own).
 use Rattle.std.specs.Prelude.{◌≤◌, ◌==◌, ◌&&◌, nat_le, ℕ, Bool, All, Option, Some, None, option_map, option_and_then, Result, List, [], ◌∷◌, length, drop, sum, replicate, if◌then◌else◌}
 use Rattle.std.specs.List.{position_or_len, before_first}
 use Rattle.number_text.specs.Number.{number_of, within}
@@ -12,11 +12,11 @@ slice_number digits = within 1 1000000 (number_of digits)
 abbrev pub is_asterisk : ℕ → Bool
 is_asterisk byte = byte == 42
 
--- what stands in a word from its first asterisk on, or nothing
+-- a word from its first asterisk on, or nothing
 abbrev pub from_asterisk : List ℕ → List ℕ
 from_asterisk word = drop (position_or_len is_asterisk word) word
 
--- how often a word gives a slice, by what stands from its first asterisk on
+-- the number of slices of a word, from its text from the first asterisk on
 abbrev pub times_of : List ℕ → Option ℕ
 times_of [] = Some 1
 times_of (asterisk ∷ digits) = slice_number digits
@@ -27,7 +27,7 @@ word_slices word =
     option_and_then (λ n. option_map (λ k. replicate k n) (times_of (from_asterisk word)))
     (slice_number (before_first is_asterisk word))
 
--- the slices that a line gives; none where a word of it is refused, or a space stands at an end of it
+-- the slices that a line gives; nothing if one of its words is refused, or a space is at one of its ends
 abbrev pub line_slices : List ℕ → Option (List ℕ)
 line_slices line = if is_edged line then None else all_given word_slices (line_words line)
 

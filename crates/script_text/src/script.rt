@@ -23,7 +23,7 @@ pub struct ScriptKey {
 /// The greatest tick of a script.
 const LAST_TICK: u32 = 1_000_000;
 
-/// The most keys of a script.
+/// The greatest number of keys of a script.
 const MOST_KEYS: u32 = 1_000_000;
 
 /// The number of terminals that a machine can have.
@@ -33,7 +33,7 @@ const MOST_TERMINALS: u8 = 4;
 ///
 /// # Errors
 ///
-/// `Line` with the first line that breaks a rule, exactly if one does.
+/// `Line` with the first line that breaks a rule, if and only if one does.
 pub fn read_script(alloc: Global, text: &[u8]) -> Result<Vec<ScriptKey>, LineFault>
     ensures keys { IfOk result (λ keys. keys_of 4 text.now ≡ Ok keys.items) }
     ensures limits { IfOk result (λ keys. AreKeys 4 keys.items) }
@@ -42,19 +42,19 @@ pub fn read_script(alloc: Global, text: &[u8]) -> Result<Vec<ScriptKey>, LineFau
     read_script_for(alloc, text, MOST_TERMINALS)
 }
 
-/// Reads the script for a machine with so many terminals: which key arrives at which tick at which
-/// terminal, in order.
+/// Reads the script for a machine with this number of terminals: the keys in order, each with its
+/// tick and its terminal.
 ///
-/// A text has lines that end with a line feed, which the last may lack. Empty lines, and lines that
-/// begin with `#`, are skipped. Every other line has words with one or more spaces between them: a
-/// tick from 0 to 1,000,000 in decimal digits, a terminal `TERM`, `T1`, `T2` or `T3` that the
-/// machine has, and one or more bytes as two hexadecimal digits of either case, each a key. Ticks
+/// Each line of a text ends with a line feed; the last line may lack it. Empty lines, and lines
+/// that begin with `#`, are skipped. Every other line has words separated by one or more spaces:
+/// a tick from 0 to 1,000,000 in decimal digits, a terminal `TERM`, `T1`, `T2` or `T3` of the
+/// machine, and one or more bytes as two hexadecimal digits of either case, each a key. Ticks
 /// never fall, and there are at most 1,000,000 keys (this project's own).
 ///
 /// # Errors
 ///
-/// `Line` with the first line that breaks a rule, exactly if one does. A line that is refused
-/// takes no memory.
+/// `Line` with the first line that breaks a rule, if and only if one does. A refused line takes
+/// no memory.
 pub fn read_script_for(
     alloc: Global,
     text: &[u8],
@@ -81,7 +81,7 @@ pub fn read_script_for(
     Ok(keys)
 }
 
-// A line that was read up to its bytes: its keys arrive at one tick at one terminal.
+// A line read up to its bytes: its keys arrive at one tick at one terminal.
 #[derive(Clone, Copy)]
 struct KeyLine<'a> {
     tick: u32,
@@ -89,14 +89,14 @@ struct KeyLine<'a> {
     bytes: Words<'a>,
 }
 
-// How far lines of a script reach: the last tick, or 0, and how many keys they have.
+// What lines of a script reach: the last tick, or 0, and the number of their keys.
 #[derive(Clone, Copy)]
 struct Reached {
     tick: u32,
     keys: u32,
 }
 
-// What is reached with the keys of a line, if the line is not refused.
+// What is reached after the keys of a line, if the line is not refused.
 fn add_line(reached: Reached, terminals: u8, line: &[u8]) -> Option<Reached>
     requires { IsReachable reached }
     ensures reached { result ≡ reached_with reached (line_keys terminals line.now) }
@@ -116,7 +116,7 @@ fn add_line(reached: Reached, terminals: u8, line: &[u8]) -> Option<Reached>
     })
 }
 
-// Puts the keys of a line behind these, if the line is not refused.
+// Adds the keys of a line at the end of these, if the line is not refused.
 fn push_line(keys: &mut Vec<ScriptKey>, terminals: u8, line: &[u8]) -> Result<(), AllocError>
     ensures { IfOk result (λ _. IfSome (line_keys terminals line.now) (λ added.
         keys.new.items ≡ keys.old.items ++ added)) }
@@ -130,7 +130,7 @@ fn push_line(keys: &mut Vec<ScriptKey>, terminals: u8, line: &[u8]) -> Result<()
     }
 }
 
-// Puts the keys of a line behind these, those of words that spell no byte left out.
+// Adds the keys of a line at the end of these, without the words that do not spell a byte.
 fn push_bytes(keys: &mut Vec<ScriptKey>, line: KeyLine) -> Result<(), AllocError>
     ensures { IfOk result (λ _. IfSome (bytes_of (line_words line.entry.bytes.line.now)) (λ bytes.
         keys.new.items ≡ keys.old.items ++ map (key_at line.entry.tick line.entry.term) bytes)) }
@@ -144,7 +144,7 @@ fn push_bytes(keys: &mut Vec<ScriptKey>, line: KeyLine) -> Result<(), AllocError
     Ok(())
 }
 
-// Reads a line that is not skipped up to its bytes, if it is not refused there.
+// Reads a line that is not skipped, up to its bytes, if it is not refused there.
 fn read_line<'a>(terminals: u8, line: &'a [u8]) -> Option<KeyLine<'a>>
     requires { is_skipped_lem line.now ≡ false }
     ensures keys { read_keys result ≡ line_keys terminals line.now }
@@ -164,8 +164,7 @@ fn read_line<'a>(terminals: u8, line: &'a [u8]) -> Option<KeyLine<'a>>
     })
 }
 
-// How many bytes the words spell, if each spells one, and there are one or more and at most so
-// many.
+// The number of bytes that the words spell, if each spells one, and there are from one to `most`.
 fn count_bytes(words: Words, most: u32) -> Option<u32>
     ensures count { result ≡ count_up_to most (bytes_of (line_words words.entry.line.now)) }
     ensures most { IfSome result (λ count. count ≤ most) }
@@ -181,7 +180,7 @@ fn count_bytes(words: Words, most: u32) -> Option<u32>
     if count == 0 { None } else { Some(count) }
 }
 
-// Is the line skipped: is it empty, or does it begin with `#`?
+// Is the line skipped? It is empty, or begins with `#`.
 fn is_skipped(line: &[u8]) -> bool
     ensures { result ≡ is_skipped_lem line.now }
 {
@@ -199,7 +198,7 @@ fn read_tick(digits: &[u8]) -> Option<u32>
     read_number(digits, 0, LAST_TICK)
 }
 
-// The number of the terminal of this name, if it is one of so many.
+// The number of the terminal of this name, if it is below the number of terminals.
 fn read_terminal(name: &[u8], terminals: u8) -> Option<u8>
     ensures terminal { result ≡ terminal_of terminals name.now }
     ensures within { IfSome result (λ number. number < terminals) }

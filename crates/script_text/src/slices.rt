@@ -10,13 +10,13 @@ use crate::words::Words;
 use number_text::read_number;
 use std::alloc::{AllocError, Global};
 
-/// The greatest number of the slice text.
+/// The greatest number in the slice text.
 const MOST: u32 = 1_000_000;
 
-/// The most slices of a text.
+/// The greatest number of slices of a text.
 const MOST_SLICES: u32 = 1_000_000;
 
-/// The most instructions of a text.
+/// The greatest number of instructions of a text.
 const MOST_INSTRUCTIONS: u32 = 10_000_000;
 
 /// What lines of a text give so far.
@@ -26,24 +26,24 @@ struct Total {
     instructions: u32,
 }
 
-/// What a word gives: so many slices of so many instructions each.
+/// What a word gives: a number of slices, each of the same number of instructions.
 #[derive(Clone, Copy)]
 struct Repeat {
     instructions: u32,
     times: u32,
 }
 
-/// Reads the list of slices: how many instructions each slice has.
+/// Reads the list of slices: the number of instructions of each slice.
 ///
-/// A text is words with one or more spaces between them, in lines that end with a line feed, which
-/// the last may lack; empty lines are skipped. A word `n` is a slice of n instructions, and `n*k`
-/// is k such slices, with n and k from 1 to 1,000,000 in decimal digits. A text has at most
-/// 1,000,000 slices and 10,000,000 instructions (this project's own).
+/// A text has words, separated by one or more spaces, in lines. Each line ends with a line feed;
+/// the last line may lack it. Empty lines are skipped. A word `n` is a slice of n instructions,
+/// and `n*k` is k such slices, with n and k from 1 to 1,000,000 in decimal digits. A text has at
+/// most 1,000,000 slices and 10,000,000 instructions (this project's own).
 ///
 /// # Errors
 ///
-/// `Line` with the first line that breaks a rule, exactly if one does. A line that is refused
-/// takes no memory.
+/// `Line` with the first line that breaks a rule, if and only if one does. A refused line takes
+/// no memory.
 pub fn read_slices(alloc: Global, text: &[u8]) -> Result<Vec<u32>, LineFault>
     ensures slices { IfOk result (λ slices. slices_of text.now ≡ Ok slices.items) }
     ensures limits { IfOk result (λ slices. AreSlices slices.items) }
@@ -104,7 +104,7 @@ fn add_word(total: Total, word: &[u8]) -> Option<Total>
     })
 }
 
-// Puts the slices of a line behind these, those of words that are refused left out.
+// Adds the slices of a line at the end of these, without those of refused words.
 fn push_line(slices: &mut Vec<u32>, line: &[u8]) -> Result<(), AllocError>
     ensures { IfOk result (λ _. slices.new.items ≡ slices.old.items
         ++ flat_map (λ word. unwrap_or (word_slices word) []) (line_words line.now)) }
@@ -117,7 +117,7 @@ fn push_line(slices: &mut Vec<u32>, line: &[u8]) -> Result<(), AllocError>
     Ok(())
 }
 
-// Puts the slices of a word behind these.
+// Adds the slices of a word at the end of these.
 fn push_repeat(slices: &mut Vec<u32>, repeat: Repeat) -> Result<(), AllocError>
     ensures { IfOk result (λ _. slices.new.items ≡ slices.old.items
         ++ replicate repeat.times repeat.instructions) }
@@ -148,7 +148,7 @@ fn read_word(word: &[u8]) -> Option<Repeat>
     })
 }
 
-// The place of the first asterisk, or the end where there is none.
+// The place of the first asterisk, or the end if there is none.
 fn first_asterisk(word: &[u8]) -> usize
     ensures place { result ≡ position_or_len is_asterisk word.now }
     ensures within { result ≤ length word.now }

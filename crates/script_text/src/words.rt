@@ -4,7 +4,7 @@ ghost use Rattle.script_text.specs.Lines.{line_words};
 
 use text_cuts::{first_space, without_spaces};
 
-/// The words of a line that are left: the parts between its spaces that are not empty.
+/// The remaining words of a line: the nonempty parts between its spaces.
 #[derive(Clone, Copy)]
 pub(crate) struct Words<'a> {
     line: &'a [u8],

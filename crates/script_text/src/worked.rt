@@ -22,14 +22,14 @@ pub fn slice_numbers_are_refused()
     ensures many_instructions { slices_of (codes "1000000*10" ++ 10 ∷ codes "1") ≡ Err 2 }
 {}
 
-/// The line of a refused slice text is the first that breaks a rule, counted from 1 with empty ones.
+/// A refused slice text names its first line that breaks a rule, counted from 1 with empty lines.
 pub fn slice_texts_are_refused_by_line()
     ensures skipped_lines_count { slices_of (10 ∷ 10 ∷ codes "x") ≡ Err 3 }
     ensures first_line { slices_of (codes "x" ++ 10 ∷ codes "y") ≡ Err 1 }
     ensures spaces_alone { slices_of (codes "7" ++ 10 ∷ codes "  ") ≡ Err 2 }
 {}
 
-/// Slice texts with a character where none stands.
+/// Slice texts with a character in a wrong place.
 pub fn slice_texts_are_refused()
     ensures space_before { slices_of (codes " 7") ≡ Err 1 }
     ensures space_behind { slices_of (codes "7 ") ≡ Err 1 }
@@ -64,7 +64,7 @@ pub fn script_ticks_are_refused()
     ensures absent_terminal { keys_of 2 (codes "1 T1 61" ++ 10 ∷ codes "1 T2 61") ≡ Err 2 }
 {}
 
-/// Scripts with a line that has no byte, or a word that is none.
+/// Scripts with a line without a byte, or a word that is not a byte.
 pub fn script_bytes_are_refused()
     ensures no_byte { keys_of 4 (codes "1 TERM") ≡ Err 1 }
     ensures tick_alone { keys_of 4 (codes "1") ≡ Err 1 }
@@ -74,7 +74,7 @@ pub fn script_bytes_are_refused()
     ensures bad_byte_last { keys_of 4 (codes "1 TERM 61 6x") ≡ Err 1 }
 {}
 
-/// Scripts with a character where none stands.
+/// Scripts with a character in a wrong place.
 pub fn scripts_are_refused()
     ensures space_before { keys_of 4 (codes " 1 TERM 61") ≡ Err 1 }
     ensures space_behind { keys_of 4 (codes "1 TERM 61 ") ≡ Err 1 }

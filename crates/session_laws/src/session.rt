@@ -1,4 +1,4 @@
-//! Keys that are loaded change nothing before they are due, so a session goes on turn by turn, and is the
+//! Loaded keys change nothing before they are due, so a session goes on turn by turn, and is the
 //! run of its script.
 
 ghost use Rattle.std.specs.Prelude.{◌≡◌, ℕ, ◌+◌, ◌∷◌, ◌++◌, true, List, []};
@@ -13,9 +13,9 @@ ghost use Rattle.run_laws.specs.Reached.{NeverChooses};
 ghost use Rattle.run_laws.specs.Session.{AreLater, Keys, Session, Turn, counts, script, with_keys};
 ghost use Rattle.session_laws.specs.SoFar.{ComesTo, each_with};
 
-/// Keys that are loaded behind those that the terminals have change no event, and those that are not due
-/// in the tick that comes no slice and no beginning of one: it goes through the same states to the same
-/// one, and each has those keys behind its own.
+/// Keys that are loaded after those that the terminals have change no event. Keys that are not due
+/// in the next tick change no slice and no beginning of one: it goes through the same states to the
+/// same one, and each has those keys after its own.
 pub fn keys_that_come_later_change_no_slice()
     ensures event { (tick : ℕ) (s t : State) (end : EventEnd) (keys : Keys) → AreLater tick keys
         → Event s end t → Event (with_keys s keys) end (with_keys t keys) }
@@ -27,9 +27,9 @@ pub fn keys_that_come_later_change_no_slice()
         → BeginsSlice n (with_keys s keys) (each_with keys states) (with_keys t keys) }
 {}
 
-/// A session goes on turn by turn. It has come to its start; if it has come to a state in which a
-/// process lives, and keys are loaded that are due in later ticks than those that are over, it has come to
-/// the state after the next slice, whose bytes are taken; and where it stops, it was a session.
+/// A session goes on turn by turn. It has reached its start. If it has reached a state in which a
+/// process lives, and keys are loaded that are due in later ticks than those that are over, it has
+/// reached the state after the next slice, whose bytes are taken. When it stops, it was a session.
 pub fn a_session_goes_on_turn_by_turn()
     ensures start { (s : State) → ComesTo [] s [] [] s }
     ensures turn { (turns : List Turn) (turn : Turn) (s m t : State) (states first : List State)
@@ -42,8 +42,9 @@ pub fn a_session_goes_on_turn_by_turn()
         → ComesTo turns s states written m → Session turns s states written m }
 {}
 
-/// Two sessions with one script and one list of slices, from one state, write the same, if no device
-/// fails in them and no call takes clusters of a volume: at which prompt a key was typed is not seen.
+/// Two sessions with one script and one list of slices, from one state, write the same, if no
+/// device fails in them and no call takes clusters of a volume: the prompt at which a key was typed
+/// is not observable.
 pub fn sessions_of_one_script_write_the_same()
     ensures sessions { (turns others : List Turn) (s t u : State) (states through : List State)
         (written bytes : List ℕ) → script turns ≡ script others → counts turns ≡ counts others

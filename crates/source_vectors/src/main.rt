@@ -1,5 +1,5 @@
-//! Assembles sources whose modules and faults are known from elsewhere, one a line, and prints how
-//! many there were and how many came out otherwise.
+//! Assembles sources whose modules and faults are known from elsewhere, one a line, and prints the
+//! number of sources and the number of those with another outcome.
 #![tactic(auto)]
 
 mod row;

@@ -26,12 +26,12 @@ use Rattle.io_rules.specs.declared.io_call.IoCall.TheVariants as Call
 use Rattle.io_state.specs.Sound.{IsThere, MayWait, target_at}
 use Rattle.proc_state.specs.declared.state.ProcState.{ProcState}
 
--- each path that is on a terminal is on one of so many
+-- each path on a terminal is on one of the first `count` terminals
 abbrev pub AreTerminals : PathTable → ℕ → Type 0
 AreTerminals paths count = (s n : ℕ) → target_at paths s ≡ Some (Term n) → n < count
 
--- a process may attempt this call, whose path is on this: it may wait in it, and it is the one that is kept, where one
--- is
+-- a process may attempt this call, whose path has this target: it may wait in it, and it is the kept call, if there
+-- is one
 pub record MayMove (io : Io) (p : ℕ) (target : Target) (call : Kept) : Type 0 where
   pub may : MayWait io.paths p call
   pub on : target_at io.paths call.path.0 ≡ Some target
@@ -43,14 +43,14 @@ pub record MayMove (io : Io) (p : ℕ) (target : Target) (call : Kept) : Type 0 
 abbrev pub open_as : SysPath → Desc → OpenPath
 open_as path desc = record { path = path; desc = desc }
 
--- the number of a process names this path, which was opened on what is there
+-- the number of a process names this path, whose target exists
 pub record Finds (io : Io) (p number : ℕ) (path : OpenPath) : Type 0 where
   pub opened : open_path io p number ≡ Some path
   pub there : IsThere io path.desc.target
 
 -- ---- reads
 
--- the call that reads so, and its code
+-- the call for this kind of read, and its code
 abbrev pub read_call : ReadKind → IoCall
 read_call Bytes = Call.Read
 read_call WholeLine = Call.ReadLn
@@ -59,12 +59,12 @@ abbrev pub read_code : ReadKind → ℕ
 read_code Bytes = I_READ
 read_code WholeLine = I_READLN
 
--- a read that waits is not refused: its buffer is there still, and its path, which may be read
+-- a pending read is not refused: its buffer is still there, and so is its path, which may be read
 pub record StaysRead (cells : Cells) (regs : Regs) (io : Io) (p : ℕ) : Type 0 where
   pub named : FitsIn cells regs.x regs.y
   pub may : IsSomeAnd (open_path io p regs.a) (λ opened. can_read opened.desc.mode ≡ true)
 
--- where a read of the process waits, it is not refused
+-- if a read of the process is pending, it is not refused
 abbrev pub StaysIfKept : Cells → Regs → Io → ℕ → Type 0
 StaysIfKept cells regs io p = IfSome (kept_at io p) (λ kept. StaysRead cells regs io p)
 
@@ -72,7 +72,7 @@ StaysIfKept cells regs io p = IfSome (kept_at io p) (λ kept. StaysRead cells re
 abbrev pub read_terminal : ReadKind → ℕ → Kept → Caller → Io → IoStep
 read_terminal kind n call caller io = reads (record { terminal = n; kind = kind; call = call })
 
--- an attempt on what a path was opened on
+-- an attempt on the target of a path
 unfoldable pub read_on : ReadKind → Kept → Target → Caller → Io → IoStep
 read_on kind call target caller io = reads_target kind caller io call target
 
@@ -86,7 +86,7 @@ read_open kind opened caller io =
 abbrev pub read_found : ReadKind → OpenPath → Caller → Io → IoStep
 read_found kind opened caller io = refuses (not (can_read opened.desc.mode)) E_BMODE (read_open kind opened caller io)
 
--- an attempt whose buffer is there
+-- an attempt whose buffer is in named slots
 unfoldable pub read_named : ReadKind → Caller → Io → IoStep
 read_named kind caller io = on_path caller io caller.regs.a can_read (λ opened. read_open kind opened caller io)
 
@@ -97,13 +97,13 @@ read_step kind caller io =
 
 -- ---- any call on paths
 
--- where a read of the process waits, it is not refused
+-- if a read of the process is pending, it is not refused
 abbrev pub StaysAllowed : IoCall → Cells → Regs → Io → ℕ → Type 0
 StaysAllowed Call.Read cells regs io p = StaysIfKept cells regs io p
 StaysAllowed Call.ReadLn cells regs io p = StaysIfKept cells regs io p
 StaysAllowed call cells regs io p = ⊤
 
--- a process may attempt this call, on a machine with so many terminals
+-- a process may attempt this call, on a machine with `terms` terminals
 pub record MayAttempt (call : IoCall) (processes : ProcState) (io : Io) (p terms : ℕ) : Type 0 where
   pub again : IsAgain call (record_at processes.table p).regs io p
   pub stays : StaysAllowed call (cells_of processes.memory p) (record_at processes.table p).regs io p

@@ -9,7 +9,7 @@ use Rattle.io_model.specs.declared.path.Target.TheVariants.{File, Folder, Term, 
 use Rattle.io_model.specs.declared.pipe.TheConstants.{PIPE_BYTES}
 use Rattle.io_rules.specs.Io.{Io, OpenPath, kept_at, open_path}
 
--- a path was opened on a pipe
+-- the target of a path is a pipe
 abbrev pub is_pipe : Target → Bool
 is_pipe (File drive sector) = false
 is_pipe (Folder drive sector) = false
@@ -19,28 +19,28 @@ is_pipe (Pipe pipe) = true
 abbrev pub is_on_pipe : Option OpenPath → Bool
 is_on_pipe path = option_map_or (λ (opened : OpenPath). is_pipe opened.desc.target) path false
 
--- how many bytes of a call earlier attempts moved
+-- the number of bytes of a call that earlier attempts moved
 abbrev pub moved_before : Option Kept → ℕ
 moved_before kept = option_map_or (λ (kept : Kept). kept.moved) kept 0
 
--- of the bytes of a call the ones that one attempt may put into a pipe, behind so many
+-- the bytes of a call that one attempt may put into a pipe, after the first `moved`
 abbrev pub window : ℕ → List ℕ → List ℕ
 window moved bytes = take PIPE_BYTES (drop moved bytes)
 
--- of the bytes of a call from an address on, so many, if all are there, a buffer has in their places the ones that one
--- attempt may put into a pipe, behind so many
+-- if the `count` bytes of a call from an address on are all there, a buffer has in their places the bytes that one
+-- attempt may put into a pipe, after the first `moved`
 abbrev pub HasWindow : Cells → ℕ → ℕ → ℕ → List ℕ → Type 0
 HasWindow cells at moved count buffer =
     IfSome (user_bytes cells at count) (λ bytes. window moved (take count buffer) ≡ window moved bytes)
 
--- these bytes were read in place of those of a write on the path of a number: they are as many; on a pipe the ones that
--- the attempt may move are the same, and elsewhere all are
+-- the bytes `read` were read for the `bytes` of a write on the path of a number: their counts are equal; on a pipe the
+-- bytes that the attempt may move are the same, elsewhere all bytes are
 pub record StandsFor (io : Io) (p number : ℕ) (bytes read : List ℕ) : Type 0 where
   pub count : length read ≡ length bytes
   pub all : is_on_pipe (open_path io p number) ≡ false → read ≡ bytes
   pub moving : window (moved_before (kept_at io p)) read ≡ window (moved_before (kept_at io p)) bytes
 
--- so many bytes at the front of a buffer were read of a write on the path of a number, if it has bytes
+-- `count` bytes at the front of a buffer were read for a write on the path of a number, if it has bytes
 abbrev pub IsRead : Io → ℕ → ℕ → Option (List ℕ) → Option ℕ → List ℕ → Type 0
 IsRead io p number None None buffer = ⊤
 IsRead io p number None (Some count) buffer = ⊥

@@ -30,7 +30,7 @@ use Rattle.io_rules.specs.Memory.{WantsMemory}
 use Rattle.stream_calls.specs.declared.sending.WriteKind.{WriteKind}
 use Rattle.stream_calls.specs.declared.sending.WriteKind.TheVariants.{Bytes, Line, ErrorLine}
 
--- the call that writes so, and its code
+-- the call for this kind of write, and its code
 abbrev pub write_call : WriteKind → IoCall
 write_call Bytes = Call.Write
 write_call Line = Call.WritLn
@@ -53,19 +53,19 @@ put_of Bytes bytes = bytes
 put_of Line bytes = line_put bytes
 put_of ErrorLine bytes = line_put bytes
 
--- how many of them a terminal takes: no byte behind the first carriage return of a line
+-- the number of them that a terminal takes: no byte after the first carriage return of a line
 abbrev pub put_count : WriteKind → List ℕ → ℕ
 put_count Bytes bytes = length bytes
 put_count Line bytes = line_length bytes
 put_count ErrorLine bytes = line_length bytes
 
--- the registers where it is done with so many of them
+-- the registers if it is done with `count` of them
 abbrev pub regs_done : WriteKind → Regs → ℕ → Regs
 regs_done Bytes regs count = record regs { y = count }
 regs_done Line regs count = record regs { y = count }
 regs_done ErrorLine regs count = regs
 
--- the bytes are a line where a line is written: a terminal takes all of them
+-- if a line is written, the bytes are a line: a terminal takes all of them
 abbrev pub IsLineOf : WriteKind → List ℕ → Type 0
 IsLineOf kind bytes = put_count kind bytes ≡ length bytes
 
@@ -77,12 +77,12 @@ IsLineFirst kind io p bytes = kept_at io p ≡ None → IsLineOf kind bytes
 abbrev pub IsLineOn : Target → WriteKind → List ℕ → Type 0
 IsLineOn target kind bytes = (n : ℕ) → target ≡ Term n → IsLineOf kind bytes
 
--- a process may attempt such a write of so many bytes: where a call of it waits, it is this one
+-- a process may attempt this kind of write of `count` bytes: its pending call, if it has one, is this write
 pub record MaySend (kind : WriteKind) (regs : Regs) (io : Io) (p count : ℕ) : Type 0 where
   pub again : IsAgain (write_call kind) regs io p
   pub same : IfSome (kept_at io p) (λ kept. kept.count ≡ count)
 
--- a process may attempt a write of so many bytes in this call, whose path is on this: on a pipe it may wait in it
+-- a process may attempt a write of `count` bytes in this call, on this target: on a pipe it may wait in it
 pub record MayWrite (io : Io) (p : ℕ) (target : Target) (call : Kept) (count : ℕ) : Type 0 where
   pub on : target_at io.paths call.path.0 ≡ Some target
   pub may : (pipe : ℕ) → target ≡ Pipe pipe → MayWait io.paths p call
@@ -90,7 +90,7 @@ pub record MayWrite (io : Io) (p : ℕ) (target : Target) (call : Kept) (count :
 
 -- ---- steps
 
--- a caller with these registers, that sees these bytes
+-- a caller with these registers and these cells
 abbrev pub sender : Pid → Regs → Cells → Caller
 sender p regs cells = record { process = p; regs = regs; cells = cells }
 
@@ -98,7 +98,7 @@ sender p regs cells = record { process = p; regs = regs; cells = cells }
 abbrev pub put_on : WriteKind → ℕ → List ℕ → Regs → IoStep
 put_on kind n bytes told = writes (record { terminal = n; put = put_of kind bytes; count = length bytes; regs = told })
 
--- an attempt on what its path was opened on
+-- an attempt on the target of its path
 unfoldable pub write_on : WriteKind → Kept → Target → Caller → Io → List ℕ → IoStep
 write_on kind call target caller io bytes = writes_target (sent kind caller bytes) caller io call target
 
@@ -113,16 +113,16 @@ abbrev pub write_found : WriteKind → OpenPath → Caller → Io → List ℕ �
 write_found kind opened caller io bytes =
     refuses (not (can_write opened.desc.mode)) E_BMODE (write_open kind opened caller io bytes)
 
--- an attempt whose bytes are there
+-- an attempt whose bytes are in named slots
 unfoldable pub write_named : WriteKind → Caller → Io → List ℕ → IoStep
 write_named kind caller io bytes =
     on_path caller io (path_number (write_call kind) caller.regs) can_write
     (λ opened. write_open kind opened caller io bytes)
 
--- ---- what an attempt comes to before its process is told
+-- ---- the result of an attempt before its process gets it
 
--- an attempt does this, and stores nothing: how its process is told of it, where it has these registers if it is done,
--- and the state and the terminals then
+-- an attempt does this, and stores nothing: the result for its process, with these registers if it is done, and the
+-- state and the terminals after it
 pub record Tells (step : IoStep) (caller : Caller) (io : Io) (regs : Regs) (end : CallEnd) (new : Io)
     (before after : List TerminalState) : Type 0 where
   pub it : IoEnd
@@ -131,7 +131,7 @@ pub record Tells (step : IoStep) (caller : Caller) (io : Io) (regs : Regs) (end 
   pub told : IsTold it regs end
   pub state : new ≡ with_call between caller.process.0 (kept_in it)
 
--- an attempt ends so, or memory is wanting
+-- an attempt ends in this way, or is out of memory
 abbrev pub Sends : IoStep → Caller → Io → Regs → CallEnd → Io → List TerminalState → List TerminalState → Type 0
 Sends step caller io regs End.Done new before after = Tells step caller io regs End.Done new before after
 Sends step caller io regs (End.Error number) new before after =
@@ -140,14 +140,15 @@ Sends step caller io regs End.Wait new before after = Tells step caller io regs 
 Sends step caller io regs End.Ended new before after = Tells step caller io regs End.Ended new before after
 Sends step caller io regs End.NoMemory new before after = WantsMemory step caller io before after
 
--- such a write of these bytes, that does this, by a process with these registers, ends so whatever memory it sees
+-- this kind of write, with this step and these bytes, by a process with these registers, ends in this way with any
+-- cells
 abbrev pub SendsFrom : WriteKind → (Caller → Io → List ℕ → IoStep) → Pid → Regs → List ℕ → CallEnd → Streams → Streams
     → Type 0
 SendsFrom kind step p regs bytes end before after =
     (cells : Cells) → Sends (step (sender p regs cells) before.io bytes) (sender p regs cells) before.io
     (regs_done kind regs (length bytes)) end after.io before.terms after.terms
 
--- a terminal answers so to such a write of these bytes, and nothing is kept of the call
+-- a terminal gives this answer to this kind of write of these bytes, and nothing is kept of the call
 pub record IsPut (kind : WriteKind) (p : Pid) (n : ℕ) (bytes : List ℕ) (answer : Progress) (before after : Streams)
     : Type 0 where
   pub device : ChangesOneTerminal
@@ -155,7 +156,7 @@ pub record IsPut (kind : WriteKind) (p : Pid) (n : ℕ) (bytes : List ℕ) (answ
       before.terms after.terms
   pub io : after.io ≡ with_call (with_terminal before.io n (terminal_at after.io n)) p.0 None
 
--- a write of a terminal that answers so ends so; it never waits, and finds no end of the file
+-- how a write of a terminal ends after this answer; it never waits, and finds no end of the file
 abbrev pub PutEnds : Progress → CallEnd → Type 0
 PutEnds (Progress.Done count) end = end ≡ End.Done
 PutEnds Progress.Wait end = ⊥
@@ -163,7 +164,7 @@ PutEnds Progress.End end = ⊥
 PutEnds Progress.Fault end = end ≡ End.Error E_WRITE
 PutEnds Progress.NoMemory end = end ≡ End.NoMemory
 
--- a write of a terminal may answer so
+-- a write of a terminal may have this answer
 abbrev pub IsPutAnswer : Progress → Type 0
 IsPutAnswer (Progress.Done count) = ⊤
 IsPutAnswer Progress.Wait = ⊥

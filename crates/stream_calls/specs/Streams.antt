@@ -7,7 +7,7 @@ use Rattle.os9_outer.specs.declared.terminal.CharDriver.{Ghosts}
 use Rattle.io_rules.specs.Io.{Io}
 
 pub record Streams : Type 0 where
-  pub io : Io  -- the kernel's paths, pipes and terminals, and the calls that wait
+  pub io : Io  -- the kernel's paths, pipes and terminals, and the pending calls
   pub terms : List TerminalState  -- TERM, T1, T2, T3
 
 -- with the terminals in these boxes, as `streams ⟦<dyn CharDriver as CharDriver>⟧ io.old devices.old.terms.items`

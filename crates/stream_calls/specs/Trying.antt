@@ -1,4 +1,4 @@
--- What an attempt of a read or a write leaves, and what it leaves where memory is wanting.
+-- What an attempt of a read or a write leaves, also if it is out of memory.
 use Rattle.std.specs.Prelude.{◌≡◌, ◌≢◌, ℕ, Option, Some, None, List}
 use Rattle.os9_base.specs.declared.call.CallEnd.{CallEnd}
 use Rattle.os9_base.specs.declared.call.CallEnd.TheVariants.{Done, Error, Wait, Ended, NoMemory}
@@ -16,7 +16,7 @@ use Rattle.proc_state.specs.Tie.{Comes, Represents}
 use Rattle.proc_state.specs.declared.state.ProcState.{ProcState}
 use Rattle.stream_calls.specs.Streams.{Streams}
 
--- an attempt of a process does this: how it ends, and the processes, the state and the terminals then
+-- an attempt of a process does this: its end, and the processes, the state and the terminals after it
 pub record Takes (step : IoStep) (m : Inner) (io : Io) (p : ℕ) (end : CallEnd) (processes : ProcState) (new : Io)
     (before after : List TerminalState) : Type 0 where
   pub effect : IoEffect
@@ -24,7 +24,7 @@ pub record Takes (step : IoStep) (m : Inner) (io : Io) (p : ℕ) (end : CallEnd)
   pub comes : Comes m p (result_of m p effect) end processes
   pub state : new ≡ io_after p effect
 
--- an attempt of a process ends so, with these processes, this state and these terminals then
+-- an attempt of a process ends in this way, with these processes, this state and these terminals after it
 abbrev pub Tries : IoStep → Inner → Io → ℕ → CallEnd → ProcState → Io → List TerminalState → List TerminalState → Type 0
 Tries step m io p Done processes new before after = Takes step m io p Done processes new before after
 Tries step m io p (Error number) processes new before after =
@@ -33,8 +33,7 @@ Tries step m io p Wait processes new before after = Takes step m io p Wait proce
 Tries step m io p Ended processes new before after = Takes step m io p Ended processes new before after
 Tries step m io p NoMemory processes new before after = WantsMemory step (caller_of m p) io before after
 
--- a call that ends in this way and stores these bytes at an address comes to this; where it has no end memory is
--- wanting
+-- the result of a call that ends in this way and stores these bytes at an address; without an end it is out of memory
 abbrev pub EndsBy : Option IoEnd → ℕ → List ℕ → Inner → ℕ → CallEnd → ProcState → Type 0
 EndsBy None at bytes m p end processes = end ≡ NoMemory
 EndsBy (Some it) at bytes m p end processes =
@@ -42,19 +41,19 @@ EndsBy (Some it) at bytes m p end processes =
 
 -- ---- from any state that the kernel's processes represent
 
--- an attempt that does this, of a process with these registers, ends so
+-- an attempt that does this, of a process with these registers, ends in this way
 abbrev pub TriesFrom : (Caller → Io → IoStep) → Regs → ℕ → CallEnd → ProcState → ProcState → Streams → Streams → Type 0
 TriesFrom step regs p end old new before after =
     (m : Inner) → Represents old m → regs ≡ regs_at m p
     → Tries (step (caller_of m p) before.io) m before.io p end new after.io before.terms after.terms
 
--- an attempt of a call, on a machine with so many drives, comes to this, unless memory is wanting
+-- an attempt of a call, on a machine with `drives` drives, has this result, unless it is out of memory
 abbrev pub AttemptsFrom : IoCall → ℕ → ℕ → CallEnd → ProcState → ProcState → Streams → Streams → Type 0
 AttemptsFrom call drives p end old new before after =
     (m : Inner) → Represents old m → end ≢ NoMemory
     → Attempts call m before.io drives p end new after.io before.terms after.terms
 
--- memory is wanting for such an attempt: its terminal is as the call left it, and no other one has changed
+-- if this attempt is out of memory, its terminal is as the call left it, and no other terminal has changed
 abbrev pub WantsMemoryFrom : IoCall → ℕ → ℕ → CallEnd → ProcState → Streams → Streams → Type 0
 WantsMemoryFrom call drives p end old before after =
     (m : Inner) → Represents old m → end ≡ NoMemory

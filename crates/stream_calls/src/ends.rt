@@ -17,8 +17,8 @@ use os9_base::call::CallEnd;
 use os9_base::registers::{Pid, Regs};
 use proc_state::state::ProcState;
 
-/// The call as an attempt finds it: what is kept of it, or at the first attempt the call of this code
-/// on this path for so many bytes.
+/// The call as an attempt finds it: the kept call, or at the first attempt the call of this code on
+/// this path for `count` bytes.
 pub(crate) fn call_now(io: &IoState, p: Pid, code: u8, path: SysPath, count: u16) -> Kept
     requires { p.0 < 33 }
     ensures call { result ≡ unwrap_or (kept_at io.now p.0)
@@ -34,7 +34,7 @@ pub(crate) fn call_now(io: &IoState, p: Pid, code: u8, path: SysPath, count: u16
     })
 }
 
-/// The call is refused with this number. Nothing is kept of it.
+/// Refuses the call with this number. Nothing is kept of it.
 pub(crate) fn refuse(io: &mut IoState, p: Pid, number: u8) -> CallEnd
     requires process { p.0 < 33 }
     requires no_read { ReadsNoTerminal io.old p.0 }
@@ -70,8 +70,8 @@ pub(crate) fn finish(io: &mut IoState, p: Pid) -> CallEnd
     CallEnd::Done
 }
 
-/// The process of an attempt that stored nothing is told how it ended: it has these registers where
-/// the call is done.
+/// Tells the process of an attempt that stored nothing how it ended: it has these registers if the
+/// call is done.
 pub(crate) fn tell(s: &mut ProcState, p: Pid, end: CallEnd, regs: Regs)
     requires lives { IsLiving s.old.table p.0 }
     ensures told { (m : Inner) (it : IoEnd) (io : Io) → Represents s.old m → IsTold it regs end

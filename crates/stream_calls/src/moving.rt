@@ -1,4 +1,4 @@
-//! The bytes that an attempt of a write reads: on a pipe those alone that it may move.
+//! The bytes that an attempt of a write reads: on a pipe only the bytes that it may move.
 
 ghost use Rattle.std.specs.Prelude.{◌≡◌, ◌<◌, ◌≤◌, IfSome, length, option_map, take};
 ghost use Rattle.os9_base.specs.Cells.{FitsIn};
@@ -16,9 +16,9 @@ use io_state::state::IoState;
 use os9_base::registers::Pid;
 use proc_state::state::ProcState;
 
-/// Reads the bytes of a process from an address on that it writes on the path of a number, each to
-/// its place in the buffer, and answers how many they are; None where one of them is in no named slot
-/// or past `FFFF`. Of those of a write into a pipe it reads only what the attempt may move.
+/// Reads the bytes that a process writes on the path of a number, from an address on, each to its
+/// place in the buffer, and returns their count. None if one of them is in no named slot or past
+/// `FFFF`. For a write into a pipe it reads only the bytes that the attempt may move.
 pub(crate) fn read_moving(
     s: &mut ProcState,
     io: &IoState,
@@ -54,7 +54,7 @@ fn is_on_pipe(io: &IoState, p: Pid, number: u8) -> bool
     }
 }
 
-/// How many bytes earlier attempts of the call of a process moved.
+/// The number of bytes that earlier attempts of the call of a process moved.
 fn moved_before(io: &IoState, p: Pid) -> u16
     requires { p.0 < 33 }
     ensures { result ≡ moved_before_lem (kept_at io.now p.0) }
@@ -65,7 +65,7 @@ fn moved_before(io: &IoState, p: Pid) -> u16
     }
 }
 
-/// Reads all of so many bytes into the front of the buffer.
+/// Reads all `count` bytes into the front of the buffer.
 fn read_all(s: &mut ProcState, p: Pid, at: u16, count: u16) -> Option<u16>
     requires { p.0 < 33 }
     ensures read { (m : Inner) → Represents s.old m → user_bytes (cells_at m p.0) at count
@@ -80,7 +80,7 @@ fn read_all(s: &mut ProcState, p: Pid, at: u16, count: u16) -> Option<u16>
     }
 }
 
-/// Reads of so many bytes those that one attempt may put into a pipe, behind the ones that earlier
+/// Of `count` bytes reads those that one attempt may put into a pipe, after the bytes that earlier
 /// attempts moved, each to its place in the buffer.
 fn read_window(s: &mut ProcState, p: Pid, at: u16, moved: u16, count: u16)
     requires process { p.0 < 33 }
@@ -93,7 +93,7 @@ fn read_window(s: &mut ProcState, p: Pid, at: u16, moved: u16, count: u16)
     load_window(&mut s.memory, p, at, moved, count, &mut s.buffer);
 }
 
-/// The same into a buffer.
+/// As `read_window`, but into a given buffer.
 fn load_window(memory: &mut Memory, p: Pid, at: u16, moved: u16, count: u16, into: &mut [u8])
     requires process { p.0 < 33 }
     requires fits { FitsIn (cells_of memory.old p.0) at count }

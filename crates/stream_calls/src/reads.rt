@@ -33,16 +33,16 @@ use os9_outer::terminal::CharDriver;
 use pipe_calls::reads::{read_pipe, read_pipe_line};
 use proc_state::state::ProcState;
 
-/// I$Read: reads bytes (System Programmer's Manual, I$Read). Takes the path in A, the address of the
-/// buffer in X and its most bytes in Y; answers the count in Y. A read of a pipe waits until a
-/// byte is there, one of a terminal until a carriage return or the smaller of Y and 256 bytes were
-/// moved. Registers and bytes stay where it is refused or waits.
+/// I$Read: reads bytes (System Programmer's Manual, I$Read). Takes the path in A, the address of
+/// the buffer in X and the maximum count of bytes in Y; returns the count in Y. A read of a pipe
+/// waits until the pipe has a byte, a read of a terminal until a carriage return or the smaller of
+/// Y and 256 bytes were moved. If it is refused or waits, registers and bytes do not change.
 ///
 /// # Errors
 ///
-/// E$BPAddr exactly if a byte of the buffer is in no named slot or past `FFFF`, else E$BPNum exactly
-/// if the number names no path, else E$BMode exactly if the path may not be read; then E$EOF at the
-/// end of the file, and E$Write where a terminal failed.
+/// E$BPAddr exactly if a byte of the buffer is in no named slot or past `FFFF`, else E$BPNum
+/// exactly if the number names no path, else E$BMode exactly if the path may not be read; then
+/// E$EOF at the end of the file, and E$Write if a terminal failed.
 pub fn i_read(s: &mut ProcState, io: &mut IoState, devices: &mut Devices, p: Pid) -> CallEnd
     requires lives { IsLiving s.old.table p.0 }
     requires may { MayAttempt Call.Read s.old io.old p.0 (vec_len devices.old.terms) }
@@ -60,15 +60,16 @@ pub fn i_read(s: &mut ProcState, io: &mut IoState, devices: &mut Devices, p: Pid
     read(s, io, devices, p, regs, ReadKind::Bytes)
 }
 
-/// I$ReadLn: reads a line (System Programmer's Manual, I$ReadLn). Takes the path in A, the address of
-/// the buffer in X and its most bytes in Y; answers the count in Y, a carriage return counted. It
-/// waits on a terminal until a carriage return, on a pipe until that or Y bytes were moved.
+/// I$ReadLn: reads a line (System Programmer's Manual, I$ReadLn). Takes the path in A, the address
+/// of the buffer in X and the maximum count of bytes in Y; returns the count in Y, with a carriage
+/// return counted. It waits on a terminal until a carriage return, on a pipe until a carriage
+/// return or Y bytes were moved.
 ///
 /// # Errors
 ///
-/// E$BPAddr exactly if a byte of the buffer is in no named slot or past `FFFF`, else E$BPNum exactly
-/// if the number names no path, else E$BMode exactly if the path may not be read; then E$EOF at the
-/// end of the file, and E$Write where a terminal failed.
+/// E$BPAddr exactly if a byte of the buffer is in no named slot or past `FFFF`, else E$BPNum
+/// exactly if the number names no path, else E$BMode exactly if the path may not be read; then
+/// E$EOF at the end of the file, and E$Write if a terminal failed.
 pub fn i_readln(s: &mut ProcState, io: &mut IoState, devices: &mut Devices, p: Pid) -> CallEnd
     requires lives { IsLiving s.old.table p.0 }
     requires may { MayAttempt Call.ReadLn s.old io.old p.0 (vec_len devices.old.terms) }
@@ -112,7 +113,7 @@ fn read(
     read_named(s, io, devices, p, regs, kind)
 }
 
-/// An attempt of a read whose buffer is there.
+/// An attempt of a read whose buffer is in named slots.
 fn read_named(
     s: &mut ProcState,
     io: &mut IoState,
@@ -200,7 +201,7 @@ fn read_open(
     read_on(s, io, devices, p, regs, kind, call, desc.target)
 }
 
-/// The code of the call that reads so.
+/// The code of the call for this kind of read.
 fn read_code(kind: ReadKind) -> u8
     ensures { result ≡ read_code_lem kind }
 {
@@ -210,7 +211,7 @@ fn read_code(kind: ReadKind) -> u8
     }
 }
 
-/// An attempt of a read on what its path was opened on.
+/// An attempt of a read on the target of its path.
 fn read_on(
     s: &mut ProcState,
     io: &mut IoState,

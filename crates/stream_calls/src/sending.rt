@@ -36,14 +36,14 @@ pub(crate) enum WriteKind {
     ErrorLine,
 }
 
-/// An attempt of such a write of these bytes on the path that its number names. Its process is not
-/// told yet.
+/// An attempt of this kind of write, with these bytes, on the path that its number names. The
+/// process does not get its result yet.
 ///
 /// # Errors
 ///
 /// E$BPNum exactly if the number names no path, else E$BMode exactly if the path may not be
-/// written; then E$Write where a terminal failed, or a pipe is full whose path no other process holds
-/// that is outside the same wait.
+/// written; then E$Write if a terminal failed, or if the pipe is full and no other process outside
+/// the same wait holds its path.
 pub(crate) fn send(
     io: &mut IoState,
     devices: &mut Devices,
@@ -69,7 +69,7 @@ pub(crate) fn send(
     }
 }
 
-/// The number of the path on which such a write is made.
+/// The path number that this kind of write uses.
 fn path_number(kind: WriteKind, regs: Regs) -> u8
     ensures { result ≡ path_number_lem (write_call kind) regs }
 {
@@ -79,7 +79,7 @@ fn path_number(kind: WriteKind, regs: Regs) -> u8
     }
 }
 
-/// The code of the call that writes so.
+/// The code of the call for this kind of write.
 fn write_code(kind: WriteKind) -> u8
     ensures { result ≡ write_code_lem kind }
 {
@@ -150,7 +150,7 @@ fn send_open(
     send_on(io, devices, p, regs, kind, call, desc.target, bytes)
 }
 
-/// An attempt of a write on what its path was opened on.
+/// An attempt of a write on the target of its path.
 fn send_on(
     io: &mut IoState,
     devices: &mut Devices,
@@ -186,7 +186,7 @@ fn send_on(
 ///
 /// # Errors
 ///
-/// E$Write where the terminal failed.
+/// E$Write if the terminal failed.
 fn put(
     io: &mut IoState,
     devices: &mut Devices,
@@ -211,7 +211,7 @@ fn put(
     put_end(answer)
 }
 
-/// The same, and what the terminal answers.
+/// As `put`, but returns the terminal's answer.
 fn put_as(
     io: &mut IoState,
     devices: &mut Devices,
@@ -238,7 +238,7 @@ fn put_as(
     }
 }
 
-/// A write of a terminal ends by what the terminal answered.
+/// How a write of a terminal ends, by the terminal's answer.
 fn put_end(answer: Progress) -> CallEnd
     requires { IsPutAnswer answer }
     ensures { PutEnds answer result }

@@ -25,12 +25,12 @@ use os9_outer::terminal::CharDriver;
 use proc_state::state::ProcState;
 
 /// An attempt of a read of this kind on a terminal, by a process with these registers, whose buffer
-/// at X has to be there. It is done with a line or with the last byte that it asks for, at most 256,
-/// which are stored at X and counted in Y; it waits before that.
+/// at X must be in named slots. It is done with a line or with the last byte that it asks for, at
+/// most 256. The bytes are stored at X and counted in Y. It waits before that.
 ///
 /// # Errors
 ///
-/// E$EOF at the end of the file, and E$Write where the terminal failed to put an echo.
+/// E$EOF at the end of the file, and E$Write if the terminal failed to put an echo.
 pub(crate) fn read_terminal(
     s: &mut ProcState,
     io: &mut IoState,
@@ -57,8 +57,8 @@ pub(crate) fn read_terminal(
     end_read(s, p, regs, answer, &bytes)
 }
 
-/// A read of a terminal ends by what the terminal answered; the bytes that it moved stand at the
-/// front of these.
+/// Ends a read of a terminal by the terminal's answer. The bytes that it moved are at the front of
+/// the buffer.
 fn end_read(
     s: &mut ProcState,
     p: Pid,

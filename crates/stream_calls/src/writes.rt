@@ -25,15 +25,15 @@ use os9_outer::terminal::CharDriver;
 use proc_state::state::ProcState;
 
 /// I$Write: writes bytes (System Programmer's Manual, I$Write). Takes the path in A, the address of
-/// the bytes in X and their count in Y; answers the count in Y. A write of a terminal never waits;
-/// one of a pipe waits while the pipe is full.
+/// the bytes in X and their count in Y; returns the count in Y. A write of a terminal never waits;
+/// a write of a pipe waits while the pipe is full.
 ///
 /// # Errors
 ///
-/// E$BPAddr exactly if one of the bytes is in no named slot or past `FFFF`, else E$BPNum exactly
-/// if the number names no path, else E$BMode exactly if the path may not be written; then E$Write
-/// where a terminal failed, or a pipe is full whose path no other process holds that is outside the
-/// same wait. What is out stays out, and the registers stay.
+/// E$BPAddr exactly if one of the bytes is in no named slot or past `FFFF`, else E$BPNum exactly if
+/// the number names no path, else E$BMode exactly if the path may not be written; then E$Write if a
+/// terminal failed, or if the pipe is full and no other process outside the same wait holds its
+/// path. Bytes that are out stay out, and the registers do not change.
 pub fn i_write(s: &mut ProcState, io: &mut IoState, devices: &mut Devices, p: Pid) -> CallEnd
     requires lives { IsLiving s.old.table p.0 }
     requires may { MayAttempt Call.Write s.old io.old p.0 (vec_len devices.old.terms) }
@@ -60,16 +60,16 @@ pub fn i_write(s: &mut ProcState, io: &mut IoState, devices: &mut Devices, p: Pi
 }
 
 /// I$WritLn: writes a line (System Programmer's Manual, I$WritLn). Takes the path in A, the address
-/// of the line in X and its most bytes in Y. The line goes up to and with its first carriage
-/// return, behind which a terminal puts a line feed; answers the count in Y. A write of a terminal
-/// never waits; one of a pipe waits while the pipe is full.
+/// of the line in X and its maximum count of bytes in Y; returns the count in Y. The line ends with
+/// its first carriage return, after which a terminal puts a line feed. A write of a terminal never
+/// waits; a write of a pipe waits while the pipe is full.
 ///
 /// # Errors
 ///
 /// E$BPAddr exactly if a byte of the line is in no named slot or past `FFFF`, else E$BPNum exactly
 /// if the number names no path, else E$BMode exactly if the path may not be written; then E$Write
-/// where a terminal failed, or a pipe is full whose path no other process holds that is outside the
-/// same wait. What is out stays out, and the registers stay.
+/// if a terminal failed, or if the pipe is full and no other process outside the same wait holds
+/// its path. Bytes that are out stay out, and the registers do not change.
 pub fn i_writln(s: &mut ProcState, io: &mut IoState, devices: &mut Devices, p: Pid) -> CallEnd
     requires lives { IsLiving s.old.table p.0 }
     requires may { MayAttempt Call.WritLn s.old io.old p.0 (vec_len devices.old.terms) }
@@ -96,13 +96,13 @@ pub fn i_writln(s: &mut ProcState, io: &mut IoState, devices: &mut Devices, p: P
 }
 
 /// F$PErr: writes the number of an error as a line to standard error (System Programmer's Manual,
-/// F$PErr). Takes the number in B. It waits as I$WritLn does. The registers stay.
+/// F$PErr). Takes the number in B. It waits as I$WritLn does. The registers do not change.
 ///
 /// # Errors
 ///
 /// E$BPNum exactly if standard error names no path, else E$BMode exactly if it may not be written;
-/// then E$Write where a terminal failed, or a pipe is full whose path no other process holds that is
-/// outside the same wait. What is out stays out.
+/// then E$Write if a terminal failed, or if the pipe is full and no other process outside the same
+/// wait holds its path. Bytes that are out stay out.
 pub fn f_perr(s: &mut ProcState, io: &mut IoState, devices: &mut Devices, p: Pid) -> CallEnd
     requires lives { IsLiving s.old.table p.0 }
     requires may { MayAttempt Call.PErr s.old io.old p.0 (vec_len devices.old.terms) }
@@ -123,9 +123,9 @@ pub fn f_perr(s: &mut ProcState, io: &mut IoState, devices: &mut Devices, p: Pid
     end
 }
 
-/// Reads the line that an I$WritLn moves into the front of the buffer, and answers its length: a
-/// further attempt moves as many bytes as the first one found, and reads on a pipe only what it may
-/// move. None where one of them is in no named slot or past `FFFF`.
+/// Reads the line that an I$WritLn moves into the front of the buffer, and returns its length. A
+/// later attempt moves the number of bytes that the first one found, and on a pipe reads only the
+/// bytes that it may move. None if one of them is in no named slot or past `FFFF`.
 fn read_line_now(s: &mut ProcState, io: &IoState, p: Pid, regs: Regs) -> Option<u16>
     requires { p.0 < 33 }
     ensures line { (m : Inner) → Represents s.old m → regs ≡ (caller_of m p.0).regs
@@ -147,7 +147,7 @@ fn read_line_now(s: &mut ProcState, io: &IoState, p: Pid, regs: Regs) -> Option<
     }
 }
 
-/// The line of the number of an error.
+/// The line that F$PErr writes for an error number.
 fn error_line(number: u8) -> [u8; 11]
     ensures { result ≡ error_line_lem number }
 {

@@ -1,4 +1,4 @@
-//! What a machine does with a boot file that is accepted, and with that of a load.
+//! The effect of an accepted boot file, and of the boot file of a load.
 
 ghost use Rattle.std.specs.Prelude.{ℕ, List};
 ghost use Rattle.call_rules.specs.Inner.{Inner};
@@ -8,7 +8,7 @@ ghost use Rattle.guest_mods.specs.declared.load.Load.{Load};
 ghost use Rattle.guest_mods.specs.Accepted.{IsAccepted};
 ghost use Rattle.guest_mods.specs.Stress.{IsLoad, stress_file};
 
-/// A boot file that is accepted starts the processes of a machine of so many blocks, and so it is
+/// An accepted boot file starts the processes of a machine of this number of blocks, and so it is
 /// not refused.
 pub fn accepted_files_start()
     ensures starts { (file : List ℕ) (blocks : ℕ)

@@ -7,16 +7,16 @@ use Rattle.rbf_model.specs.File.{DiskFile, is_directory}
 use Rattle.rbf_model.specs.Geometry.{Geometry, geometry}
 use Rattle.rbf_model.specs.Volume.{DiskVolume, file_numbers, free_clusters, lost_clusters}
 
--- the size of a file that is no directory
+-- the size of a file that is not a directory
 abbrev pub data_size : DiskFile → ℕ
 data_size file = if is_directory file then 0 else length file.contents
 
--- the sizes of all files that are no directories, together
+-- the sum of the sizes of all files that are not directories
 abbrev pub file_bytes : Geometry → DiskVolume → ℕ
 file_bytes g v = sum (map (λ n. option_map_or data_size (v.files n) 0) (file_numbers g v))
 
--- so many slices, and what a volume has: the files that are no directories, the sum of their sizes, and the free and
--- the lost clusters
+-- a number of slices, and what a volume has: the files that are not directories, the sum of their sizes, and the free
+-- and the lost clusters
 abbrev pub counts_with : ℕ → DiskVolume → StressCounts
 counts_with slices v = record {
   slices = slices;

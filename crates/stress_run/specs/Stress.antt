@@ -19,11 +19,11 @@ use Rattle.stress_run.specs.declared.stress.StressEnd.{StressEnd}
 use Rattle.stress_run.specs.declared.stress.StressEnd.TheVariants.{Ended, Living, DriveFailed, OutputFailed, NoMemory}
 use Rattle.stress_run.specs.Counts.{counts_with}
 
--- four Workers, each of which writes its file 40 times in so many records
+-- four Workers, each of which writes its file 40 times in a number of records
 abbrev pub stress_load : ℕ → Load
 stress_load seed = record { seed = seed; workers = 4; passes = 40; records = RECORDS }
 
--- the disk that is made of this load is booted over 20,000 slices, with 64 blocks and no keys, at the usual time
+-- the disk made of this load is booted over 20,000 slices, with 64 blocks and no keys, at the usual time
 abbrev pub stress_setup : ℕ → Setup
 stress_setup seed = record {
   file = stress_file (stress_load seed);
@@ -34,8 +34,8 @@ stress_setup seed = record {
   slices = slice_lengths seed 20000;
 }
 
--- the line of the counts of the machine's last state, of which this is the volume of D0: the slices that were begun,
--- each of which is a tick, and what the volume has
+-- the line of the counts of the machine's last state, with this volume in D0: the slices that were begun, each of which
+-- is a tick, and what the volume has
 abbrev pub stress_counts : State → DiskVolume → List ℕ
 stress_counts t v = stress_line (counts_with t.inner.tick v)
 
@@ -63,11 +63,11 @@ pub record StressUnprinted (seed : ℕ) (before after : World) : Type 0 where
   pub runs : StressRuns seed t written volume before after
   pub output : GainsPrefix (stream_with before.out written) (stress_counts t volume) after.out
 
--- it stopped in its run, or behind it
+-- it stopped in its run, or after it
 abbrev pub StressStops : ℕ → World → World → Type 0
 StressStops seed before after = StopsWithImages (stress_setup seed) before after ⊎ StressUnprinted seed before after
 
--- what comes of a stress, by how it ends
+-- the outcome of a stress, by its end
 abbrev pub StressComesTo : ℕ → World → World → StressEnd → Type 0
 StressComesTo seed before after Ended = StressEnds seed false before after
 StressComesTo seed before after Living = StressEnds seed true before after
@@ -75,12 +75,12 @@ StressComesTo seed before after (DriveFailed drive number) = ⊤
 StressComesTo seed before after OutputFailed = StressStops seed before after
 StressComesTo seed before after NoMemory = IsUnrun before after ⊎ StressStops seed before after
 
--- where the drive of its image failed, that is all
+-- if the drive of its image failed, nothing else has changed
 abbrev pub LeavesStress : World → World → StressEnd → Type 0
 LeavesStress before after (DriveFailed drive number) = FailsToMount 1 drive number before after
 LeavesStress before after end = ⊤
 
--- a stress was done, and ended so
+-- a stress was done, with this end
 pub record StressCall (seed : ℕ) (before after : World) (end : StressEnd) : Type 0 where
   pub comes : All IsObserved before.devices.terms → StressComesTo seed before after end
   pub devices : LeavesStress before after end

@@ -1,4 +1,4 @@
--- What is told behind the run of a stress.
+-- What is printed after the run of a stress.
 use Rattle.std.specs.Prelude.{◌≡◌, ℕ, Result, Ok, Err, List}
 use Rattle.boot_run.specs.declared.machine.RunEnd.{RunEnd}
 use Rattle.boot_run.specs.declared.machine.RunEnd.TheVariants as Run
@@ -12,8 +12,8 @@ use Rattle.stress_run.specs.Counts.{counts_with}
 use Rattle.stress_run.specs.declared.stress.StressEnd.{StressEnd}
 use Rattle.stress_run.specs.declared.stress.StressEnd.TheVariants.{Ended, Living, DriveFailed, OutputFailed, NoMemory}
 
--- some text was written to the output stream as far as the answer says; where the image represents a volume it is the
--- line of so many slices and of what that volume has
+-- some text was written to the output stream as far as the result says; if the image represents a volume it is the line
+-- of this number of slices and of what that volume has
 pub record WritesCounts {Host Value : Type 0} (members : Ghosts Host) (slices : ℕ) (image : List ℕ)
     (answer : Result Value HostFault) (before now : Host) : Type 0 where
   pub text : List ℕ
@@ -21,13 +21,13 @@ pub record WritesCounts {Host Value : Type 0} (members : Ghosts Host) (slices : 
   pub counts : (v : DiskVolume) → Vol image v
       → WritesOut members (stress_line (counts_with slices v)) answer before now
 
--- how a stress ends whose run ended so, by what comes of the counts
+-- the end of a stress, by the end of its run and the outcome of the counts
 abbrev pub end_told : {Value : Type 0} → StressEnd → Result Value HostFault → StressEnd
 end_told end (Ok _) = end
 end_told end (Err Failed) = OutputFailed
 end_told end (Err OutOfMemory) = NoMemory
 
--- the counts were written behind a run that ended so, and this is the end of the stress
+-- the counts were written after a run with this end, and this is the end of the stress
 pub record TellsCounts {Host : Type 0} (members : Ghosts Host) (whole : StressEnd) (slices : ℕ) (image : List ℕ)
     (end : StressEnd) (before now : Host) : Type 0 where
   pub answer : Result (Unit {0}) HostFault
@@ -39,7 +39,7 @@ pub record TellsNothing {Host : Type 0} (stopped end : StressEnd) (before now : 
   pub is : end ≡ stopped
   pub kept : now ≡ before
 
--- what is told behind a run, by how it ended
+-- what is printed after a run, by its end
 abbrev pub TellsEnd : {Host : Type 0} → Ghosts Host → RunEnd → List ℕ → StressEnd → Host → Host → Type 0
 TellsEnd members (Run.Ended begun) image end before now = TellsCounts members Ended begun image end before now
 TellsEnd members (Run.Living begun) image end before now = TellsCounts members Living begun image end before now

@@ -12,11 +12,11 @@ use os9_words::stress_counts::StressCounts;
 use rbf_check::{CheckError, Node, Tree, check};
 use std::alloc::Global;
 
-/// The counts of the volume that an image represents, behind so many slices.
+/// The counts of the volume that an image represents, after a number of slices.
 ///
 /// # Errors
 ///
-/// What `check` says of the image.
+/// The error of `check` on the image.
 pub(crate) fn count_volume(
     alloc: Global,
     slices: u32,
@@ -36,7 +36,7 @@ pub(crate) fn count_volume(
     })
 }
 
-/// The sizes of all files of a tree that are no directories, together.
+/// The sum of the sizes of all files of a tree that are not directories.
 fn file_bytes(tree: &Tree) -> u64
     requires { (image : List ℕ) × IsTreeOf image tree.now }
     ensures { (image : List ℕ) (is : IsTreeOf image tree.now)
@@ -49,7 +49,7 @@ fn file_bytes(tree: &Tree) -> u64
     bytes
 }
 
-/// The size of a file that is no directory.
+/// The size of a file that is not a directory.
 fn data_size(node: &Node) -> u64
     ensures { result ≡ node_size node.now }
 {

@@ -26,19 +26,19 @@ use os9_outer::terminal::CharDriver;
 use os9_words::stress_counts::put_stress_counts;
 use std::alloc::Global;
 
-/// How many Workers write files.
+/// The number of Workers, which write files.
 const WORKERS: u8 = 4;
 
-/// How often each writes its file.
+/// The number of times that each writes its file.
 const PASSES: u8 = 40;
 
-/// In how many records.
+/// The number of records of each file.
 pub const RECORDS: u8 = 200;
 
-/// How many slices there are.
+/// The number of slices.
 const SLICES: u32 = 20_000;
 
-/// How many blocks the machine has.
+/// The number of blocks of the machine.
 const BLOCKS: u16 = 64;
 
 /// The date and time at its start: the beginning of 1990.
@@ -58,7 +58,7 @@ pub enum StressEnd {
     Ended,
     /// The slices are used up, and a process lives.
     Living,
-    /// A drive failed when its image was mounted: its number, and that of its fault.
+    /// A drive failed when its image was mounted: its number, and the number of its fault.
     DriveFailed(u8, u8),
     /// The output stream could not be written.
     OutputFailed,
@@ -66,8 +66,8 @@ pub enum StressEnd {
     NoMemory,
 }
 
-/// `stress N`: makes the disk of a seed, boots it over the slices of that seed, and passes what it
-/// writes and the counts of its last state to the output stream (this project's own).
+/// `stress N`: makes the disk of a seed, boots it over the slices of that seed, and passes its
+/// output and the counts of its last state to the output stream (this project's own).
 pub fn run_stress<H: Host>(
     alloc: Global,
     seed: u32,
@@ -116,7 +116,7 @@ fn stress_disk(alloc: Global, seed: u32) -> Result<Images, OutOfMemory>
     Ok(images)
 }
 
-/// What the machine of a seed is started with, beside its disk.
+/// What the machine of a seed is started with, in addition to its disk.
 fn stress_start(alloc: Global, seed: u32, images: &Images) -> Result<Start, OutOfMemory>
     requires seed { seed < 2147483648 }
     requires disk { IsDiskOf seed images.now }
@@ -138,8 +138,8 @@ fn stress_start(alloc: Global, seed: u32, images: &Images) -> Result<Start, OutO
     })
 }
 
-/// How a stress ends whose run ended so and left this image of D0. The counts are passed to the
-/// output stream if the run came to its end.
+/// The end of a stress, by the end of its run, which left this image of D0. The counts are passed
+/// to the output stream if the run went to its end.
 fn tell_end<H: Host>(alloc: Global, end: RunEnd, image: &[u8], host: &mut H) -> StressEnd
     ensures told { TellsEnd H.Host end image.now result host.old host.new }
     ensures notes_kept { notes_of H.Host host.new ≡ notes_of H.Host host.old }
@@ -158,7 +158,7 @@ fn tell_end<H: Host>(alloc: Global, end: RunEnd, image: &[u8], host: &mut H) -> 
     }
 }
 
-/// How a stress ends whose run ended so, by what comes of its counts.
+/// The end of a stress, by the end of its run and the outcome of its counts.
 fn end_told(end: StressEnd, answer: Result<(), HostFault>) -> StressEnd
     ensures { result ≡ end_told_lem end answer }
 {
@@ -169,9 +169,9 @@ fn end_told(end: StressEnd, answer: Result<(), HostFault>) -> StressEnd
     }
 }
 
-/// Passes the line of so many slices and of the counts of an image to the output stream.
+/// Passes the line of a number of slices and of the counts of an image to the output stream.
 ///
-/// `Failed` comes only with a count. After a refusal a part of the line may be out.
+/// `Failed` is returned only with a count. After an error a part of the line may be out.
 fn tell_counts<H: Host>(
     alloc: Global,
     slices: u32,

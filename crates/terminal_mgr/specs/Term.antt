@@ -8,12 +8,12 @@ use Rattle.io_model.specs.Terminal.{Terminal}
 use Rattle.io_model.specs.declared.terminal.ReadKind.{ReadKind}
 use Rattle.io_model.specs.declared.terminal.Reading.{Reading}
 
--- the state of a terminal that is lent, as `dyn_state ⟦<dyn CharDriver as CharDriver>⟧ d.old`
+-- the state of a lent terminal, as `dyn_state ⟦<dyn CharDriver as CharDriver>⟧ d.old`
 abbrev pub dyn_state : {Table : Type 0} {Driver : Table → Type 0} → ((table : Table) → Ghosts (Driver table))
     → ((table : Table) × Driver table) → TerminalState
 dyn_state members d = terminal_state (members d.0) d.1
 
--- this process's read of this kind, of at most so many bytes
+-- this process's read of this kind, of at most `most` bytes
 abbrev pub read_of : Pid → ReadKind → ℕ → Reading
 read_of process kind most = record { process = process; kind = kind; most = most }
 
@@ -27,11 +27,11 @@ pub record HasRead (line : Editing) (reading : Reading) : Type 0 where
   pub most : reading.most ≤ 256
   pub room : length line.bytes < reading.most
 
--- a line is there only for a read
+-- a line exists only for a read
 abbrev pub HasLine : Editing → Option Reading → Type 0
 HasLine line reading = MatchOption reading (line.bytes ≡ []) (HasRead line)
 
--- what holds of a terminal at every moment: the type-ahead is within its limit, and so is the line
+-- the invariant of a terminal: the type-ahead is within its limit, and so is the line
 pub record IsTerminal (t : Terminal) : Type 0 where
   pub ahead : length t.ahead ≤ 256
   pub line : HasLine t.line t.reading

@@ -25,7 +25,7 @@ pub record TypingBreaksOff (request : Reading) (old new : Editing) (ahead left :
     (before now : Option (List ℕ)) : Type 0 where
   pub front : List ℕ  -- the keys before it
   pub key : ℕ
-  pub count : ℕ  -- how many bytes of its echo are out
+  pub count : ℕ  -- the number of bytes of its echo that are out
   pub keys : ahead ≡ front ++ key ∷ left
   pub unfinished : (typed request old front).end ≡ None
   pub part : count < length (last_effect request old front key).echo
@@ -33,12 +33,12 @@ pub record TypingBreaksOff (request : Reading) (old new : Editing) (ahead left :
       ((typed request old front).echo ++ take count (last_effect request old front key).echo)
   pub line : new ≡ (last_effect request old front key).line
 
--- the answer of a call one of whose bytes was refused
+-- the answer of a call that had a byte refused
 abbrev pub refusal_answer : PutFault → Progress
 refusal_answer Fault = progress.Fault
 refusal_answer OutOfMemory = NoMemory
 
--- a read that no other one keeps waiting came to this answer, and left the buffer so
+-- a read that waits for no other read gave this answer, and filled the buffer in this way
 pub record Comes (request : Reading) (answer : Progress) (old new : Terminal) (before now : TerminalState)
     (buffer filled : List ℕ) : Type 0 where
   pub outcome : MatchBool (is_refused answer) (BreaksOff request old new before now)

@@ -21,7 +21,7 @@ fn key_signal(key: u8) -> Option<u8>
     }
 }
 
-// Puts a bell. That the terminal fails to is ignored.
+// Puts a bell. A failure of the terminal is ignored.
 fn ring(d: &mut dyn CharDriver) -> Result<(), OutOfMemory>
     ensures rung { OnOk result (RingsInAll 1
         (dyn_state ⟦<dyn CharDriver as CharDriver>⟧ d.old)
@@ -37,7 +37,7 @@ fn ring(d: &mut dyn CharDriver) -> Result<(), OutOfMemory>
     }
 }
 
-// A key arrives: it is kept, or a bell is put where the type-ahead is full, or it sends a signal.
+// A key arrives: it is kept, or a bell is put if the type-ahead is full, or it sends a signal.
 fn accept(ahead: &mut TypeAhead, key: u8, d: &mut dyn CharDriver) -> Result<Option<u8>, OutOfMemory>
     requires { length ahead.old ≤ 256 }
     ensures signal { IfOk result (λ signal. signal ≡ signal_of key) }
@@ -62,8 +62,8 @@ fn accept(ahead: &mut TypeAhead, key: u8, d: &mut dyn CharDriver) -> Result<Opti
     }
 }
 
-// The keys that are due at a tick arrive, until none is, the driver fails to give one, or a bell
-// finds no memory.
+// The keys that are due at a tick arrive, until none is due, the driver fails to give one, or a
+// bell finds no memory.
 pub(crate) fn poll(ahead: &mut TypeAhead, tick: u32, d: &mut dyn CharDriver) -> Arrival
     requires { length ahead.old ≤ 256 }
     ensures polled { Polls tick None ahead.old ahead.new

@@ -50,7 +50,7 @@ pub(crate) fn put_bytes(d: &mut dyn CharDriver, bytes: &[u8]) -> Result<(), PutF
     Ok(())
 }
 
-// Where the first carriage return stands.
+// The place of the first carriage return.
 fn place_of_return(bytes: &[u8]) -> Option<usize>
     ensures place { result ≡ return_place bytes.now }
     ensures within { IfSome result (λ place. place < length bytes.now) }
@@ -58,7 +58,7 @@ fn place_of_return(bytes: &[u8]) -> Option<usize>
     bytes.iter().position(|byte| *byte == RETURN)
 }
 
-// How many bytes the first line has, its carriage return among them; all where there is none.
+// The length of the first line with its carriage return; all bytes if there is no carriage return.
 pub(crate) fn line_len(bytes: &[u8]) -> usize
     ensures len { result ≡ line_length bytes.now }
     ensures within { result ≤ length bytes.now }

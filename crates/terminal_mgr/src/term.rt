@@ -50,7 +50,7 @@ impl Term {
         })
     }
 
-    /// How many keys the type-ahead holds, at most 256.
+    /// The number of keys that the type-ahead holds, at most 256.
     pub fn waiting(&self) -> u16
         ensures len { result ≡ length self.now.ahead }
         ensures within { result ≤ 256 }
@@ -58,9 +58,9 @@ impl Term {
         self.ahead.len()
     }
 
-    /// The keys that are due at a tick arrive: those that send a signal are not kept, the others go
-    /// into the type-ahead, and a bell is put for each one that finds it full. The poll ends early
-    /// where the driver fails to give a key, which is then not lost. That it fails to put a bell is
+    /// The keys that are due at a tick arrive. A key that sends a signal is not kept; the others go
+    /// into the type-ahead, and a bell is put for each key that finds it full. The poll ends early
+    /// if the driver fails to give a key, which is not lost then. A failure to put a bell is
     /// ignored.
     pub fn arrive(&mut self, tick: u32, d: &mut dyn CharDriver) -> Arrival
         ensures { Arrives tick self.old self.new
@@ -70,7 +70,7 @@ impl Term {
         poll(&mut self.ahead, tick, d)
     }
 
-    /// The process whose read is unfinished. None if there is none.
+    /// The process with the unfinished read. None if there is none.
     pub fn reader(&self) -> Option<Pid>
         ensures { result ≡ reader self.now }
     {
@@ -80,17 +80,18 @@ impl Term {
         }
     }
 
-    /// The process that last attempted a read or a write here, also one that waited or failed. None
-    /// if there is none, or if it was forgotten since. A key that sends a signal sends it to this one.
+    /// The process that last attempted a read or a write here, even if it waited or failed. None if
+    /// there is none, or if it was forgotten since. A key that sends a signal sends it to this
+    /// process.
     pub fn last_user(&self) -> Option<Pid>
         ensures { result ≡ self.now.user }
     {
         self.user
     }
 
-    /// An attempt of I$Read of at most `most` bytes, from 1 to 256, which are stored into `into` once
-    /// it is done (Level Two manual, I$Read). It waits while another process's read is unfinished, and
-    /// where the keys of the type-ahead do not finish it.
+    /// An attempt of I$Read of at most `most` bytes, from 1 to 256, which are stored into `into`
+    /// once it is done (Level Two manual, I$Read). It waits while another process's read is
+    /// unfinished, and if the keys of the type-ahead do not finish it.
     pub fn read(&mut self, p: Pid, most: u16, into: &mut [u8], d: &mut dyn CharDriver) -> Progress
         requires some { 1 ≤ most }
         requires most { most ≤ 256 }
@@ -114,8 +115,8 @@ impl Term {
         )
     }
 
-    /// An attempt of I$ReadLn of at most `most` bytes, from 1 to 256, with editing (Level Two manual,
-    /// I$ReadLn). It stores and waits as [`Term::read`] does.
+    /// An attempt of I$ReadLn of at most `most` bytes, from 1 to 256, with editing (Level Two
+    /// manual, I$ReadLn). It stores and waits as [`Term::read`] does.
     pub fn read_line(
         &mut self,
         p: Pid,
@@ -171,8 +172,8 @@ impl Term {
         )
     }
 
-    /// I$Write of at most 65,535 bytes: puts them. It never waits. Where one is refused those before
-    /// it are out, and the unfinished read is dropped, whoever's it is.
+    /// I$Write of at most 65,535 bytes: puts them. It never waits. If a byte is refused, the bytes
+    /// before it are out, and the unfinished read of any process is dropped.
     pub fn write(&mut self, p: Pid, bytes: &[u8], d: &mut dyn CharDriver) -> Progress
         requires { length bytes.now ≤ 65535 }
         ensures { Writes p bytes.now (length bytes.now) result self.old self.new
@@ -191,7 +192,7 @@ impl Term {
     }
 
     /// I$WritLn: puts the bytes up to and with the first carriage return, and a line feed after it.
-    /// The count that it answers does not have the line feed. Else as [`Term::write`].
+    /// The returned count does not include the line feed. Otherwise as [`Term::write`].
     pub fn write_line(&mut self, p: Pid, bytes: &[u8], d: &mut dyn CharDriver) -> Progress
         requires { length bytes.now ≤ 65535 }
         ensures { Writes p (line_put bytes.now) (line_length bytes.now) result self.old self.new
@@ -221,7 +222,8 @@ impl Term {
         }
     }
 
-    /// Drops the unfinished read of a process that ends, and leaves no last user if that is the one.
+    /// Drops the unfinished read of a process that ends, and forgets the last user if it is this
+    /// process.
     pub fn forget(&mut self, p: Pid)
         ensures { self.new ≡ forgotten p self.old }
     {

@@ -6,7 +6,7 @@ use os9_base::call::OutOfMemory;
 use std::alloc::Global;
 use std::marker::Model;
 
-// The keys that arrived and that no read has used yet, at most 256.
+// The arrived keys that no read has used yet, at most 256.
 #[derive(Drop)]
 pub(crate) struct TypeAhead {
     keys: HeapCircularBuffer<u8>,
@@ -38,7 +38,7 @@ impl TypeAhead {
         self.keys.len() as u16
     }
 
-    // Keeps a key. False where it is dropped, since the type-ahead is full.
+    // Keeps a key. False if it is dropped, since the type-ahead is full.
     pub(crate) fn keep(&mut self, key: u8) -> bool
         ensures room { IsTrue result ↔ (length self.old < 256) }
         ensures kept { self.new ≡ take 256 (self.old ++ key ∷ []) }

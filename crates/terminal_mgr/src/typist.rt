@@ -30,8 +30,8 @@ fn press(line: &mut Line, request: Reading, key: u8) -> EditOut
     }
 }
 
-// Types the keys of the type-ahead until one ends the read or its echo is refused. None where no
-// key is left that did.
+// Types the keys of the type-ahead until one ends the read or its echo is refused. None if no key
+// did, and none is left.
 pub(crate) fn type_keys(
     ahead: &mut TypeAhead,
     line: &mut Line,
@@ -65,7 +65,7 @@ pub(crate) fn type_keys(
     Ok(None)
 }
 
-// Types the keys of the type-ahead for a read that no other one keeps waiting, and ends it or leaves
+// Types the keys of the type-ahead for a read that waits for no other read, and ends it or leaves
 // it unfinished.
 pub(crate) fn read_keys(
     ahead: &mut TypeAhead,
@@ -110,7 +110,7 @@ pub(crate) fn read_keys(
     }
 }
 
-// Copies the line to the buffer's start; how many bytes it has.
+// Copies the line to the buffer's start, and returns its length.
 fn store(line: &Line, into: &mut [u8]) -> u16
     requires { length line.now.bytes ≤ length into.old }
     ensures stored { into.new ≡ stored_over line.now.bytes into.old }
@@ -121,7 +121,7 @@ fn store(line: &Line, into: &mut [u8]) -> u16
     line.len()
 }
 
-// The answer of a call one of whose bytes was refused.
+// The answer of a call that had a byte refused.
 pub(crate) fn refused(refusal: PutFault) -> Progress
     ensures { result ≡ refusal_answer refusal }
 {

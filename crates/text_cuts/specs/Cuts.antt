@@ -14,6 +14,6 @@ first_word line = take (position_or_len is_space line) line
 abbrev pub behind_word : List ℕ → List ℕ
 behind_word line = drop (position_or_len is_space line) line
 
--- a line without the spaces that it begins with
+-- a line without its leading spaces
 abbrev pub without_spaces : List ℕ → List ℕ
 without_spaces line = drop (position_or_len (λ byte. not (is_space byte)) line) line

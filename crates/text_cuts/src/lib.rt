@@ -5,7 +5,7 @@ ghost use Rattle.std.specs.Prelude.{◌≡◌, ◌≤◌, length};
 ghost use Rattle.std.specs.List.{position_or_len};
 ghost use Rattle.text_cuts.specs.Cuts.{is_space, first_word as first_word_lem, behind_word as behind_word_lem, without_spaces as without_spaces_lem};
 
-/// The line without the spaces that it begins with.
+/// The line without its leading spaces.
 pub fn without_spaces(line: &[u8]) -> &[u8]
     ensures { result.now ≡ without_spaces_lem line.now }
 {

@@ -1,4 +1,4 @@
--- What an attempt of a call on the time comes to, of the kernel's processes and its clock.
+-- The result of an attempt of a call on the time, for the kernel's processes and its clock.
 use Rattle.std.specs.Prelude.{ℕ}
 use Rattle.os9_base.specs.declared.call.CallEnd.{CallEnd}
 use Rattle.os9_base.specs.declared.call.CallEnd.TheVariants.{Done, Error}
@@ -13,8 +13,8 @@ use Rattle.time_rules.specs.declared.time_call.TimeCall.{TimeCall}
 use Rattle.proc_state.specs.Tie.{Comes}
 use Rattle.proc_state.specs.declared.state.ProcState.{ProcState}
 
--- an attempt of a call by a process, at this time: how it ends, and the processes and the clock then; its process is
--- not told yet
+-- an attempt of a call by a process, at this time: how it ends, and the processes and the clock afterwards; its process
+-- does not have the result yet
 pub record Attempts (call : TimeCall) (m : Inner) (clock : Clock) (now : TimePacket) (p : ℕ) (end : CallEnd)
     (processes : ProcState) (new : Clock) : Type 0 where
   pub result : CallResult

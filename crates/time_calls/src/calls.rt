@@ -1,4 +1,4 @@
-//! The calls on the time, each as an attempt of it by a process, and all of them by their codes.
+//! The calls on the time, each as an attempt by a process, and all of them by their codes.
 
 ghost use Rattle.std.specs.Prelude.{◌≡◌};
 ghost use Rattle.proc_rules.specs.Records.{IsLiving};
@@ -21,8 +21,8 @@ use proc_state::state::ProcState;
 use time_rules::clock::{Clock, PACKET_BYTES};
 use time_rules::time_call::TimeCall;
 
-/// An attempt of a call on the time: F$Time or F$STime, as they say (System Programmer's Manual,
-/// "System calls").
+/// An attempt of a call on the time, F$Time or F$STime, as in [`f_time`] and [`f_stime`] (System
+/// Programmer's Manual, "System calls").
 pub fn attempt(s: &mut ProcState, clock: &mut Clock, p: Pid, call: TimeCall) -> CallEnd
     requires lives { IsLiving s.old.table p.0 }
     requires clock { IsClock clock.old s.old.tick }
@@ -37,7 +37,7 @@ pub fn attempt(s: &mut ProcState, clock: &mut Clock, p: Pid, call: TimeCall) -> 
     }
 }
 
-/// F$Time: asks for the time (System Programmer's Manual, F$Time). Stores the six bytes of its
+/// F$Time: returns the time (System Programmer's Manual, F$Time). Stores the six bytes of its
 /// packet at X: the year less 1900, the month, the day, the hour, the minute and the second.
 ///
 /// # Errors
@@ -72,13 +72,13 @@ fn tell(s: &mut ProcState, p: Pid, packet: TimePacket) -> CallEnd
     CallEnd::Done
 }
 
-/// F$STime: sets the time to the packet at X (System Programmer's Manual, F$STime). It goes on from
-/// there, from this tick on.
+/// F$STime: sets the time to the packet at X (System Programmer's Manual, F$STime). The time goes
+/// on from there, from this tick on.
 ///
 /// # Errors
 ///
 /// E$BPAddr exactly if one of the six bytes is in no named slot or past `FFFF`, else 225 exactly if
-/// the packet is no civil date and time (this project's own). The clock has not changed then.
+/// the packet is not a civil date and time (this project's own). The clock has not changed then.
 pub fn f_stime(s: &mut ProcState, clock: &mut Clock, p: Pid) -> CallEnd
     requires lives { IsLiving s.old.table p.0 }
     requires clock { IsClock clock.old s.old.tick }

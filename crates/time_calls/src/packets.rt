@@ -29,7 +29,7 @@ pub(crate) fn read_packet(s: &mut ProcState, p: Pid, at: u16) -> Option<TimePack
     }
 }
 
-/// The packet that these six bytes are.
+/// The packet with these six bytes.
 fn packet_of(bytes: &[u8]) -> TimePacket
     requires { length bytes.now ≡ PACKET_BYTES }
     ensures { result ≡ packet_of_lem bytes.now }
@@ -44,7 +44,7 @@ fn packet_of(bytes: &[u8]) -> TimePacket
     }
 }
 
-/// Stores a packet at this address in the memory of a process, where it fits.
+/// Stores a packet at this address in the memory of a process; it fits there.
 pub(crate) fn store_packet(s: &mut ProcState, p: Pid, at: u16, packet: TimePacket)
     requires process { p.0 < 33 }
     requires fits { FitsIn (cells_of s.old.memory p.0) at PACKET_BYTES }

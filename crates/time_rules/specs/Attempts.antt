@@ -1,4 +1,4 @@
--- Attempts of the calls on the time: each call by its code, and what an attempt leaves.
+-- Attempts of the calls on the time: each call by its code, and the result of an attempt.
 use Rattle.std.specs.Prelude.{◌≡◌, ℕ}
 use Rattle.os9_base.specs.declared.registers.TimePacket.{TimePacket}
 use Rattle.proc_model.specs.MemoryChanges.{stored}
@@ -17,7 +17,7 @@ abbrev pub time_step : TimeCall → Inner → TimePacket → ℕ → TimeStep
 time_step Call.Time m now p = f_time m now p
 time_step Call.STime m now p = f_stime m p
 
--- what the call comes to
+-- the result of the call
 abbrev pub result_of : Inner → ℕ → TimeStep → CallResult
 result_of m p (refused number) = CallResult.refused number
 result_of m p (tells at packet) = CallResult.done (with_memory m (stored m.memory p at (packet_bytes packet)))
@@ -29,7 +29,7 @@ clock_after clock (refused number) = clock
 clock_after clock (tells at packet) = clock
 clock_after clock (sets other) = other
 
--- an attempt of a call by a process, at this time: what it comes to, and the clock then
+-- an attempt of a call by a process, at this time: its result, and the clock afterwards
 pub record TimeAttempts (call : TimeCall) (m : Inner) (clock : Clock) (now : TimePacket) (p : ℕ)
     (result : CallResult) (new : Clock) : Type 0 where
   pub result_is : result ≡ result_of m p (time_step call m now p)

@@ -18,7 +18,7 @@ seconds_since clock tick = (tick - clock.since) / TICKS_PER_SECOND
 abbrev pub IsNow : Clock → ℕ → TimePacket → Type 0
 IsNow clock tick packet = IsAfter clock.from (seconds_since clock tick) packet
 
--- what a clock always is: it was set to a civil date and time, and not after this tick
+-- what always holds of a clock: it was set to a civil date and time, and not after this tick
 pub record IsClock (clock : Clock) (tick : ℕ) : Type 0 where
   pub civil : is_time_packet clock.from ≡ true
   pub set : clock.since ≤ tick

@@ -2,11 +2,11 @@
 use Rattle.std.specs.Prelude.{ℕ, List, [], ◌∷◌, slice_index_or}
 use Rattle.os9_base.specs.declared.registers.TimePacket.{TimePacket}
 
--- the bytes of a packet, as they lie in memory
+-- the bytes of a packet, in their order in memory
 abbrev pub packet_bytes : TimePacket → List ℕ
 packet_bytes t = t.year ∷ t.month ∷ t.day ∷ t.hour ∷ t.minute ∷ t.second ∷ []
 
--- the packet that these bytes are
+-- the packet with these bytes
 abbrev pub packet_of : List ℕ → TimePacket
 packet_of bytes = record {
   year = slice_index_or bytes 0 0;

@@ -1,4 +1,4 @@
--- States and clocks that are worked through by hand.
+-- States and clocks computed by hand.
 use Rattle.std.specs.Prelude.{ℕ, List}
 use Rattle.os9_base.specs.declared.registers.TimePacket.{TimePacket}
 use Rattle.civil_time.specs.Rows.{at}
@@ -7,7 +7,7 @@ use Rattle.call_rules.specs.Inner.{Inner}
 use Rattle.call_rules.specs.Rows.{one_process}
 use Rattle.time_rules.specs.declared.clock.Clock.{Clock}
 
--- the state in tick 10 where process 2 has this address in X, and sees these bytes from address 0 on
+-- the state in tick 10 in which process 2 has this address in X, and sees these bytes from address 0 on
 abbrev pub asking : ℕ → List ℕ → Inner
 asking x bytes = one_process bytes (record zero_regs { x = x })
 

@@ -1,6 +1,6 @@
 -- F$STime: sets the time (System Programmer's Manual, F$STime).
 -- Takes the address of a packet in X. The time goes on from there, from this tick on.
--- Errors: E$BPAddr; then 225 where the packet is no civil date and time (this project's own).
+-- Errors: E$BPAddr; then 225 if the packet is not a civil date and time (this project's own).
 use Rattle.std.specs.Prelude.{ℕ, not}
 use Rattle.os9_base.specs.declared.errors.TheConstants.{E_BPADDR, E_BADTIME}
 use Rattle.os9_base.specs.declared.registers.TimePacket.{TimePacket}

@@ -11,12 +11,12 @@ pub data TimeStep : Type 0 where
   -- the clock is this one from then on
   sets : Clock → TimeStep
 
--- the call goes on with what there is, or is refused with this number if there is nothing
+-- the call goes on with the value, or is refused with this number if there is none
 abbrev pub needs : {A : Type 0} → Option A → ℕ → (A → TimeStep) → TimeStep
 needs None number next = refused number
 needs (Some a) number next = next a
 
--- the call is refused with this number if the test is true, and else goes on
+-- the call is refused with this number if the test is true, and goes on otherwise
 abbrev pub refuses : Bool → ℕ → TimeStep → TimeStep
 refuses true number next = refused number
 refuses false number next = next

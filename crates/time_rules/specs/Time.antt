@@ -1,4 +1,4 @@
--- F$Time: asks for the time (System Programmer's Manual, F$Time).
+-- F$Time: returns the time (System Programmer's Manual, F$Time).
 -- Takes the address of a packet in X, and stores the time there.
 -- Errors: E$BPAddr.
 use Rattle.std.specs.Prelude.{ℕ, is_none}

@@ -10,9 +10,9 @@ ghost use Rattle.time_rules.specs.Clock.{IsClock, IsNow, first_clock};
 ghost use Rattle.time_rules.specs.declared.clock.Clock.{Clock};
 ghost use Rattle.time_rules.specs.declared.time_call.TimeCall.{TimeCall};
 
-/// A clock was set to a civil date and time, and not after this tick: that holds of the clock of a
-/// machine that starts at such a time, each tick keeps it, and so does each call on the time,
-/// whatever the packet that it is given.
+/// A clock was set to a civil date and time, and not after this tick. This holds of the clock of a
+/// machine that starts at such a time. Each tick keeps it, and so does each call on the time, for
+/// any packet that the call is given.
 pub fn clocks_stay_clocks()
     ensures start { (start : TimePacket) → is_time_packet start ≡ true
         → IsClock (first_clock start) 0 }

@@ -1,4 +1,4 @@
-//! The time of the machine: its clock, what F$Time and F$STime answer and leave, and the codes of
+//! The time of the machine: its clock, what F$Time and F$STime return and change, and the codes of
 //! these calls.
 #![tactic(auto)]
 

@@ -16,7 +16,7 @@ pub fn a_second_is_sixty_ticks()
     ensures after { IsNow leap_clock 70 first_of_march }
 {}
 
-/// F$Time stores the packet at X, and is refused where its last byte is past the named slots.
+/// F$Time stores the packet at X, and is refused if its last byte is past the named slots.
 pub fn the_time_is_told()
     ensures told { f_time (asking 8 (replicate 14 0)) leap_day 2 ≡ tells 8 leap_day }
     ensures last { f_time (asking 8186 (replicate 8192 0)) leap_day 2 ≡ tells 8186 leap_day }
@@ -24,8 +24,8 @@ pub fn the_time_is_told()
     ensures bytes { packet_bytes leap_day ≡ 92 ∷ 2 ∷ 29 ∷ 23 ∷ 59 ∷ 59 ∷ [] }
 {}
 
-/// F$STime sets the clock to the packet at X and to this tick, and is refused where the packet is
-/// no civil date and time.
+/// F$STime sets the clock to the packet at X and to this tick, and is refused if the packet is not
+/// a civil date and time.
 pub fn the_time_is_set()
     ensures set { f_stime (asking 1 (7 ∷ 92 ∷ 2 ∷ 29 ∷ 23 ∷ 59 ∷ 59 ∷ [])) 2 ≡ sets leap_clock }
     ensures no_day { f_stime (asking 0 (93 ∷ 2 ∷ 29 ∷ 23 ∷ 59 ∷ 59 ∷ [])) 2 ≡ refused E_BADTIME }

@@ -6,13 +6,13 @@ use os9_base::calls::{F_STIME, F_TIME};
 /// A call on the time (System Programmer's Manual, "System calls").
 #[derive(Clone, Copy, Debug, PartialEq, Eq)]
 pub enum TimeCall {
-    /// F$Time: asks for the time.
+    /// F$Time: returns the time.
     Time,
     /// F$STime: sets the time.
     STime,
 }
 
-/// The call on the time that has this code; None if it is no such call's.
+/// The call on the time with this code, or None if no such call has it.
 pub fn time_call(code: u8) -> Option<TimeCall>
     ensures { result ≡ time_call_of code }
 {

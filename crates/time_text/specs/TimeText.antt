@@ -14,18 +14,18 @@ letter_t = 84
 abbrev pub colon : ℕ
 colon = 58
 
--- the text has nineteen characters, and the marks between its numbers stand in their places
+-- the text has nineteen characters, and the marks between its numbers are in their places
 abbrev pub has_marks : List ℕ → Bool
 has_marks text =
     (length text == 19) && (slice_index_or text 4 0 == dash) && (slice_index_or text 7 0 == dash)
     && (slice_index_or text 10 0 == letter_t) && (slice_index_or text 13 0 == colon)
     && (slice_index_or text 16 0 == colon)
 
--- the number that so many characters from a place on spell
+-- the number that `count` characters from a place on spell
 abbrev pub number_at : List ℕ → ℕ → ℕ → Option ℕ
 number_at text at count = number_of (take count (drop at text))
 
--- the year less 1900, where the first four characters spell one from 1900 to 2155
+-- the year less 1900, if the first four characters spell one from 1900 to 2155
 abbrev pub year_in : List ℕ → Option ℕ
 year_in text = option_map (λ year. year - 1900) (within 1900 2155 (number_at text 0 4))
 
@@ -35,16 +35,16 @@ packet_with (Some year) (Some month) (Some day) (Some hour) (Some minute) (Some 
     Some (record { year = year; month = month; day = day; hour = hour; minute = minute; second = second })
 packet_with _ _ _ _ _ _ = None
 
--- the packet whose numbers stand in their places
+-- the packet of the numbers in their places
 abbrev pub packet_in : List ℕ → Option TimePacket
 packet_in text =
     packet_with (year_in text) (number_at text 5 2) (number_at text 8 2) (number_at text 11 2) (number_at text 14 2)
     (number_at text 17 2)
 
--- the packet, where it is a civil date and time
+-- the packet, if it is a civil date and time
 abbrev pub if_time : TimePacket → Option TimePacket
 if_time packet = if is_time_packet packet then Some packet else None
 
--- the date and time that the text spells, or nothing where it spells none
+-- the date and time that the text spells, or nothing if it does not spell one
 abbrev pub time_in : List ℕ → Option TimePacket
 time_in text = if has_marks text then option_and_then if_time (packet_in text) else None

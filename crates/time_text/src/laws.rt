@@ -4,8 +4,8 @@ ghost use Rattle.civil_time.specs.CivilTime.{is_time_packet};
 ghost use Rattle.time_text.specs.Spelled.{spelled};
 ghost use Rattle.time_text.specs.TimeText.{time_in};
 
-/// Each date and time of 1900 to 2155 has one text, from which it is read, and no other text is
-/// read.
+/// Each date and time in the years 1900 to 2155 has exactly one text, and it is read from that
+/// text. No other text is read.
 pub fn each_time_has_one_text()
     ensures read { (t : TimePacket) → t.year < 256 → is_time_packet t ≡ true
         → time_in (spelled t) ≡ Some t }

@@ -2,14 +2,15 @@ ghost use Rattle.std.specs.Prelude.{◌≡◌, Some, None, codes};
 ghost use Rattle.civil_time.specs.Rows.{at};
 ghost use Rattle.time_text.specs.TimeText.{time_in};
 
-/// Times of the first and of the last year that there are, and a leap day.
+/// Times of the first and of the last valid year, and a leap day.
 pub fn times_are_read()
     ensures first { time_in (codes "1900-01-01T00:00:00") ≡ Some (at 0 1 1 0 0 0) }
     ensures last { time_in (codes "2155-12-31T23:59:59") ≡ Some (at 255 12 31 23 59 59) }
     ensures leap_day { time_in (codes "2000-02-29T12:34:56") ≡ Some (at 100 2 29 12 34 56) }
 {}
 
-/// No time has a year outside of these, a digit less, another mark, a sign, or more behind it.
+/// Texts that are not read: a year out of range, a missing digit, another mark, a sign, or more
+/// text at the end.
 pub fn other_texts_are_none()
     ensures before { time_in (codes "1899-12-31T23:59:59") ≡ None }
     ensures after { time_in (codes "2156-01-01T00:00:00") ≡ None }

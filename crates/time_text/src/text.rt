@@ -6,7 +6,7 @@ use number_text::read_number;
 use os9_base::registers::TimePacket;
 use os9_clock::time::is_time;
 
-/// Characters of a date and time.
+/// The number of characters of a date and time.
 const TEXT_BYTES: usize = 19;
 
 /// The first year that a packet can give, and the last.
@@ -17,8 +17,8 @@ const LAST_YEAR: u32 = 2155;
 /// The greatest number of two digits.
 const TWO_DIGITS: u32 = 99;
 
-/// The date and time that a text spells as `YYYY-MM-DDThh:mm:ss`; None where it spells none of a
-/// year from 1900 to 2155 (this project's own). Each number has all its digits.
+/// The date and time that a text spells as `YYYY-MM-DDThh:mm:ss`; None if it does not spell one
+/// in the years 1900 to 2155 (this project's own). Each number has all its digits.
 pub fn read_time(text: &[u8]) -> Option<TimePacket>
     ensures spelled { result ≡ time_in text.now }
     ensures civil { IfSome result (λ t. is_time_packet t ≡ true) }
@@ -32,7 +32,7 @@ pub fn read_time(text: &[u8]) -> Option<TimePacket>
     }
 }
 
-/// Has the text nineteen characters, with the marks between the numbers in their places?
+/// Does the text have nineteen characters, with the marks between the numbers in their places?
 fn has_marks(text: &[u8]) -> bool
     ensures { result ≡ has_marks_lem text.now }
 {
@@ -44,7 +44,7 @@ fn has_marks(text: &[u8]) -> bool
         && text[16] == b':'
 }
 
-/// The packet whose numbers stand in their places.
+/// The packet of the numbers in their places.
 fn packet_in(text: &[u8]) -> Option<TimePacket>
     requires { length text.now ≡ 19 }
     ensures { result ≡ packet_in_lem text.now }
@@ -70,7 +70,7 @@ fn packet_in(text: &[u8]) -> Option<TimePacket>
     })
 }
 
-/// The year that the first four characters spell, less 1900, where it is from 1900 to 2155.
+/// The year that the first four characters spell, less 1900, if it is from 1900 to 2155.
 fn year_in(text: &[u8]) -> Option<u8>
     requires { length text.now ≡ 19 }
     ensures { result ≡ year_in_lem text.now }

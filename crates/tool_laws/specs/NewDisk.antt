@@ -1,4 +1,4 @@
--- Tools that are used one after the other on a new disk.
+-- Tools that are used in turn on a new disk.
 use Rattle.std.specs.Prelude.{ℕ, Option, List}
 use Rattle.os9_base.specs.declared.registers.TimePacket.{TimePacket}
 use Rattle.rbf_model.specs.Volume.{DiskVolume}
@@ -6,13 +6,13 @@ use Rattle.rbf_access.specs.Mounted.{Represents}
 use Rattle.tool_rules.specs.Blank.{blank_volume}
 use Rattle.tool_rules.specs.Uses.{Use, GivesInTurn}
 
--- a disk that has been formatted: its sectors, those of a cluster, and when it was made
+-- a formatted disk: its sectors, those of a cluster, and the time of its formatting
 pub record NewDisk : Type 0 where
   pub sectors : ℕ
   pub cluster : ℕ
   pub made : TimePacket
 
--- the media represents the volume that a list of tools gives of the one without files
+-- the media represents the volume that a list of tools gives of the volume without files
 pub record LeavesNew (disk : NewDisk) (uses : List Use) (new : Option (List ℕ)) (answers : List (List ℕ)) : Type 0 where
   pub after : DiskVolume
   pub is : Represents new after

@@ -11,15 +11,15 @@ ghost use Rattle.disk_repair.specs.declared.image.Repaired.{Repaired};
 ghost use Rattle.vol_tools.specs.InTurn.{LeavesInTurn};
 ghost use Rattle.tool_laws.specs.NewDisk.{LeavesNew, NewDisk};
 
-/// A repair of an image is a tool as those on a mounted volume are: it leaves what it gives, and answers
-/// the line of how many clusters are free now.
+/// A repair of an image is a tool like those on a mounted volume: it leaves its result, and answers
+/// the line with the number of clusters that are free now.
 pub fn a_repair_leaves_what_it_gives()
     ensures { (old : List ℕ) (outcome : Repaired) (now : TimePacket) → IsRepaired old outcome
         → LeavesInTurn (record { tool = repair; now = now } ∷ []) (Some old)
         (Some outcome.image.items) (freed_line outcome.freed ∷ []) }
 {}
 
-/// What a list of tools leaves on the image of a new disk, it gives of the volume without files.
+/// A list of tools leaves on the image of a new disk what it gives of the volume without files.
 pub fn a_list_begins_with_a_new_disk()
     ensures { (disk : NewDisk) (image : List ℕ) (uses : List Use) (new : Option (List ℕ))
         (answers : List (List ℕ)) → Vol image (blank_volume disk.sectors disk.cluster disk.made)

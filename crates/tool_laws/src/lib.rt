@@ -1,4 +1,4 @@
-//! Laws of the tools that make or take whole images: what they are in a list of tools.
+//! Laws of the tools that make or take complete images: their part in a list of tools.
 #![tactic(auto)]
 
 pub mod laws;

@@ -1,11 +1,11 @@
--- Names that are read of a text.
+-- Names that are read from a text.
 use Rattle.std.specs.Prelude.{◌≡◌, ℕ, true, Option, Some, None, List, if◌then◌else◌}
 use Rattle.std.specs.List.{list_all}
 use Rattle.rbf_change.specs.Names.{is_dots}
 use Rattle.tool_rules.specs.Path.{Place as ToolPlace, is_name_text, place_of}
 use Rattle.tool_paths.specs.declared.place.Place.{Place}
 
--- the text is a name, and this one
+-- the text is a name, and is this name
 pub record IsNameOf (text name : List ℕ) : Type 0 where
   pub is : name ≡ text
   pub named : is_name_text text ≡ true
@@ -14,7 +14,7 @@ pub record IsNameOf (text name : List ℕ) : Type 0 where
 abbrev pub if_names : List (List ℕ) → Option (List (List ℕ))
 if_names parts = if list_all is_name_text parts then Some parts else None
 
--- the names on the way, and the name
+-- the names of the route, and the name
 abbrev pub place : Place → ToolPlace
 place at = record { way = at.way.items; name = at.name }
 

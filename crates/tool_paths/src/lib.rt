@@ -1,4 +1,4 @@
-//! Paths of the tools for volumes: names that `/` joins, from the root.
+//! Paths of the tools for volumes: names joined by `/`, from the root.
 #![tactic(auto)]
 
 pub use name::name_of;

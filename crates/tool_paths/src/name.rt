@@ -6,7 +6,7 @@ ghost use Rattle.tool_paths.specs.Names.{IsNameOf};
 
 use os9_base::name::{Name, parse_name};
 
-/// The name that a text is (this project's own): 1 to 29 letters, digits, `_` and `.`. None if it is
+/// The name in a text (this project's own): 1 to 29 letters, digits, `_` and `.`. None if it is
 /// another text.
 pub fn name_of(text: &[u8]) -> Option<Name>
     ensures { MatchOption result (is_name_text text.now ≡ false) (IsNameOf text.now) }
@@ -20,14 +20,14 @@ pub fn name_of(text: &[u8]) -> Option<Name>
     }
 }
 
-// Are all bytes letters, digits, `_` or `.`?
+// Whether all bytes are letters, digits, `_` or `.`.
 fn has_name_characters(text: &[u8]) -> bool
     ensures { result ≡ list_all is_name_character_lem text.now }
 {
     text.iter().all(|byte| is_name_character(*byte))
 }
 
-// A letter, a digit, `_` or `.`.
+// Whether it is a letter, a digit, `_` or `.`.
 fn is_name_character(byte: u8) -> bool
     ensures { result ≡ is_name_character_lem byte }
 {

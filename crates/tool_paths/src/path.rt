@@ -6,7 +6,7 @@ use crate::name::name_of;
 use os9_base::name::Name;
 use std::alloc::{AllocError, Global};
 
-/// The names of a path, if it is one (this project's own): one or more, between slashes.
+/// The names of a path, if it is valid (this project's own): one or more, between slashes.
 ///
 /// # Errors
 ///
@@ -19,7 +19,8 @@ pub fn path_names(alloc: Global, path: &[u8]) -> Result<Option<Vec<Name>>, Alloc
     names_of(alloc, &parts)
 }
 
-/// The names of the path of a directory (this project's own): none of `/` alone, which is the root.
+/// The names of the path of a directory (this project's own): no names for `/` alone, which is the
+/// root.
 ///
 /// # Errors
 ///
@@ -41,7 +42,7 @@ fn parts(alloc: Global, path: &[u8]) -> Result<Vec<&[u8]>, AllocError>
     path.split(|byte| *byte == b'/').collect(alloc)
 }
 
-// The names that these parts are, if each is a name.
+// The names in these parts, if each is a name.
 fn names_of(alloc: Global, parts: &[&[u8]]) -> Result<Option<Vec<Name>>, AllocError>
     ensures { IfOk result (λ names. option_map (λ names. names.items) names
         ≡ if_names (map (λ part. part.now) parts.now)) }

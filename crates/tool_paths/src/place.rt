@@ -8,14 +8,14 @@ use crate::path::path_names;
 use os9_base::name::Name;
 use std::alloc::{AllocError, Global};
 
-/// A name in a directory: the names on the way from the root to the directory, and the name.
+/// A name in a directory: the names of the route from the root to the directory, and the name.
 #[derive(Debug, Drop)]
 pub struct Place {
     pub way: Vec<Name>,
     pub name: Name,
 }
 
-/// The place that a path names, if it is one (this project's own).
+/// The place that a path names, if it is valid (this project's own).
 ///
 /// # Errors
 ///
@@ -50,7 +50,7 @@ pub fn new_place_of(alloc: Global, path: &[u8]) -> Result<Option<Place>, AllocEr
     Ok(Some(at))
 }
 
-// Is it `.` or `..`, which every directory has?
+// Whether it is `.` or `..`, which every directory has.
 fn is_dots(name: &Name) -> bool
     ensures value { result ≡ is_dots_lem name.now }
     ensures name { IsName name.now }

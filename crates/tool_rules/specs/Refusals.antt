@@ -22,12 +22,12 @@ refused_number v (remove path) = remove_number v path
 refused_number v (list path) = list_number v path
 refused_number v repair = None
 
--- how many clusters a file needs to hold these bytes
+-- the number of clusters that a file needs to hold these bytes
 abbrev pub needs : DiskVolume → DiskFile → List ℕ → ℕ
 needs v file bytes = clusters_needed (cluster_size v) file.segments (length (written file.contents 0 bytes))
 
--- a write of these bytes to the new file is refused: too few clusters are free, or enough are and one that was chosen
--- finds no place in the list of segments
+-- a write of these bytes to the new file is refused: too few clusters are free, or enough are and a chosen one does not
+-- fit the list of segments
 pub data RefusesBytes (v : DiskVolume) (file : DiskFile) (bytes : List ℕ) : ℕ → Type 0 where
   full : free_total v < needs v file bytes → RefusesBytes v file bytes E_FULL
   long : {chosen : List ℕ} → needs v file bytes ≤ free_total v
@@ -42,7 +42,7 @@ pub record RefusesPut (v w : DiskVolume) (path bytes : List ℕ) (now : TimePack
   pub there : w.files file_number ≡ Some file
   pub refused : RefusesBytes w file bytes number
 
--- a tool is refused at once, or when it has made a file for its bytes
+-- a tool is refused at once, or after it has made a file for its bytes
 abbrev pub RefusesAtOnce : Tool → (v w : DiskVolume) → (number : ℕ) → Type 0
 RefusesAtOnce tool v w number = (refused_number v tool ≡ Some number) × (w ≡ v)
 
@@ -58,7 +58,7 @@ RefusesLate repair now v w number = ⊥
 abbrev pub Refuses : Tool → TimePacket → (v w : DiskVolume) → (number : ℕ) → Type 0
 Refuses tool now v w number = RefusesAtOnce tool v w number ⊎ RefusesLate tool now v w number
 
--- a fault came before the new file of a path had its entry: the tree is as it was, and clusters may be lost
+-- a fault occurred before the new file of a path had its entry: the tree is unchanged, and clusters may be lost
 pub record MakingStops (v w : DiskVolume) (path : List ℕ) (plan : ℕ → ℕ → Plan) : Type 0 where
   pub directory : ℕ
   pub name : List ℕ
@@ -66,14 +66,14 @@ pub record MakingStops (v w : DiskVolume) (path : List ℕ) (plan : ℕ → ℕ 
   pub number : ℕ
   pub ends : EntryEnds v w directory number name (plan directory number)
 
--- and when it had: the file is empty, and clusters may be lost
+-- or after it had: the file is empty, and clusters may be lost
 pub record FillingStops (v w : DiskVolume) (path bytes : List ℕ) (now : TimePacket) : Type 0 where
   pub number : ℕ
   pub created : DiskVolume
   pub creates : CreatesAt v created path number now
   pub ends : (w ≡ created) ⊎ WriteEnds created w number 0 bytes
 
--- a fault came when the file of a path had gone: of its clusters whole ones may be lost
+-- a fault occurred after the file of a path was removed: some of its whole clusters may be lost
 pub record RemovalStops (v w : DiskVolume) (path : List ℕ) : Type 0 where
   pub removed : DiskVolume
   pub removes : RemovesAt v removed path
@@ -81,7 +81,7 @@ pub record RemovalStops (v w : DiskVolume) (path : List ℕ) : Type 0 where
   pub there : v.files removes.number ≡ Some file
   pub lose : MayLose removed w (λ c. is_whole (shape v) c && has_cluster (shape v) removes.number file c)
 
--- a fault of the drive has ended a tool that is not refused, and had begun to change the volume
+-- a fault of the drive has ended a tool that is not refused and that had begun to change the volume
 abbrev pub StopsHalfway : Tool → TimePacket → (v w : DiskVolume) → Type 0
 StopsHalfway (put path bytes) now v w =
     MakingStops v w path (λ d n. file_plan file_attributes 0 now) ⊎ FillingStops v w path bytes now
@@ -91,7 +91,7 @@ StopsHalfway (remove path) now v w = RemovalStops v w path
 StopsHalfway (list path) now v w = ⊥
 StopsHalfway repair now v w = ⊥
 
--- what a fault of the drive may leave of a tool: the volume as it was, or what the tool had made of it so far
+-- what a fault of the drive may leave of a tool: the unchanged volume, or what the tool had made of it so far
 pub data MayLeave (tool : Tool) (now : TimePacket) (v w : DiskVolume) : Type 0 where
   unchanged : w ≡ v → MayLeave tool now v w
   halfway : refused_number v tool ≡ None → StopsHalfway tool now v w → MayLeave tool now v w

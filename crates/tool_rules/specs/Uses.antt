@@ -1,15 +1,15 @@
--- Tools that are used one after the other.
+-- Tools that are used in turn.
 use Rattle.std.specs.Prelude.{List, [], ◌∷◌, ℕ}
 use Rattle.os9_base.specs.declared.registers.TimePacket.{TimePacket}
 use Rattle.rbf_model.specs.Volume.{DiskVolume}
 use Rattle.tool_rules.specs.Tool.{Tool, Gives}
 
--- a tool that is used at a time
+-- a use of a tool at a time
 pub record Use : Type 0 where
   pub tool : Tool
   pub now : TimePacket
 
--- what a list of them gives, and what each answers
+-- the result of a list of them, and the answer of each
 pub data GivesInTurn : List Use → DiskVolume → DiskVolume → List (List ℕ) → Type 0 where
   none : {v : DiskVolume} → GivesInTurn [] v v []
   next : {use_ : Use} {uses : List Use} {u v w : DiskVolume} {answer : List ℕ} {answers : List (List ℕ)}

@@ -5,8 +5,8 @@ use crate::words::Words;
 use std::alloc::{AllocError, Global};
 use std::fmt::Write;
 
-/// Does a command answer or leave something else than is known? None if it is only known that its
-/// words are refused, or that a file is not there.
+/// Whether a command answers or leaves something other than the known result. None if it is only
+/// known that its words are refused, or that a file is not there.
 pub(crate) fn differs(
     alloc: Global,
     field: &str,
@@ -24,7 +24,7 @@ pub(crate) fn differs(
     Ok(Some(found.as_str() != expected))
 }
 
-// The file that is put, by its length and the number from which its bytes follow.
+// The file of `put`, given by its length and the number from which its bytes follow.
 fn file_of(alloc: Global, field: &str) -> Result<Vec<u8>, RowError> {
     let Some((length, seed)) = field.split_once('*') else {
         return Ok(Vec::new(alloc));
@@ -39,7 +39,7 @@ fn file_of(alloc: Global, field: &str) -> Result<Vec<u8>, RowError> {
     Ok(bytes)
 }
 
-// What a row tells of a command: its status, its lines, and the file that it has changed.
+// What a row says of a command: its status, its lines, and the file that it has changed.
 fn told(
     alloc: Global,
     words: &Words<'_>,

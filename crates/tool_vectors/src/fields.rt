@@ -3,13 +3,13 @@ use rbf_access::VolFault;
 use std::alloc::{AllocError, AllocFailed, Global};
 use thiserror::Error;
 
-/// The bytes of the longest image that a row may have: those of a volume of the most sectors.
+/// The bytes of the longest image of a row: those of a volume of the greatest number of sectors.
 const MOST_BYTES: usize = 134_217_728;
 
 /// The bytes of a sector.
 const SECTOR: usize = 256;
 
-/// Why a line is no row.
+/// Why a line is not a row.
 #[derive(Clone, Copy, Debug, PartialEq, Eq, Error)]
 pub(crate) enum RowError {
     #[error("a field is missing")]
@@ -63,7 +63,7 @@ pub(crate) fn parse_image(alloc: Global, field: &str) -> Result<Vec<u8>, RowErro
     Ok(image)
 }
 
-// Puts a sector into an image. The one behind the last whole sector is shorter.
+// Puts a sector into an image. The one after the last whole sector is shorter.
 fn put_sector(alloc: Global, image: &mut Vec<u8>, part: &str) -> Result<(), RowError> {
     let (lsn, digits) = part.split_once(':').ok_or(RowError::Missing)?;
     let lsn = number(lsn.parse::<u32>().ok())?;

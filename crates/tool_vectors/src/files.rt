@@ -25,8 +25,8 @@ impl Files {
         })
     }
 
-    /// Puts the bytes of a file in place of those that it had, and answers what a row tells of the
-    /// change: `-` if there is none.
+    /// Replaces the bytes of a file, and returns what a row says of the change: `-` if there is
+    /// none.
     pub(crate) fn write(
         &mut self,
         alloc: Global,
@@ -57,7 +57,7 @@ impl Files {
     }
 }
 
-// What a row tells of a file that has changed: its length, and its tree or the checksum of its bytes.
+// What a row says of a changed file: its length, and its tree or the checksum of its bytes.
 fn told(alloc: Global, name: &str, bytes: &[u8]) -> Result<String, AllocError> {
     let length = bytes.len();
     if name != "i" {

@@ -1,5 +1,5 @@
-//! Uses tools on disk images of which it is known from elsewhere what they answer and leave, a list of
-//! them a line, and prints how many there were and how many came out otherwise.
+//! Uses tools on disk images for which their answers and results are known from elsewhere, one list
+//! per line, and prints the number of commands and the number that differ.
 #![tactic(auto)]
 
 mod command;
@@ -16,8 +16,8 @@ use files::Files;
 use std::alloc::Global;
 use std::io::{BufRead, BufReader};
 
-/// How many commands were run, and of how many it is only known that their words are refused or that a
-/// file is missing.
+/// The number of commands that were run, and of those of which it is only known that their words
+/// are refused or that a file is missing.
 #[derive(Clone, Copy, Debug)]
 struct Counts {
     run: u64,

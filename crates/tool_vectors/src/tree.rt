@@ -14,7 +14,7 @@ const ENTRY: usize = 32;
 const OWN_ENTRIES: usize = 2;
 
 /// The tree of an image: a line for each file and each directory, in order of their bytes, and the
-/// numbers of free and of lost clusters, joined by `;`. Of an image that is not well formed its
+/// numbers of free and of lost clusters, joined by `;`. For an image that is not well formed, its
 /// fault.
 pub(crate) fn tree_text(alloc: Global, image: &[u8]) -> Result<String, AllocError> {
     let tree = match check(alloc, image) {
@@ -31,8 +31,8 @@ pub(crate) fn tree_text(alloc: Global, image: &[u8]) -> Result<String, AllocErro
     lines.join(alloc, ";")
 }
 
-/// The line of a file: its path, what its descriptor says, its size and the checksum of its bytes.
-/// That of a directory has the names of its entries in place of the last two.
+/// The line of a file: its path, its descriptor's fields, its size and the checksum of its bytes.
+/// For a directory the names of its entries replace the last two.
 fn line(alloc: Global, nodes: &Nodes, node: &Node) -> Result<String, AllocError> {
     let mut text = path(alloc, nodes, node)?;
     let bytes = node.bytes.bytes();
@@ -59,7 +59,7 @@ fn path(alloc: Global, nodes: &Nodes, node: &Node) -> Result<String, AllocError>
     Ok(text)
 }
 
-/// The names of a file and of the directories that it stands in, up to the root, which has none.
+/// The names of a file and of the directories above it, up to the root, which has none.
 fn names_up(alloc: Global, nodes: &Nodes, node: &Node) -> Result<Vec<Name>, AllocError> {
     let mut names = Vec::new(alloc);
     let mut place = node;
@@ -76,7 +76,7 @@ fn names_up(alloc: Global, nodes: &Nodes, node: &Node) -> Result<Vec<Name>, Allo
     Ok(names)
 }
 
-/// The file of this descriptor number. They stand by rising numbers.
+/// The file of this descriptor number. The nodes are in order of their numbers.
 fn node_of(nodes: &Nodes, fd: u32) -> Option<&Node> {
     let (mut low, mut high) = (0, nodes.len());
     while low < high {
@@ -94,7 +94,7 @@ fn node_of(nodes: &Nodes, fd: u32) -> Option<&Node> {
     None
 }
 
-/// Writes the names of the entries of a directory after those of its own, in their order and in
+/// Writes the names of the entries of a directory after its first two, in their order and in
 /// brackets, with `-` for a free one.
 fn write_entries(bytes: &[u8], text: &mut String) -> Result<(), AllocError> {
     text.push('[')?;
@@ -117,7 +117,7 @@ fn write_name(name: &Name, text: &mut String) -> Result<(), AllocError> {
     Ok(())
 }
 
-/// What the descriptor of a file says, up to the link count.
+/// The fields of the descriptor of a file, up to the link count.
 #[derive(Clone, Copy)]
 struct Described<'a>(&'a Node);
 

@@ -12,7 +12,7 @@ use rbf_check::{CheckError, Tree, check};
 use std::alloc::{AllocError, Global};
 use vol_tools::{NewFile, ToolFault, get, list, mkdir, put, remove};
 
-/// What a command answers.
+/// The answer of a command.
 #[derive(Drop)]
 pub(crate) enum Answer {
     /// The image is not well formed.
@@ -27,7 +27,7 @@ pub(crate) enum Answer {
     },
 }
 
-/// Does what words say, with the image `i` if they name one.
+/// Does what the words say, with the image `i` if they name one.
 pub(crate) fn use_tool(
     alloc: Global,
     words: &Words<'_>,
@@ -95,7 +95,7 @@ fn repaired(alloc: Global, words: &Words<'_>, image: &Vec<u8>) -> Result<Answer,
     }
 }
 
-// Uses a tool on a copy of a well formed image that is put into a drive.
+// Uses a tool on a copy of a well formed image in a drive.
 fn on_image(
     alloc: Global,
     words: &Words<'_>,
@@ -115,7 +115,7 @@ fn on_image(
     }
 }
 
-// What a tool answers that was used on a drive.
+// The answer of a tool that was used on a drive.
 #[derive(Drop)]
 enum Done {
     Number(u8),

@@ -3,7 +3,7 @@ use os9_base::registers::TimePacket;
 use std::alloc::Global;
 use time_text::read_time;
 
-/// When what a command makes is made, if it does not say it.
+/// The time at which a command makes things, if its words do not give one.
 const START: TimePacket = TimePacket {
     year: 90,
     month: 1,
@@ -13,7 +13,8 @@ const START: TimePacket = TimePacket {
     second: 0,
 };
 
-/// The words of a command: the verb, the image and what follows, the time, and the sectors of a cluster.
+/// The words of a command: the verb, the image and what follows, the time, and the sectors of a
+/// cluster.
 #[derive(Drop)]
 pub(crate) struct Words<'a> {
     pub(crate) plain: Vec<&'a str>,
@@ -21,7 +22,7 @@ pub(crate) struct Words<'a> {
     pub(crate) cluster: u16,
 }
 
-/// The option whose value the next word is.
+/// The option whose value is the next word.
 #[derive(Clone, Copy, Debug)]
 enum Waiting {
     None,
@@ -30,7 +31,7 @@ enum Waiting {
 }
 
 impl<'a> Words<'a> {
-    /// The words of a text, which commas separate. All of them are right ones.
+    /// The words of a text, separated by commas. All of them are valid.
     pub(crate) fn parse(alloc: Global, text: &'a str) -> Result<Words<'a>, RowError> {
         let mut words = Words {
             plain: Vec::new(alloc),
@@ -44,7 +45,7 @@ impl<'a> Words<'a> {
         Ok(words)
     }
 
-    // Takes a word, or the value that is waited for.
+    // Takes a word, or the value that the last option needs.
     fn take(&mut self, waiting: Waiting, word: &'a str) -> Result<Waiting, RowError> {
         match waiting {
             Waiting::Time => self.set_time(word)?,
@@ -59,7 +60,7 @@ impl<'a> Words<'a> {
         Ok(Waiting::None)
     }
 
-    // Takes a word that is no option, or an option with its value.
+    // Takes a word that is not an option, or an option with its value.
     fn add(&mut self, word: &'a str) -> Result<(), RowError> {
         if let Some(value) = word.strip_prefix("--time=") {
             return self.set_time(value);
@@ -81,7 +82,7 @@ impl<'a> Words<'a> {
         Ok(())
     }
 
-    /// The word in a place, which is empty if there are fewer.
+    /// The word in a place, or an empty one if there are fewer.
     pub(crate) fn at(&self, place: usize) -> &'a str {
         self.plain.get(place).copied().unwrap_or("")
     }

@@ -1,5 +1,5 @@
--- An attempt of a call on paths, files and directories by a process, as the laws speak of it (System Programmer's
--- Manual, "I/O service requests").
+-- An attempt of a call on paths, files and directories by a process, as the laws use it (System Programmer's Manual,
+-- "I/O service requests").
 use Rattle.std.specs.Prelude.{◌≡◌, ℕ, true, Some, Ok, List, length}
 use Rattle.os9_base.specs.declared.registers.Regs.{Regs}
 use Rattle.os9_base.specs.declared.registers.TimePacket.{TimePacket}
@@ -25,23 +25,23 @@ pub record Attempt : Type 0 where
   pub now : TimePacket
   pub process : ℕ
   pub result : CallResult
-  pub new : Files  -- the state then
+  pub new : Files  -- the state after it
   pub before : List TerminalState
   pub after : List TerminalState
   pub attempted : FileAttempts call inner files now process result new before after
 
--- the process that calls, and its registers
+-- the calling process, and its registers
 abbrev pub asker_in : Attempt → Asker
 asker_in it = asker_of it.inner it.process it.now
 
 abbrev pub regs_in : Attempt → Regs
 regs_in it = regs_at it.inner it.process
 
--- it comes to what one of the call on terminals and pipes comes to
+-- it has the result of an attempt of the device call
 abbrev pub IsAsOnDevice : Attempt → Type 0
 IsAsOnDevice it = IsOnDevice it.call it.inner it.files it.process it.result it.new it.before it.after
 
--- and it is one: it is on no file
+-- it is an attempt on a device: it is on no file
 abbrev pub OnDevice : Attempt → Type 0
 OnDevice it = IsAsOnDevice it × IsOnNoFile it.call (asker_in it) it.files (length it.before)
 
@@ -49,15 +49,15 @@ OnDevice it = IsAsOnDevice it × IsOnNoFile it.call (asker_in it) it.files (leng
 abbrev pub TouchesNone : Attempt → Type 0
 TouchesNone it = LeavesDevices it.call it.inner it.files it.now it.process it.result it.new it.before it.after
 
--- of input and output it leaves all but the position of a path and a new path of the process
+-- it leaves input and output unchanged, except for the position of a path and a new path of the process
 abbrev pub KeepsDevices : Attempt → Type 0
 KeepsDevices it = KeepsIo it.process it.files.io it.new.io
 
--- the table of its paths stays one
+-- the table of its paths stays in order
 abbrev pub KeepsPathTable : Attempt → Type 0
 KeepsPathTable it = KeepsTable it.files.io.paths it.new.io.paths
 
--- it is an attempt of a call that takes the number of a path, and this is the number
+-- it is an attempt of a call on the number of a path, and this is the number
 pub record IsOnNumber (it : Attempt) (number : ℕ) : Type 0 where
   pub device : IoCall
   pub device_is : device_call it.call ≡ Some device
@@ -82,11 +82,11 @@ way_to_create it list = way_to_new (asker_in it) it.files (length it.before) (is
 abbrev pub IsWithoutFiles : Attempt → Type 0
 IsWithoutFiles it = HasNoFiles it.files it.process
 
--- the drive that it reached failed in it, and the number of that fault is answered
+-- the drive that it reached failed in it, and it returns the number of that fault
 abbrev pub HasFault : Attempt → Type 0
 HasFault it =
     OneDriveFails (drive_reached it.call (asker_in it) it.files (length it.before)) it.files it.result it.new
 
--- the call that it is an attempt of
+-- the call of this attempt
 abbrev pub made_in : Attempt → Made
 made_in it = record { call = it.call; asker = asker_in it; files = it.files; terms = length it.before }

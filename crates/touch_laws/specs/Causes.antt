@@ -1,5 +1,5 @@
--- Why a call on files is refused that is none on a terminal or a pipe (System Programmer's Manual, "I/O service
--- requests"; OS-9 Technical Reference, Random Block File Manager), but for the fault of a drive.
+-- Why a call on files that is not a call on a terminal or a pipe is refused (System Programmer's Manual, "I/O service
+-- requests"; OS-9 Technical Reference, Random Block File Manager), except for the fault of a drive.
 use Rattle.std.specs.Prelude.{◌≡◌, ◌≢◌, ◌⊎◌, ℕ, ◌<◌, ◌≤◌, ◌||◌, ⊤, Bool, true, false, IsSome, Option, Some, None, Ok, Err, List, length, option_and_then, if◌then◌else◌}
 use Rattle.os9_base.specs.declared.errors.TheConstants.{E_BPADDR, E_BPNAM, E_BPNUM, E_BMODE, E_CEF, E_EOF, E_FNA, E_FULL, E_MNF, E_PNNF, E_PTHFUL, E_SHARE, E_SLF, E_UNKSVC}
 use Rattle.os9_base.specs.declared.registers.Regs.{Regs}
@@ -40,14 +40,14 @@ use Rattle.file_rules.specs.declared.places.FilePlace.{FilePlace}
 use Rattle.file_rules.specs.declared.status.TheConstants.{SS_ATTR, SS_FD, SS_POS, SS_SIZE}
 use Rattle.touch_laws.specs.Devices.{number_in}
 
--- a call that a process makes, on a machine with so many terminals
+-- a call that a process makes, on a machine with `terms` terminals
 pub record Made : Type 0 where
   pub call : PathCall
   pub asker : Asker
   pub files : Files
   pub terms : ℕ
 
--- ---- the list that it reads, and where that leads
+-- ---- the list that it reads, and the way of the list
 
 -- a call reads a path list
 abbrev pub reads_list : PathCall → Bool
@@ -59,7 +59,7 @@ reads_list Call.Delete = true
 reads_list Call.DeletX = true
 reads_list call = false
 
--- it makes what its list names, and not: it names what is there
+-- it makes what its list names; any other call names what exists
 abbrev pub makes_new : PathCall → Bool
 makes_new Call.Create = true
 makes_new Call.MakDir = true
@@ -71,13 +71,13 @@ deletes_name Call.Delete = true
 deletes_name Call.DeletX = true
 deletes_name call = false
 
--- it looks for execution, by its mode
+-- it walks for execution, by its mode
 abbrev pub executes : PathCall → ℕ → Bool
 executes Call.MakDir mode = false
 executes Call.Delete mode = false
 executes call mode = is_for_execution mode
 
--- the names that it walks along; what it makes or deletes is in the directory that it finds so
+-- the names that it walks along; a call that makes or deletes does so in the directory that it finds so
 abbrev pub walked : PathCall → List (List ℕ) → List (List ℕ)
 walked Call.Open names = names
 walked Call.ChgDir names = names
@@ -88,26 +88,26 @@ way_in m list =
     if makes_new m.call then way_to_new m.asker m.files m.terms (executes m.call m.asker.caller.regs.a) list
     else way_of m.asker m.files m.terms (executes m.call m.asker.caller.regs.a) list
 
--- its list leads this way
+-- its list has this way
 pub record Leads (m : Made) (way : Way) : Type 0 where
   pub reads : reads_list m.call ≡ true
   pub list : PathList
   pub read : list_of m.asker ≡ Ok list
   pub is : way_in m list ≡ way
 
--- the device at which a list starts, if it names one that is there
+-- the device at which a list starts, if the list names an existing one
 abbrev pub device_in : Made → PathList → Option Dev
 device_in m list = option_and_then (device_of (length m.files.drives) m.terms) list.device
 
--- a device that is no drive
+-- a device that is not a drive
 abbrev pub IsNoDrive : Dev → Type 0
 IsNoDrive (Device.Drive drive) = ⊥
 IsNoDrive (Device.Term terminal) = ⊤
 IsNoDrive Device.Pipe = ⊤
 
--- why a list leads nowhere, by the number
+-- why a list has no way, by the number
 pub data LeadsNowhere (m : Made) (list : PathList) (number : ℕ) : Type 0 where
-  -- the last name of what is to be made is that of a directory itself or of the one above it
+  -- the last name of a new file or directory is that of a directory itself or of the one above it
   dots : number ≡ E_BPNAM → makes_new m.call ≡ true → ends_in_dots list ≡ true → LeadsNowhere m list number
   -- the root of a drive is to be made
   root : number ≡ E_BPNAM → makes_new m.call ≡ true → is_root m.files m.terms list ≡ true → LeadsNowhere m list number
@@ -120,7 +120,7 @@ pub data LeadsNowhere (m : Made) (list : PathList) (number : ℕ) : Type 0 where
       → directory_of m.files m.asker.caller.process.0 (executes m.call m.asker.caller.regs.a) ≡ None
       → LeadsNowhere m list number
 
--- it walks along these names on a volume, and ends so
+-- it walks along these names on a volume, with this end
 pub record Walks (m : Made) (names : List (List ℕ)) (place : FilePlace) (v : DiskVolume) (end : WalkEnd) : Type 0 where
   pub leads : Leads m (along place names)
   pub mounted : volume_at m.files place.drive ≡ Some v
@@ -133,7 +133,7 @@ pub record Finds (m : Made) (names : List (List ℕ)) (found : Found) : Type 0 w
       (arrives found.place.number)
   pub there : found.volume.files found.place.number ≡ Some found.file
 
--- it makes or deletes something, finds a directory for it, and this is its name there
+-- it makes or deletes something, finds a directory for it, and this is the name in that directory
 pub record FindsIn (m : Made) (found : Found) (name : List ℕ) : Type 0 where
   pub enters : (makes_new m.call || deletes_name m.call) ≡ true
   pub names : List (List ℕ)
@@ -146,7 +146,7 @@ Names m found = open_file m.files m.asker.caller.process.0 (number_in m.call m.a
 
 -- ---- the cause of each number
 
--- the list breaks off at a byte that is not there, or the bytes that the call moves are not
+-- the list breaks off at a byte in no named slot, or the bytes that the call moves are not in named slots
 abbrev pub IsUnreadable : PathCall → Asker → Type 0
 IsUnreadable Call.Read asker = user_bytes asker.caller.cells asker.caller.regs.x asker.caller.regs.y ≡ None
 IsUnreadable Call.ReadLn asker = user_bytes asker.caller.cells asker.caller.regs.x asker.caller.regs.y ≡ None
@@ -157,7 +157,7 @@ IsUnreadable Call.GetStt asker =
     ⊎ (asker.caller.regs.b ≡ SS_FD) × (user_bytes asker.caller.cells asker.caller.regs.x (asked_bytes asker) ≡ None)
 IsUnreadable call asker = (reads_list call ≡ true) × (list_of asker ≡ Err Unreadable)
 
--- the mode of the call, or of its path, has no bit of those that it needs
+-- the mode of the call, or of its path, lacks the bits that the call needs
 abbrev pub LacksMode : PathCall → Asker → OpenFile → Type 0
 LacksMode Call.Read asker found = can_read found.opened.desc.mode ≡ false
 LacksMode Call.ReadLn asker found = can_read found.opened.desc.mode ≡ false
@@ -174,13 +174,13 @@ HasBadMode Call.DeletX mode = is_mode mode ≡ false
 HasBadMode Call.Create mode = can_write mode ≡ false
 HasBadMode call mode = ⊥
 
--- what is found may not be used so: a file that is opened, and a directory that a process goes to
+-- the found file may not be used so: the file to open, or the new directory of a process
 abbrev pub IsForbidden : PathCall → Asker → Found → Type 0
 IsForbidden Call.Open asker found = may_open found.file asker.user asker.caller.regs.a ≡ false
 IsForbidden Call.ChgDir asker found = may_go_to found.file asker.user asker.caller.regs.a ≡ false
 IsForbidden call asker found = ⊥
 
--- the directory may not be changed, or a file with bit 7 in its attributes is to be made there, or the file of this
+-- the directory may not be changed; or a file with bit 7 in its attributes is to be made there; or the file with this
 -- name there is to be deleted and may not be
 abbrev pub IsForbiddenIn : Made → Found → List ℕ → Type 0
 IsForbiddenIn m found name =
@@ -189,12 +189,12 @@ IsForbiddenIn m found name =
     ⊎ (n : ℕ) × (deletes_name m.call ≡ true) × (look_up found.file.contents name ≡ Some n)
     × (may_delete (found.volume.files n) m.asker.user ≡ false)
 
--- how many bytes a new file begins with
+-- the number of bytes of a new file
 abbrev pub first_size : PathCall → ℕ
 first_size Call.MakDir = new_directory_size
 first_size call = 0
 
--- a new file and its entry have no room on the volume, or the entry none in the segments of its directory
+-- a new file and its entry have no room on the volume, or the entry has none in the segments of its directory
 pub record HasNoRoom (m : Made) : Type 0 where
   pub makes : makes_new m.call ≡ true
   pub found : Found
@@ -210,7 +210,7 @@ pub record HasNoSegment (m : Made) : Type 0 where
   pub needs : 0 < entry_clusters (cluster_size found.volume) found.file
   pub full : length found.file.segments ≡ 48
 
--- the size that a call makes a file have; one that is to write nothing makes none
+-- the size that a call gives a file; a call that writes nothing gives none
 abbrev pub Sizes : PathCall → Asker → OpenFile → ℕ → Type 0
 Sizes Call.Write asker found size =
     (bytes : List ℕ) × (user_bytes asker.caller.cells asker.caller.regs.x asker.caller.regs.y ≡ Some bytes)
@@ -223,7 +223,7 @@ Sizes Call.PErr asker found size =
 Sizes Call.SetStt asker found size = (asker.caller.regs.b ≡ SS_SIZE) × (size ≡ long_of asker.caller.regs)
 Sizes call asker found size = ⊥
 
--- a file is to have a size for which too few clusters are free
+-- too few clusters are free for the size that a call gives a file
 pub record CannotGrow (m : Made) : Type 0 where
   pub found : OpenFile
   pub names : Names m found
@@ -231,7 +231,7 @@ pub record CannotGrow (m : Made) : Type 0 where
   pub asks : Sizes m.call m.asker found size
   pub full : free_total found.volume < clusters_needed (cluster_size found.volume) found.file.segments size
 
--- the change of a volume that the call is finds no place for a cluster in a list of segments
+-- the call changes a volume, and a list of segments has no place for a chosen cluster
 pub record FindsNoSegment (m : Made) : Type 0 where
   pub it : VolumeChange
   pub is : deed_of (file_step m.call m.asker m.files m.terms) m.files ≡ changes it
@@ -239,14 +239,14 @@ pub record FindsNoSegment (m : Made) : Type 0 where
   pub mounted : volume_at m.files it.drive ≡ Some v
   pub full : MayBeTooLong it.change v
 
--- the call is to take bytes from the position on, one at least, or asks whether there are any
+-- the call takes at least one byte from the position on, or asks whether there is one
 abbrev pub NeedsByte : PathCall → Regs → Type 0
 NeedsByte Call.Read regs = 0 < regs.y
 NeedsByte Call.ReadLn regs = 0 < regs.y
 NeedsByte Call.GetStt regs = regs.b ≡ SS_EOF
 NeedsByte call regs = ⊥
 
--- the call has no such status
+-- the call has no status with this code
 abbrev pub HasNoStatus : PathCall → ℕ → Type 0
 HasNoStatus Call.GetStt code =
     (code ≢ SS_OPT) × (code ≢ SS_READY) × (code ≢ SS_SIZE) × (code ≢ SS_POS) × (code ≢ SS_EOF) × (code ≢ SS_FD)

@@ -19,8 +19,8 @@ use Rattle.file_rules.specs.Way.{list_of, to_device, way_of, way_to_new}
 use Rattle.file_rules.specs.declared.path_call.PathCall.{PathCall}
 use Rattle.file_rules.specs.declared.path_call.PathCall.TheVariants as Call
 
--- the call that a call is on a terminal or a pipe. I$MakDir, I$ChgDir, I$Delete and I$DeletX are for files alone, and
--- I$Seek does nothing there
+-- the same call on a terminal or a pipe. I$MakDir, I$ChgDir, I$Delete and I$DeletX are for files only, and I$Seek does
+-- nothing there
 abbrev pub device_call : PathCall → Option IoCall
 device_call Call.Dup = Some Device.Dup
 device_call Call.Create = Some Device.Create
@@ -39,7 +39,7 @@ device_call Call.SetStt = Some Device.SetStt
 device_call Call.Close = Some Device.Close
 device_call Call.PErr = Some Device.PErr
 
--- a call is made on the number of a path; I$Open and I$Create take a path list
+-- a call is on the number of a path; I$Open and I$Create take a path list
 abbrev pub takes_number : IoCall → Bool
 takes_number Device.Open = false
 takes_number Device.Create = false
@@ -50,12 +50,12 @@ abbrev pub number_in : PathCall → Asker → ℕ
 number_in Call.PErr asker = STANDARD_ERROR
 number_in call asker = asker.caller.regs.a
 
--- what was opened is a terminal or a pipe, and no file or directory
+-- the target is a terminal or a pipe, and not a file or directory
 abbrev pub IsDevice : Target → Type 0
 IsDevice target = place_of_target target ≡ None
 
--- A call is on no file: its number names none, or its list leads to a terminal or a pipe. I$Dup and I$Close are the
--- same on all paths; I$MakDir, I$ChgDir, I$Delete and I$DeletX are on files alone.
+-- A call is on no file: its number names none, or its list names a terminal or a pipe. I$Dup and I$Close are the same
+-- on all paths; I$MakDir, I$ChgDir, I$Delete and I$DeletX are on files only.
 abbrev pub IsOnNoFile : PathCall → Asker → Files → ℕ → Type 0
 IsOnNoFile Call.Dup asker files terms = ⊤
 IsOnNoFile Call.Close asker files terms = ⊤
@@ -71,8 +71,9 @@ IsOnNoFile Call.Delete asker files terms = ⊥
 IsOnNoFile Call.DeletX asker files terms = ⊥
 IsOnNoFile call asker files terms = open_file files asker.caller.process.0 (number_in call asker) ≡ None
 
--- An attempt comes to what one of the call on terminals and pipes comes to; the directories of processes and the
--- volumes stay, and no drive fails. That the call is on no file is not said here: there is an answer for files too.
+-- An attempt has the result of an attempt of the call on terminals and pipes; the directories of processes and the
+-- volumes are unchanged, and no drive fails. This does not say that the call is on no file, since a file may give that
+-- result too.
 pub record IsOnDevice (call : PathCall) (inner : Inner) (files : Files) (p : ℕ) (result : CallResult) (new : Files)
     (before after : List TerminalState) : Type 0 where
   pub device : IoCall
@@ -82,8 +83,8 @@ pub record IsOnDevice (call : PathCall) (inner : Inner) (files : Files) (p : ℕ
   pub volumes : new.volumes ≡ files.volumes
   pub none_failed : NoneFailed files.drives new.drives
 
--- a call of a process waits: it is one of the call on terminals and pipes, on the number of a path on a terminal or a
--- pipe, and the paths are as they were
+-- a call of a process waits: it is a call on terminals and pipes, on the number of a path on a terminal or a pipe, and
+-- the paths are unchanged
 pub record WaitsOnDevice (call : PathCall) (inner : Inner) (io : Io) (p : ℕ) (new : Io) : Type 0 where
   pub device : IoCall
   pub device_is : device_call call ≡ Some device
@@ -93,7 +94,7 @@ pub record WaitsOnDevice (call : PathCall) (inner : Inner) (io : Io) (p : ℕ) (
   pub on : IsDevice opened.desc.target
   pub paths : new.paths ≡ io.paths
 
--- a path list leads to a terminal or a pipe
+-- a path list names a terminal or a pipe
 abbrev pub LeadsToDevice : Lead → Type 0
 LeadsToDevice (to_terminal terminal) = Unit {0}
 LeadsToDevice to_pipe = Unit {0}

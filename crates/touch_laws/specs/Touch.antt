@@ -1,5 +1,5 @@
--- What an attempt of a call on paths, files and directories touches of terminals, pipes, paths and calls that wait,
--- where it is none on a terminal or a pipe (Level Two manual, "I/O system"; System Programmer's Manual, "I/O service
+-- What an attempt of a call on paths, files and directories touches of terminals, pipes, paths and pending calls, if it
+-- is not a call on a terminal or a pipe (Level Two manual, "I/O system"; System Programmer's Manual, "I/O service
 -- requests").
 use Rattle.std.specs.Prelude.{◌≡◌, ◌≢◌, ◌⊎◌, ℕ, Bool, true, false, Option, Some, None, List, length, slice_set}
 use Rattle.os9_base.specs.declared.registers.Regs.{Regs}
@@ -33,7 +33,7 @@ moves_position Call.WritLn = true
 moves_position Call.PErr = true
 moves_position call = false
 
--- it begins a path
+-- it opens a path
 abbrev pub begins_path : PathCall → Bool
 begins_path Call.Create = true
 begins_path Call.Open = true
@@ -51,13 +51,13 @@ may_change_volume Call.SetStt = true
 may_change_volume Call.PErr = true
 may_change_volume call = false
 
--- the drive that an attempt of it reaches, if it reaches one, on a machine with so many terminals
+-- the drive that an attempt of it reaches, if any, on a machine with `terms` terminals
 abbrev pub drive_reached : PathCall → Asker → Files → ℕ → Option ℕ
 drive_reached call asker files terms = drive_of (file_step call asker files terms)
 
--- ---- how it ends
+-- ---- its end
 
--- the call is done: the process has these registers, and these bytes were stored where it sees them
+-- the call is done: the process has these registers, and these bytes were stored at its addresses
 pub record IsDone (inner : Inner) (p : ℕ) (result : CallResult) : Type 0 where
   pub regs : Regs
   pub at : ℕ
@@ -68,7 +68,7 @@ pub record IsDone (inner : Inner) (p : ℕ) (result : CallResult) : Type 0 where
 abbrev pub IsOver : Inner → ℕ → CallResult → Type 0
 IsOver inner p result = IsDone inner p result ⊎ ((number : ℕ) × (result ≡ refused number))
 
--- ---- what becomes of the paths
+-- ---- its effect on the paths
 
 -- the path on a file or a directory that the number of the call names has another position
 pub record MovesPosition (call : PathCall) (asker : Asker) (files : Files) (paths : PathTable) : Type 0 where
@@ -88,19 +88,19 @@ pub record BeginsPath (call : PathCall) (asker : Asker) (files : Files) (paths :
   pub on : place_of_target target ≡ Some place
   pub is : paths ≡ paths_after_begin files.io.paths asker.caller.process.0 (new_desc target asker.caller.regs.a)
 
--- the paths are as they were, or one of these changes them
+-- the paths are unchanged, or changed in one of these ways
 abbrev pub PathsMove : PathCall → Asker → Files → PathTable → Type 0
 PathsMove call asker files paths =
     (paths ≡ files.io.paths) ⊎ MovesPosition call asker files paths ⊎ BeginsPath call asker files paths
 
--- ---- what it leaves
+-- ---- its effect on the rest
 
 -- no volume has changed, and no drive has failed
 pub record NoVolumeChanges (files new : Files) : Type 0 where
   pub volumes : new.volumes ≡ files.volumes
   pub none_failed : NoneFailed files.drives new.drives
 
--- the volume of the drive that was reached has changed, no other one, and no drive has failed
+-- only the volume of the reached drive has changed, and no drive has failed
 pub record OneVolumeChanges (reached : Option ℕ) (files new : Files) : Type 0 where
   pub drive : ℕ
   pub reaches : reached ≡ Some drive
@@ -110,8 +110,8 @@ pub record OneVolumeChanges (reached : Option ℕ) (files new : Files) : Type 0 
   pub is : new.volumes ≡ slice_set files.volumes drive (Some changed)
   pub none_failed : NoneFailed files.drives new.drives
 
--- the drive that was reached has failed: the call is refused with the number of its fault, and no volume but its own
--- may have changed
+-- the reached drive has failed: the call is refused with the number of its fault, and only the volume of that drive may
+-- have changed
 pub record OneDriveFails (reached : Option ℕ) (files : Files) (result : CallResult) (new : Files) : Type 0 where
   pub drive : ℕ
   pub reaches : reached ≡ Some drive
@@ -123,17 +123,17 @@ pub record OneDriveFails (reached : Option ℕ) (files : Files) (result : CallRe
   pub left : DiskVolume
   pub is : new.volumes ≡ slice_set files.volumes drive (Some left)
 
--- what a refusal leaves, where this drive was reached or none: paths, pipes, terminals and directories as they were,
--- and the volumes too where no drive has failed. No call of the process waits then
+-- what a refusal leaves, if this drive was reached or none: paths, pipes, terminals and directories are unchanged, and
+-- without a drive fault the volumes too. The process has no pending call then
 pub record RefusalLeaves (reached : Option ℕ) (files : Files) (p : ℕ) (result : CallResult) (new : Files)
     : Type 0 where
   pub io : new.io ≡ with_call files.io p None
   pub directories : new.directories ≡ files.directories
   pub volumes : NoVolumeChanges files new ⊎ OneDriveFails reached files result new
 
--- an attempt touches no terminal and no pipe: of input and output the paths change alone, and no call of the process
--- waits then. The other processes keep their directories, and the process its own but in I$ChgDir. The volumes stay, or
--- that of the drive that is reached changes, in a call that changes one
+-- an attempt touches no terminal and no pipe: only the paths of input and output change, and the process has no pending
+-- call then. The other processes keep their directories, and the process keeps its own except in I$ChgDir. The volumes
+-- are unchanged, or that of the reached drive changes, in a call that changes one
 pub record LeavesDevices (call : PathCall) (inner : Inner) (files : Files) (now : TimePacket) (p : ℕ)
     (result : CallResult) (new : Files) (before after : List TerminalState) : Type 0 where
   pub over : IsOver inner p result
@@ -149,7 +149,7 @@ pub record LeavesDevices (call : PathCall) (inner : Inner) (files : Files) (now 
   pub refusal : (number : ℕ) → result ≡ refused number
       → RefusalLeaves (drive_reached call (asker_of inner p now) files (length before)) files p result new
 
--- the drive that was reached has failed, and the number of its fault is answered
+-- the reached drive has failed, and the call returns the number of its fault
 pub record FaultAnswers (reached : Option ℕ) (old : Files) (result : CallResult) (new : Files) : Type 0 where
   pub drive : ℕ
   pub reaches : reached ≡ Some drive
@@ -157,8 +157,8 @@ pub record FaultAnswers (reached : Option ℕ) (old : Files) (result : CallResul
   pub failed : OneFailed drive number old.drives new.drives
   pub answer : result ≡ refused number
 
--- what F$Load, F$Fork and F$Chain leave of all that calls on files change, where this drive was reached or none: only
--- what the drives counted is not as it was. The paths and directories of a child are given to it beside
+-- what F$Load, F$Fork and F$Chain leave of the state that calls on files change, if this drive was reached or none:
+-- only the counts of the drives may differ. The paths and directories of a child are given to it separately
 pub record LeavesFiles (reached : Option ℕ) (old : Files) (result : CallResult) (new : Files) : Type 0 where
   pub io : new.io ≡ old.io
   pub directories : new.directories ≡ old.directories
@@ -167,12 +167,12 @@ pub record LeavesFiles (reached : Option ℕ) (old : Files) (result : CallResult
 
 -- ---- the same by each path and each process
 
--- a path that a number names is the same path, opened on the same with the same mode; its position may have changed
+-- a number names the same path as before, with the same target and mode; its position may have changed
 pub record IsSamePath (old new : OpenPath) : Type 0 where
   pub path : new.path ≡ old.path
   pub desc : new.desc ≡ record old.desc { at = new.desc.at }
 
--- each path is still there by its numbers, and one on a terminal or a pipe is as it was. No path on a terminal or a
+-- each path is still there by its numbers, and one on a terminal or a pipe is unchanged. No path on a terminal or a
 -- pipe is new, and no other process has other numbers
 pub record KeepsPaths (p : ℕ) (old new : Io) : Type 0 where
   pub numbers : (q : ℕ) → q ≢ p → numbers_of new.paths q ≡ numbers_of old.paths q
@@ -183,24 +183,24 @@ pub record KeepsPaths (p : ℕ) (old new : Io) : Type 0 where
   pub no_device_new : (s : ℕ) (desc : Desc) → desc_of new.paths s ≡ Some desc → IsDevice desc.target
       → desc_of old.paths s ≡ Some desc
 
--- no call of the process waits; the calls of the others that wait are as they were, and there is a place for as many
+-- the process has no pending call; those of the others are unchanged, and the number of places for calls is the same
 pub record KeepsCalls (p : ℕ) (old new : Io) : Type 0 where
   pub none : kept_at new p ≡ None
   pub others : (q : ℕ) → q ≢ p → kept_at new q ≡ kept_at old q
   pub places : length new.calls ≡ length old.calls
 
--- and the terminals and pipes are as they were
+-- the same, and the terminals and pipes are unchanged
 pub record KeepsIo (p : ℕ) (old new : Io) : Type 0 where
   pub paths : KeepsPaths p old new
   pub calls : KeepsCalls p old new
   pub terminals : new.terminals ≡ old.terminals
   pub pipes : new.pipes ≡ old.pipes
 
--- every path that is there is held by some process
+-- every path in the table is held by some process
 abbrev pub AreHeld : PathTable → Type 0
 AreHeld paths = (s : ℕ) (desc : Desc) → desc_of paths s ≡ Some desc → is_held paths s ≡ true
 
--- the table of paths stays one, and each path in it stays held
+-- the table of paths stays in order, and each path in it stays held
 pub record KeepsTable (old new : PathTable) : Type 0 where
   pub paths : ArePaths old → ArePaths new
   pub held : AreHeld old → AreHeld new

@@ -30,32 +30,32 @@ ghost use Rattle.touch_laws.specs.Devices.{HasNoFiles, IsDevice, LeadsToDevice, 
 
 /// An attempt of a call on paths, files and directories is an attempt of a call on terminals and
 /// pipes, on no file, or of I$Dup or I$Close, which are the same on all paths; or it touches no
-/// terminal and no pipe. Then the position of the path that its number names changes, or the
-/// process has a new path on a file or a directory, or the paths stay; no call of it waits; the
-/// directories of processes stay but for those of its own in I$ChgDir; and the volumes stay, but
-/// for that of the drive that it reaches, in a call that changes one (System Programmer's Manual,
-/// "I/O service requests").
+/// terminal and no pipe. In the second case the position of the path that its number names changes,
+/// or the process has a new path on a file or a directory, or the paths are unchanged. The process
+/// has no pending call then. Directories of processes are unchanged, except the process's own in
+/// I$ChgDir. The volumes are unchanged, except that of the reached drive in a call that changes one
+/// (System Programmer's Manual, "I/O service requests").
 pub fn attempts_are_on_a_device_or_touch_none()
     ensures { (it : Attempt) → OnDevice it ⊎ TouchesNone it }
 {}
 
-/// An attempt that touches no terminal and no pipe leaves each path where it is, and those on
-/// terminals and pipes as they are; the path numbers of other processes, their calls that wait, the
-/// terminals and the pipes stay (Level Two manual, "I/O system").
+/// An attempt that touches no terminal and no pipe leaves each path on its target, and paths on
+/// terminals and pipes unchanged. Other processes' path numbers and pending calls, the terminals
+/// and the pipes are unchanged (Level Two manual, "I/O system").
 pub fn what_touches_no_device_keeps_input_and_output()
     ensures { (it : Attempt) → TouchesNone it → KeepsDevices it }
 {}
 
 /// An attempt that touches no terminal and no pipe leaves the table of paths in order: no number is
-/// an image of a path that is not there, and each path in it is held (Level Two manual, "Path
+/// an image of a path that does not exist, and each path in it is held (Level Two manual, "Path
 /// descriptors").
 pub fn what_touches_no_device_keeps_the_paths_in_order()
     ensures { (it : Attempt) → TouchesNone it → KeepsPathTable it }
 {}
 
-/// A call on the number of a path that is on no file and no directory, as on one of a terminal or a
-/// pipe, or on a number that names nothing, is the call on terminals and pipes, but for I$Seek,
-/// which they do not have (System Programmer's Manual, I$Read, I$Write and I$GetStt).
+/// A call on the number of a path that is not on a file or a directory, for example on a terminal
+/// or a pipe, or on a number that names nothing, is the call on terminals and pipes. I$Seek is an
+/// exception, since they do not have it (System Programmer's Manual, I$Read, I$Write and I$GetStt).
 pub fn numbers_of_devices_are_theirs()
     ensures number { (it : Attempt) (n : ℕ) → IsOnNumber it n
         → open_file it.files it.process n ≡ None → OnDevice it }
@@ -65,8 +65,8 @@ pub fn numbers_of_devices_are_theirs()
 {}
 
 /// An attempt that waits is one of a call on terminals and pipes on the number of a path on one,
-/// and leaves the paths as they are; and a call on the number of such a path, as each that waits is
-/// where it is attempted again, is that call (Level Two manual, "I/O system").
+/// and leaves the paths unchanged. A call on the number of such a path, for example a pending call
+/// that is attempted again, is a call on terminals and pipes (Level Two manual, "I/O system").
 pub fn calls_that_wait_are_on_devices()
     ensures waits { (it : Attempt) → IsSome (kept_at it.new.io it.process) → Waits it }
     ensures again { (it : Attempt) (n : ℕ) (opened : OpenPath) → IsOnNumber it n
@@ -74,8 +74,8 @@ pub fn calls_that_wait_are_on_devices()
         → OnDevice it }
 {}
 
-/// I$Open and I$Create of a path list that leads to a terminal or a pipe are those of terminals and
-/// pipes, also where their mode is refused (System Programmer's Manual, I$Open and I$Create).
+/// I$Open and I$Create of a path list of a terminal or a pipe are those of terminals and pipes,
+/// even if their mode is refused (System Programmer's Manual, I$Open and I$Create).
 pub fn lists_to_devices_are_theirs()
     ensures opened { (it : Attempt) (list : PathList) → it.call ≡ Call.Open → HasList it list
         → way_to_open it list ≡ to_device → OnDevice it }
@@ -83,9 +83,8 @@ pub fn lists_to_devices_are_theirs()
         → way_to_create it list ≡ to_device → OnDevice it }
 {}
 
-/// Where a path list leads to a terminal or a pipe, the list leads there also as I$Open and
-/// I$Create of terminals and pipes have it, and is not refused (System Programmer's Manual, I$Open
-/// and I$Create).
+/// If a path list names a terminal or a pipe, it also does so for I$Open and I$Create of terminals
+/// and pipes, and is not refused (System Programmer's Manual, I$Open and I$Create).
 pub fn lists_lead_to_the_same_devices()
     ensures opened { (asker : Asker) (files : Files) (terms : ℕ) (execute : Bool) (list : PathList)
         → way_of asker files terms execute list ≡ to_device
@@ -95,20 +94,20 @@ pub fn lists_lead_to_the_same_devices()
         → LeadsToDevice (lead_of a_new_place (length files.drives) terms list) }
 {}
 
-/// A refused call on paths, files and directories is one of the call on terminals and pipes, on no
-/// file, or I$Dup or I$Close; or the drive that it reached failed, whose fault it answers; or its
-/// number comes from its cause, which is of the list that it reads, of the walk along it, of what
-/// is found there, of the path that its number names, or of the room on the volume (System
-/// Programmer's Manual, "I/O service requests").
+/// A refused call on paths, files and directories is a call on terminals and pipes, on no file, or
+/// I$Dup or I$Close; or the drive that it reached failed, and it returns that fault; or its number
+/// has a cause. The cause is in the list that it reads, in the walk along it, in the file found
+/// there, in the path that its number names, or in the room on the volume (System Programmer's
+/// Manual, "I/O service requests").
 pub fn refusals_on_files_have_their_causes()
     ensures { (it : Attempt) (number : ℕ) → it.result ≡ refused number
         → OnDevice it ⊎ HasFault it ⊎ FileCause (made_in it) number }
 {}
 
-/// F$Load, and F$Fork and F$Chain of a program in a file, read a drive at most, and leave paths,
-/// pipes, terminals, calls that wait, directories and volumes as they are. If a drive fails, it is
-/// the one that their path list leads to, and they answer its fault. The paths of a child are given
-/// to it beside (System Programmer's Manual, F$Load, F$Fork and F$Chain).
+/// F$Load, and F$Fork and F$Chain of a program in a file, at most read a drive, and leave paths,
+/// pipes, terminals, pending calls, directories and volumes unchanged. If a drive fails, it is that
+/// of their path list, and they return its fault. The paths of a child are given to it separately
+/// (System Programmer's Manual, F$Load, F$Fork and F$Chain).
 pub fn loads_touch_no_device()
     ensures load { (m : Inner) (asker : Asker) (old : Files) (terms p : ℕ) (result : CallResult)
         (new : Files) → LoadAttempts m asker old terms p result new
@@ -121,11 +120,11 @@ pub fn loads_touch_no_device()
         → LeavesFiles (drive_of (program_file asker old terms (tests_program m p))) old result new }
 {}
 
-/// Where F$Load is refused, or F$Fork or F$Chain of a program in a file, the drive failed that its
-/// path list leads to, and its fault is answered; or the number comes from its cause, which is of
-/// the list, of the walk along it and of what is found there, as I$Open with the mode for execution
-/// has it, of the modules of the file, of what the call tests, or of what it does with the first
-/// module (System Programmer's Manual, F$Load, F$Fork and F$Chain).
+/// If F$Load, or F$Fork or F$Chain of a program in a file, is refused, the drive of its path list
+/// failed, and it returns that fault; or the number has a cause. The cause is in the list, in the
+/// walk along it and in the file found there, as for I$Open with the execution mode, in the modules
+/// of the file, in the tests of the call, or in its use of the first module (System Programmer's
+/// Manual, F$Load, F$Fork and F$Chain).
 pub fn refusals_of_loads_have_their_causes()
     ensures load { (m : Inner) (asker : Asker) (old : Files) (terms p number : ℕ) (new : Files)
         → LoadAttempts m asker old terms p (refused number) new
@@ -141,18 +140,18 @@ pub fn refusals_of_loads_have_their_causes()
         (refused number) new ⊎ ChainCause m asker old terms p number }
 {}
 
-/// The code of a call on paths, files and directories is that of the call that it is on a terminal
-/// or a pipe; that of a call on files alone, and of I$Seek, is no call's there (System Programmer's
-/// Manual, "System calls").
+/// The code of a call on paths, files and directories is the code of the same call on a terminal or
+/// a pipe. The code of a call on files only, or of I$Seek, belongs to no call there (System
+/// Programmer's Manual, "System calls").
 pub fn codes_are_the_same_on_devices()
     ensures coded { (code : ℕ) (call : PathCall) → path_call_of code ≡ Some call
         → io_call_of code ≡ device_call call }
     ensures none { (code : ℕ) → path_call_of code ≡ None → io_call_of code ≡ None }
 {}
 
-/// Without a mounted volume and a directory of the process, each call that terminals and pipes have
-/// comes to what theirs comes to, also where its path list leads nowhere; and each of theirs is one
-/// (this project's own).
+/// Without a mounted volume and without a directory of the process, each call that terminals and
+/// pipes have gives the result of theirs, even if its path list names nothing; and each result of
+/// theirs is a result of such a call (this project's own).
 pub fn without_files_calls_are_those_of_devices()
     ensures attempt { (it : Attempt) → IsWithoutFiles it → IsSome (device_call it.call)
         → IsAsOnDevice it }

@@ -1,5 +1,5 @@
-//! Laws of the calls on files: what an attempt touches of terminals, pipes, paths and calls that
-//! wait.
+//! Laws of the calls on files: what an attempt touches of terminals, pipes, paths and pending
+//! calls.
 #![tactic(auto)]
 
 pub mod laws;

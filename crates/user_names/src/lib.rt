@@ -1,5 +1,5 @@
 //! Names that a program gives by their addresses: they are read byte by byte from its memory, and
-//! no byte is read that need not be.
+//! no more bytes are read than needed.
 #![tactic(auto)]
 
 pub mod name_fault;

@@ -6,7 +6,7 @@ pub enum NameFault {
     /// A byte that has to be read is in no named slot, or past `FFFF`: error 210.
     #[error("bad address")]
     Unreadable,
-    /// The bytes are no name.
+    /// The bytes are not a name.
     #[error("bad name")]
     NoName,
 }

@@ -23,8 +23,8 @@ pub fn user_byte<M: UserMem>(memory: &M, at: u16, offset: u16) -> Option<u8>
 }
 
 /// Reads the name at an address (System Programmer's Manual, F$PrsNam): the longest run of letters,
-/// digits, `_` and `.`, which a character with bit 7 ends. The byte behind a name is read too,
-/// unless bit 7 ended it. Of a run of 30 characters or more 30 bytes are read.
+/// digits, `_` and `.`, which a character with bit 7 ends. The byte after a name is read too,
+/// unless bit 7 ended the name. Of a run of 30 characters or more 30 bytes are read.
 ///
 /// # Errors
 ///
@@ -43,8 +43,8 @@ pub fn read_name<M: UserMem>(memory: &M, at: u16) -> Result<Name, NameFault>
     }
 }
 
-/// Reads the bytes of a run from an address on into the front of a buffer, and answers how many
-/// they are; None if one of them is in no named slot or past `FFFF`.
+/// Reads the bytes of a run from an address on into the front of a buffer. Returns the number of
+/// bytes, or None if one of them is in no named slot or past `FFFF`.
 pub fn read_run<M: UserMem>(memory: &M, at: u16, into: &mut [u8]) -> Option<usize>
     requires { length into.old ≡ 30 }
     ensures none { IfNone result (run_bytes (M.cells memory.now) at 30 ≡ None) }
@@ -63,7 +63,7 @@ pub fn read_run<M: UserMem>(memory: &M, at: u16, into: &mut [u8]) -> Option<usiz
     Some(MOST_READ as usize)
 }
 
-/// Does a run of name characters go on behind this byte?
+/// Does a run of name characters go on after this byte?
 fn goes_on(byte: u8) -> bool
     ensures { result ≡ goes_on_lem byte }
 {

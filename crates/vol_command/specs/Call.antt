@@ -11,11 +11,11 @@ use Rattle.vol_command.specs.Left.{LeavesQuiet, VolLeaves, VolLeavesFiles, VolMa
 use Rattle.vol_command.specs.Vol.{MakesBy, VolComesTo, vol_file_name, vol_inputs, vol_tool}
 use Rattle.vol_command.specs.declared.made.Made.{Made}
 
--- it was done, and ended so
+-- it was done, with this end
 pub record VolCall (vol : VolWords) (before after : World) (end : End) : Type 0 where
-  -- what came of it, if that can be observed
+  -- its result, if that can be observed
   pub comes : IfSome before.files (λ files. VolComesTo files vol before after end)
-  -- and what is so, observed or not
+  -- and what holds, observed or not
   pub may : VolMayEnd vol.verb end
   pub devices : VolLeaves vol.verb before after end
   pub host : FailsAsTold (vol_file_name vol) end before after
@@ -27,7 +27,7 @@ NotesVol vol end before after = NotesFiles (vol_file_name vol) (vol_inputs vol) 
 
 -- ---- before anything is printed or written
 
--- the verb was done, with this answer and image, and the host and the devices are as they were
+-- the verb was done, with this answer and image; the host and the devices are unchanged
 pub record MakesQuietly (vol : VolWords) (made : Made) (before after : World) : Type 0 where
   pub makes : IfSome before.files (λ files.
       MakesBy (vol_tool files vol) vol (file_contents files vol.image) made.answer.items made.image.items)
@@ -36,7 +36,7 @@ pub record MakesQuietly (vol : VolWords) (made : Made) (before after : World) : 
   pub no_fault : HasNoFault before after
   pub devices : LeavesQuiet before after
 
--- or it ended
+-- the same, or it ended
 abbrev pub MakesCall : VolWords → Result Made End → World → World → Type 0
 MakesCall vol (Ok made) before after = MakesQuietly vol made before after
 MakesCall vol (Err end) before after = VolCall vol before after end

@@ -1,4 +1,4 @@
--- How `vol` may end, and what it leaves (this project's own).
+-- The possible ends of `vol`, and what it leaves (this project's own).
 use Rattle.std.specs.Prelude.{◌≡◌, ℕ, ⊤, List, []}
 use Rattle.os9_outer.specs.Host.{IfObserved}
 use Rattle.os9_words.specs.Notes.{HasWritten, Notes}
@@ -17,15 +17,15 @@ use Rattle.command_files.specs.declared.status.Input.{Input}
 use Rattle.command_files.specs.declared.status.Input.TheVariants.{File, Image}
 use Rattle.vol_command.specs.Vol.{vol_outputs}
 
--- ---- how it may end
+-- ---- its possible ends
 
--- FILE of `get` alone is written, and `dir` and `get` write no image
+-- only FILE of `get` is written, and `dir` and `get` do not write an image
 abbrev pub WritesImage : Verb → Type 0
 WritesImage Get = ⊥
 WritesImage Dir = ⊥
 WritesImage verb = ⊤
 
--- it reads the image, but not for `format`, and FILE of `put`
+-- it reads the image, except for `format`, and FILE of `put`
 abbrev pub ReadsInput : Verb → Input → Type 0
 ReadsInput Format input = ⊥
 ReadsInput verb (Image number) = number ≡ 0
@@ -63,23 +63,23 @@ VolMayEnd verb end = ⊥
 
 -- ---- what it leaves
 
--- the terminals and the media are as they were, and no drive has failed
+-- the terminals and the media are unchanged, and no drive has failed
 pub record LeavesQuiet (before after : World) : Type 0 where
   pub terminals : after.devices.terms ≡ before.devices.terms
   pub none_failed : NoneFailed (drive_states before.devices.drives) (drive_states after.devices.drives)
   pub media_kept : media_of after.devices.drives ≡ media_of before.devices.drives
 
--- and the output, if the verb prints no lines
+-- and the output is unchanged, if the verb prints no lines
 pub record LeavesMade (verb : Verb) (before after : World) : Type 0 where
   pub quiet : LeavesQuiet before after
   pub out : ¬ PrintsLines verb → after.out ≡ before.out
 
--- and the output
+-- and the output is unchanged
 pub record LeavesUnprinted (before after : World) : Type 0 where
   pub out : after.out ≡ before.out
   pub quiet : LeavesQuiet before after
 
--- of the output and the devices, observed or not
+-- for the output and the devices, observed or not
 abbrev pub VolLeaves : Verb → World → World → End → Type 0
 VolLeaves verb before after (DriveFailed drive number) = FailsToMount 1 drive number before after
 VolLeaves verb before after (Refused number) = LeavesUnprinted before after
@@ -87,7 +87,7 @@ VolLeaves verb before after (CannotRead input) = IsSilent before after
 VolLeaves verb before after (BadImage number fault) = IsSilent before after
 VolLeaves verb before after end = LeavesMade verb before after
 
--- of the files: only behind what it prints it writes one
+-- for the files: it writes one only after all that it prints
 abbrev pub VolLeavesFiles : VolWords → World → World → End → Type 0
 VolLeavesFiles vol before after Ended = IfObserved (ChangesOnly (vol_outputs vol)) before.files after.files
 VolLeavesFiles vol before after (CannotWriteImage number) =
@@ -97,8 +97,8 @@ VolLeavesFiles vol before after CannotWriteFile =
 VolLeavesFiles vol before after NoMemory = IfObserved (ChangesOnly (vol_outputs vol)) before.files after.files
 VolLeavesFiles vol before after end = after.files ≡ before.files
 
--- the files that it has written: its one file when it is done or that could not be written, it or none if memory was
--- out, and else none
+-- the files that it has written: its one file if it is done or that could not be written; that one or none if out of
+-- memory; otherwise none
 abbrev pub VolWrites : VolWords → End → List (List ℕ) → Type 0
 VolWrites vol Ended written = written ≡ vol_outputs vol
 VolWrites vol (CannotWriteImage number) written = written ≡ vol_outputs vol
@@ -106,7 +106,7 @@ VolWrites vol CannotWriteFile written = written ≡ vol_outputs vol
 VolWrites vol NoMemory written = IsFront written (vol_outputs vol)
 VolWrites vol end written = written ≡ []
 
--- as the host notes it
+-- the same in the host's notes
 pub record NotesOutputs (vol : VolWords) (end : End) (before after : Notes) : Type 0 where
   pub written : List (List ℕ)
   pub writes : VolWrites vol end written

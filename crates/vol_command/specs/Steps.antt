@@ -1,4 +1,4 @@
--- The steps of `vol`: the files that are read, what is made of them, and what is printed and written.
+-- The steps of `vol`: the files that it reads, what it makes of them, and what it prints and writes.
 use Rattle.std.specs.Prelude.{◌≡◌, ◌≢◌, ◌⊎◌, ℕ, ⊤, Some, List, [], OnOk, Result, Ok, Err}
 use Rattle.os9_outer.specs.Host.{Files, file_contents, IfObserved}
 use Rattle.os9_outer.specs.Stream.{GainsPrefix, stream_with}
@@ -40,7 +40,7 @@ pub record HasVolFiles (files : Files) (vol : VolWords) (read : VolFiles) : Type
 
 -- ---- the drive
 
--- a tool was used on the image in a drive, and answered so
+-- a tool was used on the image in a drive, with this answer
 pub record UsesDrive {A : Type 0} (use_ : Use) (bytes : A → List ℕ) (answer : Result A ToolFault)
     (old new : DriveView) : Type 0 where
   pub answers : OnVolumeBefore use_ bytes old.media new.media answer
@@ -48,13 +48,13 @@ pub record UsesDrive {A : Type 0} (use_ : Use) (bytes : A → List ℕ) (answer 
   pub others : OnOk answer (OnMedia (KeepsOthersBy use_.tool) old.media new.media)
   pub counts : MovesFaults (tool_fault answer) old.counts new.counts
 
--- how a command ends whose tool ended so
+-- the end of a command whose tool ended with this fault
 abbrev pub fault_end : ToolFault → End
 fault_end (Number number) = Refused number
 fault_end (Device number) = DriveFailed 0 number
 fault_end OutOfMemory = NoMemory
 
--- a tool was used on an image in D0: what it made; or why it ended
+-- a tool was used on an image in D0: its result, or why it ended
 abbrev pub UsesImage : Tool → VolWords → List ℕ → Result Made End → Type 0
 UsesImage tool vol old (Ok made) = IsUsed tool vol old made.answer.items made.image.items
 UsesImage tool vol old (Err (Refused number)) = RefusesBy (Some tool) vol old number
@@ -62,15 +62,15 @@ UsesImage tool vol old (Err (DriveFailed drive number)) = drive ≡ 0
 UsesImage tool vol old (Err NoMemory) = ⊤
 UsesImage tool vol old (Err end) = ⊥
 
--- D0 has failed with the fault that ended the command, and no other drive; or none has. If the image was refused, no
--- drive was reached.
+-- only D0 has failed, with the fault that ended the command; or no drive has failed. If the image was refused, no drive
+-- was accessed.
 abbrev pub DrivesFail : {A : Type 0} → Result A End → List DriveView → List DriveView → Type 0
 DrivesFail (Err (DriveFailed drive number)) before after =
     OneFailed drive number (drive_states before) (drive_states after)
 DrivesFail (Err (BadImage number fault)) before after = after ≡ before
 DrivesFail answer before after = NoneFailed (drive_states before) (drive_states after)
 
--- the drives behind it: without images, as they were
+-- the drives afterwards: without images, as before
 pub record DrivesAfter {A : Type 0} (answer : Result A End) (before after : List DriveView) : Type 0 where
   pub fails : DrivesFail answer before after
   pub media_kept : media_of after ≡ media_of before
@@ -93,7 +93,7 @@ pub record HasFault (verb : Verb) (image : List ℕ) (number : ℕ) (fault : Che
   pub reads : ReadsInput verb (Image number)
   pub is : IsFault image fault.rule fault.lsn
 
--- of an image and the bytes of FILE: what the verb has made, or why it has not
+-- for an image and the bytes of FILE: what the verb has made, or why it has not
 abbrev pub MakesOf : VolWords → (image bytes : List ℕ) → Result Made End → Type 0
 MakesOf vol image bytes (Ok made) =
     MakesBy (tool_of vol.verb (path_of vol) bytes) vol image made.answer.items made.image.items
@@ -103,7 +103,7 @@ MakesOf vol image bytes (Err (DriveFailed drive number)) = FailsOn vol.verb imag
 MakesOf vol image bytes (Err NoMemory) = ⊤
 MakesOf vol image bytes (Err end) = ⊥
 
--- a disk was formatted; or memory was out
+-- a disk was formatted; or out of memory
 abbrev pub FormatsDisk : VolWords → Result Made End → Type 0
 FormatsDisk vol (Ok made) = IsFormatted vol made.answer.items made.image.items
 FormatsDisk vol (Err NoMemory) = ⊤
@@ -114,14 +114,14 @@ pub record IsMended (old answer image : List ℕ) : Type 0 where
   pub used : (vol : VolWords) → IsUsed repair vol old answer image
   pub bits : ClearsLost old image
 
--- so it was done; or the image was refused, or memory was out
+-- the same; or the image was refused, or out of memory
 abbrev pub RepairsImage : List ℕ → Result Made End → Type 0
 RepairsImage old (Ok made) = IsMended old made.answer.items made.image.items
 RepairsImage old (Err (BadImage number fault)) = (number ≡ 0) × IsFault old fault.rule fault.lsn
 RepairsImage old (Err NoMemory) = ⊤
 RepairsImage old (Err end) = ⊥
 
--- the image was refused, or memory was out
+-- the image was refused, or out of memory
 abbrev pub RefusesImage : List ℕ → End → Type 0
 RefusesImage image (BadImage number fault) = (number ≡ 0) × IsFault image fault.rule fault.lsn
 RefusesImage image NoMemory = ⊤
@@ -129,11 +129,11 @@ RefusesImage image end = ⊥
 
 -- ---- what is printed and written
 
--- a file was written, in part or not
+-- the file may have been written in part
 pub record StopsOutput (vol : VolWords) (written : List (List ℕ)) (before after : World) : Type 0 where
   pub part : IfObserved (WritesUpTo 0 (vol_outputs vol) written) before.files after.files
 
--- how the write ended
+-- the end of the write
 abbrev pub WritesEnd : VolWords → List (List ℕ) → World → World → End → Type 0
 WritesEnd vol written before after Ended =
     HasNoFault before after × IfObserved (WritesAll (vol_outputs vol) written) before.files after.files
@@ -146,7 +146,7 @@ WritesEnd vol written before after CannotWriteFile =
 WritesEnd vol written before after NoMemory = HasNoFault before after × StopsOutput vol written before after
 WritesEnd vol written before after end = ⊥
 
--- the file of the verb was written; the output and the devices stay
+-- the file of the verb was written; the output and the devices are unchanged
 pub record WritesMade (vol : VolWords) (answer image : List ℕ) (end : End) (before after : World) : Type 0 where
   pub ends : WritesEnd vol (written_of vol.verb answer image) before after end
   pub out : after.out ≡ before.out

@@ -1,4 +1,4 @@
--- What `vol` does (this project's own; the tools are those of tool_rules).
+-- The results of `vol` (this project's own; the tools are those of tool_rules).
 use Rattle.std.specs.Prelude.{◌≡◌, ◌≢◌, ◌⊎◌, ℕ, ⊤, Option, Some, None, List, [], ◌∷◌, slice_get, unwrap_or}
 use Rattle.os9_outer.specs.Host.{Files, file_contents, IfObserved}
 use Rattle.os9_outer.specs.Stream.{GainsPrefix, stream_with}
@@ -38,7 +38,7 @@ vol_file_name vol (Image number) = Some vol.image
 vol_file_name vol File = slice_get vol.rest 1
 vol_file_name vol input = None
 
--- the files that it reads: the image, but not for `format`, and then FILE of `put`
+-- the files that it reads: the image, except for `format`, and then FILE of `put`
 abbrev pub file_names : Verb → VolWords → List (List ℕ)
 file_names Put vol = file_of vol ∷ []
 file_names verb vol = []
@@ -50,7 +50,7 @@ inputs_of verb vol = vol.image ∷ file_names verb vol
 abbrev pub vol_inputs : VolWords → List (List ℕ)
 vol_inputs vol = inputs_of vol.verb vol
 
--- the files that it writes when it is done: FILE of `get`, none for `dir`, and else the image
+-- the files that it writes if it is done: FILE of `get`, none for `dir`, otherwise the image
 abbrev pub outputs_of : Verb → VolWords → List (List ℕ)
 outputs_of Get vol = file_of vol ∷ []
 outputs_of Dir vol = []
@@ -61,7 +61,7 @@ vol_outputs vol = outputs_of vol.verb vol
 
 -- ---- what is made
 
--- the tool of a verb, with these bytes of FILE; a disk that is formatted is made by none
+-- the tool of a verb, with these bytes of FILE; `format` has none
 abbrev pub tool_of : Verb → List ℕ → List ℕ → Option Tool
 tool_of Format path bytes = None
 tool_of Put path bytes = Some (put path bytes)
@@ -71,24 +71,24 @@ tool_of Delete path bytes = Some (remove path)
 tool_of Dir path bytes = Some (list path)
 tool_of Repair path bytes = Some repair
 
--- over what the files hold
+-- the same over the contents of the files
 abbrev pub vol_tool : Files → VolWords → Option Tool
 vol_tool files vol = tool_of vol.verb (path_of vol) (file_contents files (file_of vol))
 
--- what is printed of a tool's answer: the lines of `dir` and of `repair`
+-- the printed part of a tool's answer: the lines of `dir` and of `repair`
 abbrev pub printed_of : Verb → List ℕ → List ℕ
 printed_of Dir answer = answer
 printed_of Repair answer = answer
 printed_of verb answer = []
 
--- what is written: the answer of `get`, and else the image
+-- what is written: the answer of `get`, otherwise the image
 abbrev pub written_of : Verb → (answer image : List ℕ) → List (List ℕ)
 written_of Get answer image = answer ∷ []
 written_of Dir answer image = []
 written_of verb answer image = image ∷ []
 
--- a tool was used on the volume of an image, and gave this answer and that of another image, which has the same LSN 0,
--- the same bits of the map that no whole cluster has, and the same other sectors, as far as the tool has to keep them
+-- a tool was used on the volume of an image, with this answer and the volume of another image, which has the same LSN
+-- 0, the same bits of the map without a whole cluster, and the same other sectors, if the tool must keep them
 pub record IsUsed (tool : Tool) (vol : VolWords) (old answer image : List ℕ) : Type 0 where
   pub before : DiskVolume
   pub was : Vol old before
@@ -104,7 +104,7 @@ pub record ClearsLost (old image : List ℕ) : Type 0 where
   pub was : Vol old volume
   pub bits : ClearsBits old image (lost_clusters (image_geometry old) volume)
 
--- as `repair` does
+-- the same for `repair`
 abbrev pub ChangesBits : Verb → (old image : List ℕ) → Type 0
 ChangesBits Repair old image = ClearsLost old image
 ChangesBits verb old image = ⊤
@@ -114,13 +114,13 @@ pub record IsDone (tool : Tool) (vol : VolWords) (old answer image : List ℕ) :
   pub used : IsUsed tool vol old answer image
   pub bits : ChangesBits vol.verb old image
 
--- a disk was formatted, and is clear behind what its volume has
+-- a disk was formatted, and is clear outside its volume
 pub record IsFormatted (vol : VolWords) (answer image : List ℕ) : Type 0 where
   pub is : Vol image (blank_volume vol.sectors vol.cluster vol.start)
   pub clean : IsClean image vol.sectors vol.cluster
   pub silent : answer ≡ []
 
--- the verb was done: it has this answer, and has made this image
+-- the verb was done, with this answer, and has made this image
 abbrev pub MakesBy : Option Tool → VolWords → (old answer image : List ℕ) → Type 0
 MakesBy None vol old answer image = IsFormatted vol answer image
 MakesBy (Some tool) vol old answer image = IsDone tool vol old answer image
@@ -140,7 +140,7 @@ RefusesBy (Some tool) vol old number =
 
 -- ---- how it ends
 
--- the verb was done, and this came of what it made
+-- the verb was done, and `then_` holds for what it printed and wrote
 pub record MakesThen (files : Files) (vol : VolWords) (then_ : List ℕ → List (List ℕ) → Type 0) : Type 0 where
   pub out : List ℕ
   pub written : List (List ℕ)
@@ -153,7 +153,7 @@ pub record PrintsAndWrites (names : List (List ℕ)) (before after : World) (out
   pub output : after.out ≡ stream_with before.out out
   pub files : IfObserved (WritesAll names written) before.files after.files
 
--- its lines were printed, and of its file a part may be written
+-- its lines were printed, and a part of its file may be written
 pub record PrintsAndStops (names : List (List ℕ)) (before after : World) (out : List ℕ) (written : List (List ℕ))
     : Type 0 where
   pub output : after.out ≡ stream_with before.out out
@@ -170,7 +170,7 @@ pub record IsUntouched (before after : World) : Type 0 where
   pub output : after.out ≡ before.out
   pub files : after.files ≡ before.files
 
--- what comes of it, by how it ends
+-- the result, by how it ends
 abbrev pub VolComesTo : Files → VolWords → World → World → End → Type 0
 VolComesTo files vol before after Ended =
     MakesThen files vol (PrintsAndWrites (vol_outputs vol) before after)

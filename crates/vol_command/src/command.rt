@@ -20,11 +20,11 @@ use os9_outer::terminal::CharDriver;
 use os9_words::vol_words::{Verb, VolWords};
 use std::alloc::Global;
 
-/// `vol VERB IMAGE ..` (this project's own): reads the image, but not for `format`, and FILE of `put`;
-/// checks the image; does what the verb says, for user 0, with the image in D0; prints the lines of
-/// `dir` and `repair`; and writes FILE of `get`, no file for `dir`, and else the image.
+/// `vol VERB IMAGE ..` (this project's own): reads the image, except for `format`, and FILE of
+/// `put`; checks the image; does what the verb says, for user 0, with the image in D0; prints the
+/// lines of `dir` and `repair`; and writes FILE of `get`, no file for `dir`, otherwise the image.
 ///
-/// No image is in a drive before the call or behind it. If the image is not well formed, the tool is
+/// No image is in a drive before or after the call. If the image is not well formed, the tool is
 /// refused or the drive fails, no file is written.
 pub fn do_vol<H: Host>(alloc: Global, vol: &VolWords, host: &mut H, devices: &mut Devices) -> End
     requires words { IsVol vol.now }

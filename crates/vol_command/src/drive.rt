@@ -1,4 +1,4 @@
-//! A tool is used on an image in D0.
+//! A tool used on an image in D0.
 
 ghost use Rattle.std.specs.Prelude.{◌≡◌, ◌<◌, Some, slice_get, vec_len};
 ghost use Rattle.rbf_access.specs.Mounted.{IsSound};
@@ -20,11 +20,11 @@ use os9_words::vol_words::VolWords;
 use std::alloc::Global;
 use vol_tools::ToolFault;
 
-/// Puts an image, which is well formed, into D0, uses a tool on its volume, and takes it out.
+/// Puts a well formed image into D0, uses a tool on its volume, and takes it out.
 ///
 /// # Errors
 ///
-/// The end of the command: the tool is refused, the drive fails, or memory is out.
+/// The end of the command: the tool is refused, the drive fails, or out of memory.
 pub fn use_on_image(
     alloc: Global,
     vol: &VolWords,
@@ -58,7 +58,7 @@ pub fn use_on_image(
     }
 }
 
-/// How the command ends whose tool ended so.
+/// The end of a command whose tool ended with this fault.
 fn end_of_fault(fault: ToolFault) -> End
     ensures { result ≡ fault_end fault }
 {

@@ -1,4 +1,4 @@
-//! The files that the words of `vol` name are read.
+//! The files that `vol` reads by its words.
 
 ghost use Rattle.std.specs.Prelude.{◌≡◌, ◌≢◌, ◌∷◌, [], IfErr, IfOk, IfSome, OnOk};
 ghost use Rattle.os9_outer.specs.Host.{file_contents};

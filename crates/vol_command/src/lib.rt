@@ -1,4 +1,4 @@
-//! `vol`: the image of a disk is made, looked into, changed or repaired.
+//! `vol`: makes, reads, changes or repairs the image of a disk.
 #![tactic(auto)]
 
 pub use command::do_vol;

@@ -24,7 +24,7 @@ pub fn path_of(vol: &VolWords) -> &str
     word_at(vol, 0)
 }
 
-/// The word behind the image at a place, from 0; empty where there are fewer.
+/// The word at a place after the image, from 0; empty if there are fewer.
 fn word_at(vol: &VolWords, place: u32) -> &str
     ensures { result.now ≡ unwrap_or (slice_get vol.now.rest place) [] }
 {

@@ -1,4 +1,4 @@
-//! What a verb of `vol` has made is printed and written.
+//! The printing and writing of the result of a verb of `vol`.
 
 ghost use Rattle.std.specs.Prelude.{◌≡◌, ℕ, List};
 ghost use Rattle.os9_kernel.specs.Outside.{Outside};
@@ -15,7 +15,8 @@ use command_files::status::End;
 use os9_outer::host::{Host, HostFault};
 use os9_words::vol_words::{Verb, VolWords};
 
-/// Prints what the verb answers, and writes its file: FILE of `get`, none for `dir`, and else the image.
+/// Prints the lines of the verb, and writes its file: FILE of `get`, none for `dir`, otherwise the
+/// image.
 pub fn finish<H: Host>(vol: &VolWords, made: &Made, host: &mut H) -> End
     requires { IsVol vol.now }
     ensures done { (devices : Outside) → Finishes vol.now made.now.answer.items made.now.image.items

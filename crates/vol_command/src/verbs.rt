@@ -1,4 +1,4 @@
-//! What each verb of `vol` makes of an image.
+//! The results of the verbs of `vol` on an image.
 
 ghost use Rattle.std.specs.Prelude.{◌≡◌, ◌≢◌, IfErr, IfOk, OnOk, Some};
 ghost use Rattle.os9_words.specs.Vol.{IsVol};
@@ -30,7 +30,7 @@ use vol_tools::NewFile;
 ///
 /// # Errors
 ///
-/// The end of the command: memory is out.
+/// The end of the command: out of memory.
 pub fn format_disk(alloc: Global, vol: &VolWords) -> Result<Made, End>
     requires words { IsVol vol.now }
     requires verb { vol.now.verb ≡ Verb.Format }
@@ -49,8 +49,8 @@ pub fn format_disk(alloc: Global, vol: &VolWords) -> Result<Made, End>
 ///
 /// # Errors
 ///
-/// The end of the command: the image is not well formed, the tool is refused, the drive fails, or memory
-/// is out.
+/// The end of the command: the image is not well formed, the tool is refused, the drive fails, or
+/// out of memory.
 pub fn make_of(
     alloc: Global,
     vol: &VolWords,
@@ -99,7 +99,7 @@ fn use_verb(
     use_on_image(alloc, vol, image, &tool, devices)
 }
 
-/// Is the image well formed?
+/// Returns an end if the image is not well formed.
 fn check_image(alloc: Global, image: &[u8]) -> Result<(), End>
     ensures well_formed { OnOk result (IsVolume image.now) }
     ensures refused { IfErr result (RefusesImage image.now) }
@@ -128,7 +128,7 @@ fn tool_for<'a>(vol: &'a VolWords, file: &'a [u8]) -> ToolUse<'a>
     }
 }
 
-/// Frees the clusters of an image that are lost.
+/// Frees the lost clusters of an image.
 fn repair_image(alloc: Global, image: Vec<u8>) -> Result<Made, End>
     ensures { RepairsImage image.items result }
 {
@@ -146,7 +146,7 @@ fn repair_image(alloc: Global, image: Vec<u8>) -> Result<Made, End>
     }
 }
 
-/// The line of how many clusters have become free.
+/// The line with the number of clusters that have become free.
 fn freed_line(alloc: Global, freed: u32) -> Result<Vec<u8>, AllocError>
     ensures { IfOk result (λ line. line.items ≡ freed_line_lem freed) }
 {

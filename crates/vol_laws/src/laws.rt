@@ -1,4 +1,4 @@
-//! What the tools of several commands make of the volume of one image.
+//! The results of several commands' tools on the volume of one image.
 
 ghost use Rattle.std.specs.Prelude.{◌≡◌, ◌≢◌, ◌∷◌, ◌++◌, [], ℕ, List, Some, All, true};
 ghost use Rattle.os9_outer.specs.Host.{file_contents};
@@ -10,7 +10,7 @@ ghost use Rattle.vol_command.specs.Vol.{IsUsed, file_of, path_of};
 ghost use Rattle.vol_laws.specs.Turns.{CallsInTurn, GetsOver, IsFileOf, IsTurnOn, KeepsDisk, PrintsLines, Turn, disk_of, is_done, uses_of};
 ghost use Rattle.vol_tools.specs.InTurn.{LeavesInTurn};
 
-/// A command that has used its tool leaves what the tool gives, and has its answer.
+/// A command that has used its tool leaves the tool's result, and has its answer.
 pub fn a_command_leaves_what_its_tool_gives()
     ensures { (tool : Tool) (vol : VolWords) (old answer image : List ℕ)
         → IsUsed tool vol old answer image
@@ -18,17 +18,17 @@ pub fn a_command_leaves_what_its_tool_gives()
         (Some old) (Some image) (answer ∷ []) }
 {}
 
-/// Calls of `vol` on one image that were done or refused, none of them a `format` or a `get` over the
-/// image: its file holds at the end the volume that the tools of those that were done, in their order,
-/// give of the volume at the beginning. A refused call leaves it.
+/// Calls of `vol` on one image that were done or refused, none of them a `format` or a `get` over
+/// the image: at the end its file holds the volume that the tools of the calls that were done give,
+/// in their order, of the volume at the beginning. A refused call leaves it unchanged.
 pub fn commands_leave_what_their_tools_give()
     ensures { (name : List ℕ) (turns : List Turn) (old new : List ℕ)
         → turns ≢ [] → All KeepsDisk turns → CallsInTurn name turns old new
         → (answers : List (List ℕ)) × LeavesInTurn (uses_of turns) (Some old) (Some new) answers }
 {}
 
-/// The same from a `format` on, whatever was before it: the tools of the calls behind it begin with the
-/// volume of its disk, which has no files.
+/// The same from a `format` on, whatever was before it: the tools of the calls after it begin with
+/// the volume of its disk, which has no files.
 pub fn commands_begin_with_a_format()
     ensures { (name : List ℕ) (earlier later : List Turn) (format : Turn) (old new : List ℕ)
         → format.vol.verb ≡ Format → All KeepsDisk later
@@ -37,8 +37,8 @@ pub fn commands_begin_with_a_format()
         × LeavesNew (disk_of format.vol) (uses_of later) (Some new) answers }
 {}
 
-/// A `get` that was done leaves in its FILE the bytes of the file on the disk that it found, which is what
-/// the calls before it left.
+/// A `get` that was done leaves in its FILE the bytes of the file on the disk that it found, which
+/// is the disk that the calls before it left.
 pub fn a_get_leaves_the_file()
     ensures { (name old : List ℕ) (turn : Turn) → IsTurnOn name old turn
         → turn.vol.verb ≡ Get → is_done turn ≡ true

@@ -1,4 +1,4 @@
--- What the tools answer, and what they leave.
+-- The answers of the tools, and what they leave.
 use Rattle.std.specs.Prelude.{◌≡◌, ℕ, Option, Some, None, List, Result, Ok, Err}
 use Rattle.rbf_model.specs.Volume.{DiskVolume}
 use Rattle.rbf_model.specs.Walk.{WalkEnd, arrives}
@@ -10,13 +10,13 @@ use Rattle.tool_rules.specs.Uses.{Use}
 use Rattle.vol_tools.specs.declared.fault.ToolFault.{ToolFault}
 use Rattle.vol_tools.specs.declared.fault.ToolFault.TheVariants.{Number, Device, OutOfMemory}
 
--- the media represents the volume that the tool gives, with this answer
+-- the media represents the volume that the tool gives, and this is its answer
 pub record GivesOn (use_ : Use) (v : DiskVolume) (answer : List ℕ) (new : Option (List ℕ)) : Type 0 where
   pub volume : DiskVolume
   pub on : Represents new volume
   pub gives : Gives use_.tool use_.now v volume answer
 
--- the tool is refused with this number: if at once, the media is as it was
+-- the tool is refused with this number; if at once, the media is unchanged
 pub record RefusesOn (use_ : Use) (v : DiskVolume) (number : ℕ) (old new : Option (List ℕ)) : Type 0 where
   pub volume : DiskVolume
   pub on : Represents new volume
@@ -29,7 +29,7 @@ pub record LeavesOn (use_ : Use) (v : DiskVolume) (new : Option (List ℕ)) : Ty
   pub on : Represents new volume
   pub may : MayLeave use_.tool use_.now v volume
 
--- each answer of a tool with its cause and what it leaves; of what it answers these are the bytes
+-- each answer of a tool with its cause and what it leaves; `bytes` are the bytes of an answer
 abbrev pub AnswersTool : {A : Type 0} → Use → (A → List ℕ) → DiskVolume → Option (List ℕ) → Option (List ℕ)
     → Result A ToolFault → Type 0
 AnswersTool use_ bytes v old new (Ok a) = GivesOn use_ v (bytes a) new
@@ -43,7 +43,7 @@ abbrev pub OnVolumeBefore : {A : Type 0} → Use → (A → List ℕ) → Option
 OnVolumeBefore use_ bytes old new result =
     (v : DiskVolume) → Represents old v → AnswersTool use_ bytes v old new result
 
--- what a walk from the root answers that ends so, if no fault of the drive ended it before
+-- the answer of a walk from the root with this end, if no fault of the drive ended it before
 abbrev pub AnswersWay : WalkEnd → Result ℕ ToolFault → Type 0
 AnswersWay end (Ok n) = end ≡ arrives n
 AnswersWay end (Err (Number n)) = on_arrival end (λ _. None) ≡ Some n

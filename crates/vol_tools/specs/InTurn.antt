@@ -1,10 +1,10 @@
--- Tools that are used one after the other on the volume of a drive.
+-- Tools that are used in turn on the volume of a drive.
 use Rattle.std.specs.Prelude.{◌≡◌, ℕ, Option, List}
 use Rattle.rbf_model.specs.Volume.{DiskVolume}
 use Rattle.rbf_access.specs.Mounted.{Represents}
 use Rattle.tool_rules.specs.Uses.{Use, GivesInTurn}
 
--- the media represents a volume, and then one that a list of tools gives
+-- the media represents a volume, and afterwards one that a list of tools gives
 pub record LeavesInTurn (uses : List Use) (old new : Option (List ℕ)) (answers : List (List ℕ)) : Type 0 where
   pub before : DiskVolume
   pub was : Represents old before

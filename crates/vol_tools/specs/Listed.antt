@@ -16,10 +16,10 @@ pub record HasListing (media : Option (List ℕ)) (contents : List ℕ) : Type 0
   pub lists : is_directory directory ≡ true
   pub bytes : directory.contents ≡ contents
 
--- an entry that is used names a file
+-- a used entry names a file
 abbrev pub NamesFile : Option (List ℕ) → List ℕ → Type 0
 NamesFile media entry = is_used entry ≡ true → HasFile media (descriptor_field entry)
 
--- the lines of these entries: of each that is used one
+-- the lines of these entries: one for each used entry
 abbrev pub lines_of : DiskVolume → List (List ℕ) → List ℕ
 lines_of v entries = flat_map (entry_line v) (filter is_used entries)

@@ -19,7 +19,7 @@ pub record IsNewPlaceOf (path : List ℕ) (at : Place) : Type 0 where
   pub is : place_of path ≡ Some (place at)
   pub proper : is_dots at.name ≡ false
 
--- what is to be made: its size, and its plan, by the numbers of its directory and its own
+-- the file or directory to be made: its size, and its plan, by the numbers of its directory and its own
 pub record Making : Type 0 where
   pub size : ℕ
   pub plan : ℕ → ℕ → Plan
@@ -40,14 +40,14 @@ pub record MadeOn (making : Making) (path : List ℕ) (v : DiskVolume) (n : ℕ)
   pub leads : LeadsTo v path directory name
   pub enters : Enters v volume directory n name (making.plan directory n)
 
--- a fault of the drive has ended it: nothing has changed, or it was not to be refused, and clusters may be lost
+-- a fault of the drive has ended it: nothing has changed, or it would not have been refused, and clusters may be lost
 pub record MakingEnds (making : Making) (path : List ℕ) (v : DiskVolume) (new : Option (List ℕ)) : Type 0 where
   pub volume : DiskVolume
   pub on : Represents new volume
   pub ends : (volume ≡ v)
       ⊎ ((making_number v making.size (place_of path) ≡ None) × MakingStops v volume path making.plan)
 
--- each answer of what makes it
+-- each answer of a call that makes it
 abbrev pub AnswersMaking : Making → List ℕ → DiskVolume → Option (List ℕ) → Option (List ℕ) → Result ℕ ToolFault
     → Type 0
 AnswersMaking making path v old new (Ok n) = MadeOn making path v n new
@@ -56,7 +56,7 @@ AnswersMaking making path v old new (Err (Number n)) =
 AnswersMaking making path v old new (Err (Device n)) = MakingEnds making path v new
 AnswersMaking making path v old new (Err OutOfMemory) = ⊥
 
--- on the volume that the media represented before
+-- the same on the volume that the media represented before
 abbrev pub MakesOn : Making → Place → Option (List ℕ) → Option (List ℕ) → Result ℕ ToolFault → Type 0
 MakesOn making at old new result =
     (path : List ℕ) (v : DiskVolume) → IsNewPlaceOf path at → Represents old v

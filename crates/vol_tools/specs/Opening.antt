@@ -1,4 +1,4 @@
--- Files and directories that are opened by their paths, and read whole.
+-- Files and directories that are opened by their paths, and read completely.
 use Rattle.std.specs.Prelude.{◌≡◌, ℕ, ◌&&◌, not, true, Bool, Option, Some, List, length, Result, Ok, Err}
 use Rattle.rbf_model.specs.File.{DiskFile, is_directory}
 use Rattle.rbf_model.specs.Volume.{DiskVolume}
@@ -23,7 +23,7 @@ pub record IsOpened (v : DiskVolume) (way : List (List ℕ)) (kind : Kind) (open
   pub readable : (is_of_kind kind file && file_permits file 0 1) ≡ true
   pub size_is : opened.size ≡ length file.contents
 
--- what is opened is a file of the volume that the media represents
+-- the opened file is one of the volume that the media represents
 pub record HasOpened (media : Option (List ℕ)) (opened : Opened) : Type 0 where
   pub content : DiskVolume
   pub on : Represents media content
@@ -31,14 +31,14 @@ pub record HasOpened (media : Option (List ℕ)) (opened : Opened) : Type 0 wher
   pub is : content.files opened.number ≡ Some file
   pub size_is : opened.size ≡ length file.contents
 
--- each answer of what opens a file
+-- each answer of a call that opens a file
 abbrev pub AnswersOpening : DiskVolume → List (List ℕ) → Kind → Result Opened ToolFault → Type 0
 AnswersOpening v way kind (Ok opened) = IsOpened v way kind opened
 AnswersOpening v way kind (Err (Number n)) = reading_number v (is_of_kind kind) (Some way) ≡ Some n
 AnswersOpening v way kind (Err (Device n)) = Unit {0}
 AnswersOpening v way kind (Err OutOfMemory) = ⊥
 
--- each answer of what gives bytes, which a fault of the drive and want of memory alone can end
+-- each answer of a call that gives bytes, which only a fault of the drive or lack of memory can end
 abbrev pub AnswersBytes : {A : Type 0} → (A → Type 0) → Result A ToolFault → Type 0
 AnswersBytes are (Ok bytes) = are bytes
 AnswersBytes are (Err (Number n)) = ⊥

@@ -1,4 +1,4 @@
--- What a tool for a path leaves of an image, byte for byte (this project's own).
+-- The bytes of an image after a tool for a path (this project's own).
 use Rattle.std.specs.Prelude.{◌≡◌, ◌≢◌, ℕ, ◌*◌, ◌%◌, ◌≤◌, true, Some, None, List, length, unwrap_or}
 use Rattle.rbf_model.specs.File.{DiskFile}
 use Rattle.rbf_model.specs.Geometry.{image_geometry, sector}
@@ -12,8 +12,8 @@ use Rattle.rbf_change.specs.Tidy.{KeepsListEnd}
 use Rattle.rbf_append.specs.NewEntry.{sector_of_place}
 use Rattle.tool_rules.specs.Tool.{Tool, LeadsTo, put, mkdir, remove}
 
--- the entry of a path: the directory that the path leads to, before and now, the place of the entry, where its name was
--- or else where a new one goes, and the sector of that place
+-- the entry of a path: the directory to which the path leads, before and now; the place of the entry, which is that of
+-- its old name or that of a new one; and the sector of that place
 pub record PathEntry (path : List ℕ) (before after : DiskVolume) : Type 0 where
   pub directory : ℕ
   pub name : List ℕ
@@ -27,7 +27,7 @@ pub record PathEntry (path : List ℕ) (before after : DiskVolume) : Type 0 wher
   pub lsn : ℕ
   pub holds : lsn ≡ sector_of_place new.segments place
 
--- a sector of a file that is new: its descriptor, or one of its segments
+-- a sector of a new file: its descriptor, or one of its segments
 pub record IsOfNewFile (before after : DiskVolume) (s : ℕ) : Type 0 where
   pub number : ℕ
   pub none : before.files number ≡ None
@@ -35,25 +35,24 @@ pub record IsOfNewFile (before after : DiskVolume) (s : ℕ) : Type 0 where
   pub is : after.files number ≡ Some file
   pub of : has (own_sectors number file) s ≡ true
 
--- what stays
+-- what is unchanged
 pub record KeepsOthers (path : List ℕ) (image now : List ℕ) : Type 0 where
   pub before : DiskVolume
   pub was : Vol image before
   pub after : DiskVolume
   pub is : Vol now after
   pub entry : PathEntry path before after
-  -- all sectors but those of the map and of a new file, the directory's descriptor and the entry's sector: of free and
-  -- lost clusters, of all other files, also behind their ends, of a file that is deleted, and behind the volume
+  -- all sectors except those of the map and of a new file, the directory's descriptor and the entry's sector: those of
+  -- free and lost clusters, of all other files, even after their ends, of a deleted file, and after the volume
   pub others : (s : ℕ) → ¬ IsMapSector (image_geometry image) s → ¬ IsOfNewFile before after s → s ≢ entry.directory
       → s ≢ entry.lsn → sector now s ≡ sector image s
-  -- of the entry's sector all bytes but the 32 of the entry
+  -- in the entry's sector all bytes except the 32 of the entry
   pub filled : (bytes : List ℕ) × (length bytes ≤ 32)
       × (sector now entry.lsn ≡ put_at (sector image entry.lsn) (32 * (entry.place % 8)) bytes)
-  -- and of the directory's descriptor the bytes behind its list of segments, but for the pair of zeros that ends a list
-  -- that changes
+  -- in the directory's descriptor the bytes after its list of segments, except the pair of zeros after a changed list
   pub list : KeepsListEnd (sector image entry.directory) (sector now entry.directory)
 
--- so it is of each tool that changes a file of a path
+-- the same for each tool that changes a file of a path
 abbrev pub KeepsOthersBy : Tool → (image now : List ℕ) → Type 0
 KeepsOthersBy (put path bytes) image now = KeepsOthers path image now
 KeepsOthersBy (mkdir path) image now = KeepsOthers path image now

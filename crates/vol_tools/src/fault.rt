@@ -8,7 +8,7 @@ use thiserror::Error;
 /// Why a tool was refused or ended.
 #[derive(Clone, Copy, Debug, PartialEq, Eq, Error)]
 pub enum ToolFault {
-    /// The number of the error with which it is refused (System Programmer's Manual, error codes).
+    /// The number of the error for which it is refused (System Programmer's Manual, error codes).
     #[error("error {0}")]
     Number(u8),
     /// The number of the drive's fault that ended it.

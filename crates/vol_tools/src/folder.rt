@@ -15,14 +15,14 @@ use rbf_access::Volume;
 use std::alloc::Global;
 use tool_paths::new_place_of;
 
-/// Makes a directory by its path, for user 0 (this project's own). All may do all with it.
+/// Makes a directory by its path, for user 0 (this project's own). All users have all permissions.
 ///
 /// # Errors
 ///
-/// In this order: `Number` 215 for a path that is none or whose last name is `.` or `..`; 214 and 216
-/// of the way, and 214 of a parent that may not be changed; 218 if the name is there; 248 and 217.
-/// Then nothing has changed. `Device` if an access of the drive fails: then the tree is as it was, and
-/// clusters may be lost. `OutOfMemory`: then nothing has changed.
+/// In this order: `Number` 215 for an invalid path or one whose last name is `.` or `..`; 214 and
+/// 216 of the walk, and 214 for a parent that may not be changed; 218 if the name is there; 248 and
+/// 217. Then nothing has changed. `Device` if an access of the drive fails: then the tree is
+/// unchanged, and clusters may be lost. `OutOfMemory`: then nothing has changed.
 pub fn mkdir(
     alloc: Global,
     v: &mut Volume,

@@ -1,5 +1,5 @@
-//! Tools for the images of disks: files are put onto a mounted volume, got from it, made, deleted and
-//! listed by their paths.
+//! Tools for the images of disks: on a mounted volume they put, get, make, delete and list files by
+//! their paths.
 #![tactic(auto)]
 
 pub use fault::ToolFault;

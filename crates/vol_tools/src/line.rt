@@ -9,7 +9,7 @@ use os9_base::name::{Name, header_name};
 use rbf_sector::Fd;
 use std::alloc::AllocError;
 
-/// Puts the line of a file behind the others: its attributes, its size, and the name that the entry has.
+/// Appends the line of a file: its attributes, its size, and the name in the entry.
 pub fn push_line(lines: &mut Vec<u8>, file: &Fd, entry: &[u8; 32]) -> Result<(), AllocError>
     ensures { OnOk result ((on : DiskFile) → IsFdOf on file.now → lines.new.items
         ≡ lines.old.items ++ file_line (unwrap_or (entry_name_field entry.now) []) (Some on)) }
@@ -22,7 +22,7 @@ pub fn push_line(lines: &mut Vec<u8>, file: &Fd, entry: &[u8; 32]) -> Result<(),
     Ok(())
 }
 
-// Puts the attributes and the size, each with a space behind it.
+// Appends the attributes and the size, each followed by a space.
 fn push_head(lines: &mut Vec<u8>, file: &Fd) -> Result<(), AllocError>
     ensures { OnOk result (lines.new.items ≡ lines.old.items
         ++ (hex_digit_lem (file.now.attr / 16) ∷ hex_digit_lem (file.now.attr % 16) ∷ codes " "
@@ -49,7 +49,7 @@ fn hex_digit(value: u8) -> u8
     }
 }
 
-// Puts the characters of a name.
+// Appends the characters of a name.
 fn push_name(lines: &mut Vec<u8>, name: &Name) -> Result<(), AllocError>
     ensures { OnOk result (lines.new.items ≡ lines.old.items ++ name.now) }
 {

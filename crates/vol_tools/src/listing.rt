@@ -20,15 +20,15 @@ use rbf_sector::read_entry;
 use std::alloc::Global;
 use tool_paths::directory_names;
 
-/// The lines of a directory by its path, for user 0 (this project's own); `/` is the root. A line for
-/// each used entry but `.` and `..`, in their order: the attributes as two hexadecimal digits, the size,
-/// the name, and a line feed. Nothing changes.
+/// The lines of a directory by its path, for user 0 (this project's own); `/` is the root. A line
+/// for each used entry except `.` and `..`, in their order: the attributes as two hexadecimal
+/// digits, the size, the name, and a line feed. Nothing changes.
 ///
 /// # Errors
 ///
-/// In this order: `Number` 215 for a path that is none; 214 and 216 of the way; 214 for a file that is
-/// no directory and for a directory that may not be read. `Device` if a read of the drive fails, or
-/// `OutOfMemory`.
+/// In this order: `Number` 215 for an invalid path; 214 and 216 of the walk; 214 for a file that is
+/// not a directory and for a directory that may not be read. `Device` if a read of the drive fails,
+/// or `OutOfMemory`.
 pub fn list(
     alloc: Global,
     v: &mut Volume,
@@ -84,14 +84,14 @@ fn entry_at(contents: &[u8], place: usize) -> [u8; 32]
     entry
 }
 
-// Is the entry used?
+// Whether the entry is used.
 fn is_used(entry: &[u8; 32]) -> bool
     ensures { result ≡ is_used_lem entry.now }
 {
     entry[0] != 0
 }
 
-// Puts the line of an entry behind the others, if it is used.
+// Appends the line of an entry, if the entry is used.
 fn push_entry(
     lines: &mut Vec<u8>,
     v: &mut Volume,

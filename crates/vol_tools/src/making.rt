@@ -15,13 +15,13 @@ use rbf_creation::create;
 use rbf_folder::make_dir;
 use tool_paths::Place;
 
-/// The attributes of a file that is put: its owner may read and write it, others may read it.
+/// The attributes of a file made by `put`: its owner may read and write it, others may read it.
 const FILE_ATTRIBUTES: u8 = 0x0b;
 
-/// The attributes of a directory: all may do all.
+/// The attributes of a directory: all users have all permissions.
 const DIRECTORY_ATTRIBUTES: u8 = 0xbf;
 
-/// Makes a file without bytes at a place, for user 0, and answers the number of its descriptor.
+/// Makes an empty file at a place, for user 0, and returns the number of its descriptor.
 pub fn make_file(
     v: &mut Volume,
     d: &mut dyn BlockDriver,
@@ -42,7 +42,7 @@ pub fn make_file(
     Ok(n)
 }
 
-/// Makes a directory at a place, for user 0, and answers the number of its descriptor.
+/// Makes a directory at a place, for user 0, and returns the number of its descriptor.
 pub fn make_folder(
     v: &mut Volume,
     d: &mut dyn BlockDriver,

@@ -17,22 +17,22 @@ use rbf_write::write_at;
 use std::alloc::Global;
 use tool_paths::{Place, new_place_of};
 
-/// A file that is to be made: its path from the root, and its bytes.
+/// A file to be made: its path from the root, and its bytes.
 #[derive(Clone, Copy, Debug)]
 pub struct NewFile<'a> {
     pub path: &'a [u8],
     pub bytes: &'a [u8],
 }
 
-/// Makes a file with these bytes by its path, for user 0 (this project's own): its owner may read and
-/// write it, others may read it.
+/// Makes a file with these bytes by its path, for user 0 (this project's own): its owner may read
+/// and write it, others may read it.
 ///
 /// # Errors
 ///
-/// In this order: `Number` 215 for a path that is none or whose last name is `.` or `..`; 214 and 216
-/// of the way, and 214 of a directory that may not be changed; 218 if the name is there; 248 and 217 of
-/// the entry: then nothing has changed. 248 and 217 of the bytes: then the empty file is there.
-/// `Device` if an access of the drive fails. `OutOfMemory`: then nothing has changed.
+/// In this order: `Number` 215 for an invalid path or one whose last name is `.` or `..`; 214 and
+/// 216 of the walk, and 214 for a directory that may not be changed; 218 if the name is there; 248
+/// and 217 for the entry: then nothing has changed. 248 and 217 for the bytes: then the empty file
+/// is there. `Device` if an access of the drive fails. `OutOfMemory`: then nothing has changed.
 pub fn put(
     alloc: Global,
     v: &mut Volume,

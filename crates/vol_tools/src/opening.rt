@@ -19,21 +19,22 @@ use std::alloc::Global;
 
 const READ: u8 = 1;
 
-/// Is a file one that is no directory, or a directory?
+/// The kind of a file: one that is not a directory, or a directory.
 #[derive(Clone, Copy, Debug)]
 pub enum Kind {
     File,
     Directory,
 }
 
-/// A file that has been opened: its descriptor's number, and how many bytes it has.
+/// An opened file: its descriptor's number, and its number of bytes.
 #[derive(Clone, Copy, Debug)]
 pub struct Opened {
     pub number: u32,
     pub size: u32,
 }
 
-/// Opens the file or the directory to which names lead from the root, for user 0, to read it.
+/// Opens the file or the directory at the end of these names from the root, for user 0, for
+/// reading.
 pub fn open_file(
     v: &mut Volume,
     d: &mut dyn BlockDriver,
@@ -58,7 +59,7 @@ pub fn open_file(
     })
 }
 
-// Is it a file of this kind that user 0 may read?
+// Whether it is a file of this kind that user 0 may read.
 fn is_readable(file: &Fd, kind: Kind) -> bool
     ensures { (on : DiskFile) → IsFdOf on file.now
         → result ≡ (is_of_kind kind on && file_permits on 0 1) }
@@ -71,7 +72,7 @@ fn is_readable(file: &Fd, kind: Kind) -> bool
     right && may(file, 0, READ)
 }
 
-/// Reads all bytes of a file that has been opened.
+/// Reads all bytes of an opened file.
 pub fn read_whole(
     alloc: Global,
     v: &mut Volume,

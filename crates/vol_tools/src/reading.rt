@@ -17,7 +17,7 @@ use tool_paths::path_names;
 ///
 /// # Errors
 ///
-/// In this order: `Number` 215 for a path that is none; 214 and 216 of the way; 214 for a directory
+/// In this order: `Number` 215 for an invalid path; 214 and 216 of the walk; 214 for a directory
 /// and for a file that may not be read. `Device` if a read of the drive fails, or `OutOfMemory`.
 pub fn get(
     alloc: Global,

@@ -22,11 +22,11 @@ use tool_paths::{Place, place_of};
 ///
 /// # Errors
 ///
-/// In this order: `Number` 215 for a path that is none; 214 and 216 of the way, and 214 of a directory
-/// that may not be changed; 216 if the name is not there; 214 for a directory and for a file that may
-/// not be written. Then nothing has changed. `Device` if an access of the drive fails: then nothing has
-/// changed, or the file has gone and some of its clusters may be lost. `OutOfMemory`: then nothing has
-/// changed.
+/// In this order: `Number` 215 for an invalid path; 214 and 216 of the walk, and 214 for a
+/// directory that may not be changed; 216 if the name is not there; 214 for a directory and for a
+/// file that may not be written. Then nothing has changed. `Device` if an access of the drive
+/// fails: then nothing has changed, or the file is removed and some of its clusters may be lost.
+/// `OutOfMemory`: then nothing has changed.
 pub fn remove(
     alloc: Global,
     v: &mut Volume,

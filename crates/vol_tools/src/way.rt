@@ -11,7 +11,7 @@ use os9_outer::drive::BlockDriver;
 use rbf_access::Volume;
 use rbf_walk::walk;
 
-/// Goes from the root along names, for user 0, and answers the descriptor that is reached.
+/// Walks from the root along names, for user 0, and returns the descriptor at their end.
 pub fn way_to(v: &mut Volume, d: &mut dyn BlockDriver, names: &[Name]) -> Result<u32, ToolFault>
     requires { IsMounted v.old (media d.old) }
     ensures answer { OnVolume (media d.old) (λ on. AnswersWay (way_end on names.now) result) }

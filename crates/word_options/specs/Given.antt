@@ -1,4 +1,4 @@
--- What the words behind a command give: options with their values, and arguments (this project's own).
+-- What the words after a command give: options with their values, and arguments (this project's own).
 use Rattle.std.specs.Prelude.{ℕ, ◌==◌, find, option_map, ◌&&◌, ◌||◌, not, nat_eq, bytes_eq, codes, Bool, false, Option, Some, None, List, [], ◌∷◌, ◌++◌, drop, if◌then◌else◌}
 use Rattle.std.specs.List.{list_any, before_first, after_first, starts_with}
 
@@ -30,7 +30,7 @@ is_dashed (byte ∷ bytes) = byte == 45
 abbrev pub is_argument : List ℕ → Bool
 is_argument word = not (is_dashed word) || bytes_eq word (codes "-")
 
--- the word is the value of the option before it: it is not empty and does not begin with `-`
+-- the word can be the value of the option before it: it is not empty and does not begin with `-`
 abbrev pub is_value : List ℕ → Bool
 is_value word = not (bytes_eq word []) && not (is_dashed word)
 
@@ -38,11 +38,11 @@ is_value word = not (bytes_eq word []) && not (is_dashed word)
 abbrev pub is_equals : ℕ → Bool
 is_equals byte = byte == 61
 
--- the name of the option that a word `--name` or `--name=value` is
+-- the name of the option in a word `--name` or `--name=value`
 abbrev pub option_name : List ℕ → List ℕ
 option_name word = before_first is_equals (drop 2 word)
 
--- the element of a list of one
+-- the element of a list with one element
 abbrev pub only : {X : Type 0} → List X → Option X
 only (x ∷ []) = Some x
 only _ = None
@@ -51,7 +51,7 @@ only _ = None
 abbrev pub value_of : Given → List ℕ → Option (List ℕ)
 value_of words name = option_map (λ option. option.value) (find (λ option. bytes_eq option.name name) words.options)
 
--- the argument, where there is exactly one
+-- the argument, if there is exactly one
 abbrev pub only_argument : Given → Option (List ℕ)
 only_argument words = only words.arguments
 
@@ -73,8 +73,8 @@ with_option so_far name value =
 abbrev pub with_arguments : Given → List (List ℕ) → Given
 with_arguments so_far words = record so_far { arguments = so_far.arguments ++ words }
 
--- what the words give, if they are not refused: an option of these names is `--name value` or `--name=value`, stands
--- at most once and has a value; behind `--` every word is an argument. An option that waits for its value takes the
+-- what the words give, if they are not refused. An option of these names is `--name value` or `--name=value`, occurs
+-- at most once and has a value. After `--` every word is an argument. An option that waits for its value takes the
 -- next word.
 abbrev pub given : List (List ℕ) → Option (List ℕ) → List (List ℕ) → Given → Option Given
 given names None [] so_far = Some so_far
@@ -94,6 +94,6 @@ given names None (word ∷ words) so_far =
     else given names (Some (option_name word)) words so_far)
     else None))
 
--- what all words give
+-- what all the words give
 abbrev pub words_give : List (List ℕ) → List (List ℕ) → Option Given
 words_give names words = given names None words nothing_given

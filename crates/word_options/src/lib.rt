@@ -1,11 +1,11 @@
 //! The words of a command line as options with their values, and arguments: the definition, and
-//! words with what they give as laws that the check computes.
+//! examples of words with their results, as laws that the check computes.
 #![tactic(auto)]
 
 ghost use Rattle.std.specs.Prelude.{◌≡◌, [], ◌∷◌, Some, None, codes};
 ghost use Rattle.word_options.specs.Given.{one_option, words_give};
 
-/// Options in both forms, before and behind an argument.
+/// Options in both forms, before and after an argument.
 pub fn options_are_read()
     ensures two_words { words_give (codes "slices" ∷ [])
         (codes "h" ∷ codes "--slices" ∷ codes "s" ∷ [])

@@ -8,7 +8,7 @@ use rbf_check::check;
 use std::alloc::{AllocError, Global};
 use std::test::Fail;
 
-// What differs from the smallest volume: there are 320 sectors, and the root has 258 of them.
+// The differences from the smallest volume: there are 320 sectors, and the root has 258 of them.
 const LONG_ROOT: [(usize, u8); 9] = [
     (1, 1),
     (2, 64),
@@ -31,8 +31,7 @@ fn image_with_long_root(alloc: Global) -> Result<Vec<u8>, AllocError> {
     Ok(image)
 }
 
-// The sectors of the root in these places are read, one after the other, from a drive that has this
-// image.
+// Reads the sectors of the root in these places, in this order, from a drive with this image.
 fn read_sectors(
     alloc: Global,
     image: &[u8],
@@ -51,7 +50,7 @@ fn read_sectors(
     Ok(())
 }
 
-// The first sector of the root, so many others, and the first one again.
+// Reads the first sector of the root, then `others` others, and then the first one again.
 fn first_again(alloc: Global, others: u16) -> Result<Vec<u16>, AllocError> {
     let mut places = vec![in alloc; 0u16]?;
     for place in 0..others {
@@ -62,8 +61,8 @@ fn first_again(alloc: Global, others: u16) -> Result<Vec<u16>, AllocError> {
 }
 
 // A mount makes two calls of the drive, and the first read two: for the descriptor, and for the
-// sector. With the descriptor 256 sectors are held, so the first one still is behind 254 others, and
-// is not behind 256.
+// sector. With the descriptor 256 sectors are held, so the first one is still held after 254
+// others, and not after 256.
 #[test]
 fn cache_and_free_list(rt: HostRuntime) -> Result<(), Fail> {
     for (others, calls) in [(0, 4), (1, 5), (254, 258), (256, 261)] {

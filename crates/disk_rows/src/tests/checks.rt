@@ -4,7 +4,7 @@ use rbf_check::check;
 use std::alloc::{AllocError, Global};
 use std::test::Fail;
 
-// Two files of the smallest volume, whose descriptors are sectors 4 and 5, and both of which have sector 9.
+// Two files of the smallest volume, with descriptors 4 and 5, which share sector 9.
 const TWO_FILES: [(usize, u8); 11] = [
     (256, 0xFC),
     (257, 0x40),
@@ -19,7 +19,7 @@ const TWO_FILES: [(usize, u8); 11] = [
     (1300, 1),
 ];
 
-// The most sectors, of which one map of 65,535 bytes has a bit each; the root is sector 257.
+// The greatest number of sectors, with a bit each in a map of 65,535 bytes; the root is sector 257.
 const MOST: [(usize, u8); 21] = [
     (0, 0x07),
     (1, 0xFF),
@@ -44,7 +44,7 @@ const MOST: [(usize, u8); 21] = [
     (66111, 1),
 ];
 
-// What the check answers, as a line.
+// The answer of the check, as a line.
 fn answer(alloc: Global, image: &[u8]) -> Result<String, AllocError> {
     match check(alloc, image) {
         Ok(tree) => {

@@ -12,8 +12,8 @@ use rbf_walk::DirError;
 use std::alloc::Global;
 use std::test::Fail;
 
-// What a user is answered who deletes a file from the root of this image, and how many clusters are
-// free then.
+// The answer to a user who deletes a file from the root of this image, and the number of free
+// clusters afterwards.
 fn delete_from_root(
     alloc: Global,
     image: &[u8],
@@ -30,8 +30,8 @@ fn delete_from_root(
     Ok((answer, volume.free_count()))
 }
 
-// The eleven free clusters of the image are twelve when `A` has gone. A mount makes two calls of
-// the drive; this one of all calls fails. What was read is not read again: neither the sector of the
+// The eleven free clusters of the image are twelve after `A` is deleted. A mount makes two calls of
+// the drive; the call of this number fails. Nothing is read twice: neither the sector of the
 // directory before the entry is written, nor the root's descriptor for `..`.
 #[test]
 fn delete_fault(rt: HostRuntime) -> Result<(), Fail> {

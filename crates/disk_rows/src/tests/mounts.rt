@@ -5,8 +5,8 @@ use rbf_access::{VolFault, Volume};
 use std::alloc::Global;
 use std::test::Fail;
 
-// What a mount of this image answers, the root and the count of free clusters, and how many calls
-// of the drive it makes, of which this one fails.
+// The answer of a mount of this image, the root, the number of free clusters, and the number of its
+// drive calls, of which this one fails.
 fn mount_of(
     alloc: Global,
     image: Vec<u8>,
@@ -41,7 +41,7 @@ fn mount_driver_calls(rt: HostRuntime) -> Result<(), Fail> {
     Ok(())
 }
 
-// Total, sectors per cluster, root and bytes of the map decide, and so does the media's length.
+// Total, sectors per cluster, root, bytes of the map and the media's length decide.
 #[test]
 fn not_rbf(rt: HostRuntime) -> Result<(), Fail> {
     let rows: [(usize, &[(usize, u8)], Result<(u32, u32), VolFault>); 7] = [

@@ -2,7 +2,7 @@ use fixtures::volume::put;
 use std::alloc::{AllocError, Global};
 
 // A volume of 300 sectors, all marked. Its root is sector 2, which has the sectors from LSN 3 on
-// for 102 entries, of which the first two are its dots.
+// for 102 entries; the first two are its dots.
 const ROOT: [(usize, u8); 15] = [
     (1, 1),
     (2, 44),
@@ -49,7 +49,7 @@ pub fn overlapping_files(alloc: Global) -> Result<Vec<u8>, AllocError> {
     Ok(image)
 }
 
-// The same, whose files are directories as long as their sectors.
+// The same, but the files are directories with the size of their sectors.
 pub fn overlapping_directories(alloc: Global) -> Result<Vec<u8>, AllocError> {
     let mut image = overlapping_files(alloc)?;
     for lsn in 16..116usize {

@@ -9,7 +9,7 @@ use rbf_check::check;
 use std::alloc::Global;
 use std::test::Fail;
 
-// A drive that has this image, and of whose calls this one fails.
+// A drive with this image, of whose calls this one fails.
 pub fn drive_with(alloc: Global, image: &[u8], failing: u64) -> Result<RamDrive, Fail>
     ensures { IfOk result (λ drive. ⟦<RamDrive as BlockDriver>⟧.media drive ≡ Some image.now) }
 {
@@ -24,7 +24,7 @@ pub fn drive_with(alloc: Global, image: &[u8], failing: u64) -> Result<RamDrive,
     Ok(drive)
 }
 
-// What a read of the root of this image answers, mounted on a drive that has it.
+// The answer of a read of the root of this image, mounted on a drive.
 fn read_root(
     alloc: Global,
     image: &[u8],
@@ -41,7 +41,7 @@ fn read_root(
     Ok(answer)
 }
 
-// A mount makes two calls of the drive; this one of all calls fails.
+// A mount makes two calls of the drive; the call of this number fails.
 #[test]
 fn read_driver_calls(rt: HostRuntime) -> Result<(), Fail> {
     let rows = [

@@ -11,7 +11,8 @@ use rbf_size::set_size;
 use std::alloc::Global;
 use std::test::Fail;
 
-// What it answers to give the second file of this image a size, if it has one that is no directory.
+// The answer to a new size for the second file of this image, if it has one that is not a
+// directory.
 fn set_second(
     alloc: Global,
     image: &[u8],
@@ -41,9 +42,9 @@ fn image_with_bytes(alloc: Global) -> Result<Vec<u8>, Fail> {
     Ok(drive.eject().unwrap_or(image))
 }
 
-// A mount makes two calls of the drive. To cut a file reads its descriptor, writes it, and writes the
-// one sector of the map. Before the second of these the file is as it was; from then on it has been
-// cut, and the clusters that it gave up are lost until the map is written.
+// A mount makes two calls of the drive. A cut of a file reads its descriptor, writes it, and writes
+// the one sector of the map. Before the second of these calls the file is unchanged; after it the
+// file has been cut, and the clusters that it gave up are lost until the map is written.
 #[test]
 fn cut_driver_calls(rt: HostRuntime) -> Result<(), Fail> {
     let fault = Some(Err(FileFault::Device(E_SEEK)));

@@ -12,8 +12,8 @@ use rbf_walk::{DirError, may, walk};
 use std::alloc::{AllocError, Global};
 use std::test::Fail;
 
-// What the smallest volume with a file `A` in its root has: descriptor 4, owner 0, attributes 0B, no
-// bytes.
+// The bytes of the smallest volume with a file `A` in its root: descriptor 4, owner 0, attributes
+// 0B, no bytes.
 const WITH_A: [(usize, u8); 6] = [
     (256, 0xF8),
     (524, 96),
@@ -23,8 +23,8 @@ const WITH_A: [(usize, u8); 6] = [
     (1032, 1),
 ];
 
-// The same with a root of two sectors: `A` is in the first and has descriptor 5, `B` is in the second
-// and has descriptor 6.
+// The same with a root of two sectors: `A` is in the first and has descriptor 5, `B` is in the
+// second and has descriptor 6.
 const IN_TWO: [(usize, u8); 12] = [
     (256, 0xFE),
     (523, 1),
@@ -44,7 +44,7 @@ pub fn image_with_a(alloc: Global) -> Result<Vec<u8>, AllocError> {
     changed(alloc, 4096, &WITH_A)
 }
 
-// What a walk from the root of this image along these names answers a user.
+// The answer to a user of a walk from the root of this image along these names.
 fn walk_root(
     alloc: Global,
     image: &[u8],
@@ -65,8 +65,8 @@ fn fault() -> Result<u32, DirError> {
     Err(DirError::File(FileFault::Device(E_SEEK)))
 }
 
-// A mount makes two calls of the drive; this one of all calls fails. A file is no directory: the
-// second name is not looked up.
+// A mount makes two calls of the drive; the call of this number fails. A file is not a directory,
+// so the second name is not looked up.
 #[test]
 fn walk_driver_calls(rt: HostRuntime) -> Result<(), Fail> {
     let rows: [(u64, &[&[u8]], Result<u32, DirError>, u64); 6] = [
@@ -90,7 +90,7 @@ fn walk_driver_calls(rt: HostRuntime) -> Result<(), Fail> {
     Ok(())
 }
 
-// No sector is read behind the one that has the name.
+// No sector after the one with the name is read.
 #[test]
 fn walk_reads_up_to_the_name(rt: HostRuntime) -> Result<(), Fail> {
     let rows: [(&[u8], Result<u32, DirError>, u64); 3] = [

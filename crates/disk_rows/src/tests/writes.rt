@@ -20,7 +20,7 @@ pub const NOON: TimePacket = TimePacket {
     second: 0,
 };
 
-// What a write to the second file of this image answers, if it has one that is no directory.
+// The answer of a write to the second file of this image, if it has one that is not a directory.
 pub fn write_second(
     alloc: Global,
     image: &[u8],
@@ -43,7 +43,7 @@ pub fn write_second(
     Ok(Some(answer))
 }
 
-// How long the second file of this image is, its last byte, and how many clusters are lost.
+// The length of the second file of this image, its last byte, and the number of lost clusters.
 pub fn second_file(alloc: Global, image: &[u8]) -> Result<(usize, Option<u8>, u32), Fail> {
     let tree = check(alloc, image)?;
     if tree.nodes.len() < 2 {
@@ -53,9 +53,9 @@ pub fn second_file(alloc: Global, image: &[u8]) -> Result<(usize, Option<u8>, u3
     Ok((bytes.len(), bytes.last().copied(), tree.lost))
 }
 
-// A mount makes two calls of the drive. A write of 768 bytes to a file without any reads the
-// descriptor, writes the one sector of the map, writes three sectors, which are not read since all of
-// their bytes are laid, and writes the descriptor. This one of all calls fails: before the last the
+// A mount makes two calls of the drive. A write of 768 bytes to an empty file reads the descriptor,
+// writes the one sector of the map, writes three sectors, which are not read since all of their
+// bytes are laid, and writes the descriptor. The call of this number fails: before the last the
 // file stays empty, and from the map's sector on three clusters are lost.
 #[test]
 fn write_driver_calls(rt: HostRuntime) -> Result<(), Fail> {
@@ -79,7 +79,7 @@ fn write_driver_calls(rt: HostRuntime) -> Result<(), Fail> {
     Ok(())
 }
 
-// Eleven clusters are free. Three sectors of a gap are not read. No bytes make no call.
+// Eleven clusters are free. Three sectors of a gap are not read. A write of no bytes makes no call.
 #[test]
 fn writes_of_many_and_of_no_bytes(rt: HostRuntime) -> Result<(), Fail> {
     let full = Err(FileFault::NoCluster);

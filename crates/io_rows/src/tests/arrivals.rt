@@ -48,7 +48,7 @@ impl Desk {
         self.io.write_terminal(p, 0, bytes, &mut self.devices)
     }
 
-    /// Gives TERM keys that are due. False where memory is short, or keys are left there.
+    /// Gives TERM keys that are due. False if memory is out, or keys are left there.
     fn load(&mut self, alloc: Global, bytes: &[u8]) -> bool {
         match due_keys(alloc, bytes) {
             Ok(keys) => !self.devices.terms.is_empty() && self.devices.term(0).load(keys).is_ok(),
@@ -56,7 +56,7 @@ impl Desk {
         }
     }
 
-    /// The keys that are due arrive. False where memory is short, or TERM is not the one terminal.
+    /// The keys that are due arrive. False if memory is out, or TERM is not the only terminal.
     fn poll(&mut self) -> bool {
         self.devices.terms.len() == 1
             && arrive_keys(&mut self.s, &mut self.io, &mut self.devices).is_ok()
@@ -71,7 +71,7 @@ impl Desk {
         }
     }
 
-    /// How many bytes TERM has for a read.
+    /// The number of bytes that TERM has for a read.
     fn ready_count(&self) -> u16 {
         self.io.ready_count(Target::Term(0))
     }

@@ -4,7 +4,7 @@ use os9_outer::sure_drive::SureDrive;
 use std::alloc::Global;
 use std::test::Fail;
 
-// What a read of a sector answers, if the drive has it.
+// The answer to a read of a sector, if the drive has it.
 fn read<D: BlockDriver>(
     drive: &mut D,
     lsn: u32,
@@ -17,7 +17,7 @@ fn read<D: BlockDriver>(
     }
 }
 
-// What a write of a sector answers, if the drive has it.
+// The answer to a write of a sector, if the drive has it.
 fn write<D: BlockDriver>(
     drive: &mut D,
     lsn: u32,

@@ -6,7 +6,7 @@ use std::os::unix::fs::{MetadataExt, PermissionsExt, symlink};
 use std::test::Fail;
 use std::{env, fs, process};
 
-// The name of a file for temporary use that this process alone has.
+// A name for a temporary file that only this process uses.
 fn own_name(rt: &HostRuntime, what: &str) -> Result<String, Fail> {
     let folder = env::temp_dir(rt)?;
     let id = process::id(rt.process());

@@ -14,8 +14,8 @@ use pipe_mgr::pipes::Pipes;
 use std::test::Fail;
 use terminal_mgr::term::Term;
 
-/// A process whose call is kept waits in a write of 300 bytes into the pipe that it has as this
-/// number, of which 256 are moved. False if that is no pipe, or if a call is kept.
+/// Makes a process wait in a write of 300 bytes into the pipe that it has as this number, with 256
+/// bytes moved. False if that is not a pipe, or if a call is kept.
 fn wait_in_write(io: &mut IoState, p: Pid, n: u8) -> bool
     requires { p.0 < 33 }
 {

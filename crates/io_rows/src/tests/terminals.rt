@@ -4,7 +4,7 @@ use os9_outer::terminal::{CharDriver, Key, PutFault, TermFault};
 use std::alloc::Global;
 use std::test::Fail;
 
-// Gives a terminal one key, for this tick. False where memory is short, or keys are left there.
+// Gives a terminal one key, for this tick. False if memory is out, or keys are left there.
 fn load_key<D: CharDriver>(alloc: Global, tty: &mut D, tick: u32) -> bool {
     match vec![in alloc; Key { tick, byte: 65 }] {
         Ok(keys) => tty.load(keys).is_ok(),

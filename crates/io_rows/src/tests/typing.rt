@@ -15,7 +15,7 @@ const READER: Pid = Pid(2);
 
 const OTHER: Pid = Pid(3);
 
-// No read of the process is unfinished.
+// The process has no unfinished read.
 fn is_free_for(term: &Term, p: Pid) -> bool
     ensures { result ≡ not (option_map_or (is_process p) (reader term.now) false) }
 {
@@ -25,7 +25,7 @@ fn is_free_for(term: &Term, p: Pid) -> bool
     }
 }
 
-// A new I$ReadLn of 80 bytes, if the process has none that is unfinished.
+// A new I$ReadLn of 80 bytes, if the process has no unfinished one.
 #[tactic(auto, using(terminal_mgr::proofs::SameCall::same_call))]
 fn read_line(term: &mut Term, p: Pid, into: &mut [u8; 80], d: &mut dyn CharDriver) -> Progress {
     if !is_free_for(term, p) {
@@ -34,7 +34,7 @@ fn read_line(term: &mut Term, p: Pid, into: &mut [u8; 80], d: &mut dyn CharDrive
     term.read_line(p, 80, into.as_mut_slice(), d)
 }
 
-// A new I$Read of 3 bytes, if the process has none that is unfinished.
+// A new I$Read of 3 bytes, if the process has no unfinished one.
 #[tactic(auto, using(terminal_mgr::proofs::SameCall::same_call))]
 fn read_three(term: &mut Term, p: Pid, into: &mut [u8; 80], d: &mut dyn CharDriver) -> Progress {
     if !is_free_for(term, p) {
@@ -139,9 +139,9 @@ fn key_fault(rt: HostRuntime) -> Result<(), Fail> {
     Ok(())
 }
 
-// A tick and a read of the keys `a`, `b` and a carriage return, where one call of the driver fails:
-// calls 1 to 4 ask for keys, calls 5 to 8 put the echo. What waits after the tick, the answer, what
-// is out, and what waits after the read.
+// A tick and a read of the keys `a`, `b` and a carriage return, in which one call of the driver
+// fails: calls 1 to 4 ask for keys, calls 5 to 8 put the echo. The values are the waiting keys
+// after the tick, the answer, the bytes that are out, and the waiting keys after the read.
 #[test]
 fn a_fault_in_each_call(rt: HostRuntime) -> Result<(), Fail> {
     let alloc = rt.alloc();

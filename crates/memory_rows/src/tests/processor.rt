@@ -55,7 +55,7 @@ const CLEAR: Regs = Regs {
 /// The bytes of every address.
 const ADDRESSES: usize = 0x1_0000;
 
-/// So many bytes, which are 0 but for these.
+/// A memory of `size` bytes, which are 0 except for these.
 fn memory(alloc: Global, size: usize, contents: &[(u16, u8)]) -> Result<Ram, AllocError> {
     let mut bytes = vec![in alloc; 0u8; size]?;
     for (at, byte) in contents {
@@ -66,7 +66,7 @@ fn memory(alloc: Global, size: usize, contents: &[(u16, u8)]) -> Result<Ram, All
     Ok(Ram { bytes })
 }
 
-/// The registers after so many instructions that begin with these.
+/// The registers after this number of instructions that begin with these registers.
 fn after(
     alloc: Global,
     before: Regs,

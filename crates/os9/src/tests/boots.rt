@@ -19,8 +19,8 @@ const CREATE: [u8; 41] = [
 /// The most bytes of a boot file in the 8 sectors from sector 8 on.
 const MOST_BOOT: usize = 2048;
 
-/// The smallest volume with a boot file of 64 bytes from sector 8 on, which is marked as used (DD.BT
-/// at byte 21 of LSN 0, DD.BSZ at 24).
+/// The smallest volume with a boot file of 64 bytes from sector 8 on, which is marked as used
+/// (DD.BT at byte 21 of LSN 0, DD.BSZ at 24).
 const BOOTABLE: [(usize, u8); 3] = [(23, 8), (25, 64), (257, 0x80)];
 
 const BOOT: Step = Step {
@@ -30,10 +30,10 @@ const BOOT: Step = Step {
 
 const LINE: &[u8] = b"Hello\r\n";
 
-/// What is to stand in `v` after a call.
+/// The expected contents of `v` after a call.
 #[derive(Clone, Copy)]
 enum Left<'a> {
-    /// The bytes that it had.
+    /// Its bytes before the call.
     Same,
     /// These bytes at these places.
     Changed(&'a [(usize, u8)]),
@@ -118,7 +118,7 @@ fn image_is_written_back(rt: HostRuntime) -> Result<(), Fail> {
     boot(&rt, rt.alloc(), (&image, &[]), &twice, Left::Same)
 }
 
-// The first image is accepted; of the second the sector of the root's entries is not marked.
+// The first image is accepted; in the second the sector of the root's entries is not marked.
 #[test]
 fn second_image_is_refused(rt: HostRuntime) -> Result<(), Fail> {
     let image = bootable(rt.alloc(), &HELLO, &[])?;
@@ -132,8 +132,8 @@ fn second_image_is_refused(rt: HostRuntime) -> Result<(), Fail> {
     boot(&rt, rt.alloc(), (&image, &broken), &step, Left::Same)
 }
 
-// The volume has 16 sectors: 8 from sector 8 on are 2,048 bytes. A boot file that is within it may
-// be refused still.
+// The volume has 16 sectors: 8 from sector 8 on are 2,048 bytes. A boot file within it may still be
+// refused.
 #[test]
 fn boot_bounds(rt: HostRuntime) -> Result<(), Fail> {
     let rows: [([u8; 3], u8, &[u8]); 6] = [
@@ -183,9 +183,9 @@ fn check_of_an_image(rt: HostRuntime) -> Result<(), Fail> {
     Ok(())
 }
 
-// The boot file has 1,086 bytes, and the 800 lengths of the seeds are 13,689 and 13,349 together.
-// Of the 4,096 sectors the system has 6, the boot file 5, the Workers' four descriptors 4, and
-// their files 56 and 55. The third call of the host is a write within the line.
+// The boot file has 1,086 bytes, and the sums of the 800 lengths of the seeds are 13,689 and
+// 13,349. Of the 4,096 sectors the system has 6, the boot file 5, the Workers' four descriptors 4,
+// and their files 56 and 55. The third call of the host is a write within the line.
 #[test]
 fn stress(rt: HostRuntime) -> Result<(), Fail> {
     let rows: [(&str, &[u64], u8, &[u8]); 3] = [

@@ -107,7 +107,7 @@ fn host_faults(rt: HostRuntime) -> Result<(), Fail> {
     Ok(())
 }
 
-// Of the first cause that applies: the reading of the modules (2), the script (7), the slice text
+// By the first cause that applies: the reading of the modules (2), the script (7), the slice text
 // (7), the modules (8).
 #[test]
 fn order_of_causes(rt: HostRuntime) -> Result<(), Fail> {
@@ -158,8 +158,8 @@ fn refused_slices(rt: HostRuntime) -> Result<(), Fail> {
     Ok(())
 }
 
-// The bytes of the line before the one at which TERM fails are out: of the last one the line feed
-// alone is missing.
+// The bytes of the line before the failing one of TERM are out: of the last one only the line feed
+// is missing.
 #[test]
 fn terminal_that_fails(rt: HostRuntime) -> Result<(), Fail> {
     let rows: [(u64, &[u8]); 4] = [(2, b""), (5, b"Hel"), (7, b"Hello"), (8, b"Hello\r")];
@@ -247,7 +247,8 @@ fn boot_module_faults(rt: HostRuntime) -> Result<(), Fail> {
     Ok(())
 }
 
-// A file of seven blocks leaves one of eight for the data; the program of the last two rows wants two.
+// A file of seven blocks leaves one of eight for the data; the program of the last two rows wants
+// two.
 #[test]
 fn group_limit(rt: HostRuntime) -> Result<(), Fail> {
     let eight = "run h --slices s --blocks 8";

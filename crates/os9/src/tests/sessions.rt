@@ -1,5 +1,5 @@
-//! Sessions of the debugger over one module: the file `h`, with the slices `s`, the script `t` and the
-//! commands `c`.
+//! Sessions of the debugger over one module: the file `h`, with the slices `s`, the script `t` and
+//! the commands `c`.
 
 use super::{QUIET, Step, file, shows};
 use fixtures::guest::{HELLO, changed_hello};
@@ -78,7 +78,7 @@ fn terminal_that_fails(rt: HostRuntime) -> Result<(), Fail> {
     Ok(())
 }
 
-// At position 0 there is nothing to go back to, so no key is taken.
+// At position 0 there is no earlier position, so no key is taken.
 #[test]
 fn back_at_the_start(rt: HostRuntime) -> Result<(), Fail> {
     let given = Given {
@@ -93,8 +93,8 @@ fn back_at_the_start(rt: HostRuntime) -> Result<(), Fail> {
     Ok(())
 }
 
-// The files are read in the order of script, slices, commands and modules; the texts are refused in this
-// order, and then the modules.
+// The files are read in the order of script, slices, commands and modules; the texts are refused in
+// this order, and then the modules.
 #[test]
 fn order_of_causes(rt: HostRuntime) -> Result<(), Fail> {
     let module = changed_hello(&[(0, 0x86)]);

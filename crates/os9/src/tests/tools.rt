@@ -8,7 +8,7 @@ use std::alloc::Global;
 use std::process::Abort;
 use std::test::Fail;
 
-/// The files after these calls, each of which ends well and shows this on the output.
+/// The files after these calls, each of which ends well and writes this to the output.
 fn after<'a>(
     rt: &impl Abort,
     alloc: Global,
@@ -31,7 +31,7 @@ fn after<'a>(
     Ok(files)
 }
 
-/// The files after a call that is refused with this error: the image is as it was.
+/// The files after a call that is refused with this error: the image is unchanged.
 fn refused<'a>(
     rt: &impl Abort,
     alloc: Global,
@@ -89,8 +89,8 @@ fn vol_commands(rt: HostRuntime) -> Result<(), Fail> {
     Ok(())
 }
 
-// All 12 clusters of a map `FF FF` that are in no file are freed, and a disk of one cluster has none
-// free.
+// All 12 clusters of a map `FF FF` that are not in a file are freed, and a disk of one cluster has
+// none free.
 #[test]
 fn disks_are_repaired_and_formatted(rt: HostRuntime) -> Result<(), Fail> {
     let alloc = rt.alloc();
@@ -108,7 +108,7 @@ fn disks_are_repaired_and_formatted(rt: HostRuntime) -> Result<(), Fail> {
 }
 
 // 215 is before the walk; a part of a path has 1 to 29 characters. Of a disk of 16 sectors 12 are
-// free; 3,000 bytes need 12 clusters behind the descriptor.
+// free; 3,000 bytes need 12 clusters in addition to the descriptor.
 #[test]
 fn tools_are_refused(rt: HostRuntime) -> Result<(), Fail> {
     let alloc = rt.alloc();
@@ -164,7 +164,7 @@ fn host_fails(rt: HostRuntime) -> Result<(), Fail> {
     Ok(())
 }
 
-// The first call of a drive reads LSN 0. An empty file is no image.
+// The first call of a drive reads LSN 0. An empty file is not an image.
 #[test]
 fn drive_fails(rt: HostRuntime) -> Result<(), Fail> {
     let alloc = rt.alloc();

@@ -24,7 +24,7 @@ use std::test::Fail;
 /// Where the path list lies.
 const LIST: u16 = 0x0040;
 
-/// The registers of a call for a program in 6809 object code, with no parameters.
+/// The registers of a call for a program in 6809 object code, without parameters.
 const PROGRAM: Regs = Regs {
     a: 0x11,
     x: LIST,

@@ -14,7 +14,7 @@ use std::test::Fail;
 /// Where the name of the program lies.
 const NAME: u16 = 0x0040;
 
-/// The registers of a fork of a program in 6809 object code, with no parameters.
+/// The registers of a fork of a program in 6809 object code, without parameters.
 const FORK: Regs = Regs {
     a: 0x11,
     x: NAME,

@@ -1,4 +1,4 @@
-//! What the rows of calls begin with: processes with registers and bytes of a row.
+//! What the rows of calls begin with: processes with the registers and bytes of a row.
 
 ghost use Rattle.std.specs.Prelude.{◌≡◌, ◌<◌, ◌≤◌, length};
 ghost use Rattle.guest_memory.specs.Tie.{modules_of};
@@ -23,7 +23,7 @@ pub const CLEAR: Regs = Regs {
     pc: 0,
 };
 
-/// `assert_eq!` by a call, which a proof passes with less work than the macro's code.
+/// `assert_eq!` as a function call, which costs a proof less than the macro's code.
 pub fn same<T: PartialEq + Debug + Drop>(rt: &impl Abort, got: T, want: T) {
     assert_eq!(rt; got, want);
 }
@@ -56,7 +56,7 @@ fn put(memory: &mut Memory, p: Pid, at: u16, bytes: &[u8]) -> bool
     true
 }
 
-/// Stores bytes in the memory of a process of these, if they fit there.
+/// Stores bytes in the memory of one of these processes, if they fit there.
 pub fn store(s: &mut ProcState, p: Pid, at: u16, bytes: &[u8]) -> bool
     requires lives { IsLiving s.old.table p.0 }
     requires short { length bytes.now ≤ 64 }

@@ -3,7 +3,7 @@ use boot_disk::boot_image;
 use guest_mods::{Load, shell_source, stress_image, stress_slices};
 use std::test::Fail;
 
-// Of a file of 257 bytes the volume has two sectors.
+// A volume with a file of 257 bytes uses two sectors for it.
 #[test]
 fn file_of_two_sectors(rt: HostRuntime) -> Result<(), Fail> {
     let image = boot_image(rt.alloc(), &[0x12; 257])?;
@@ -15,7 +15,7 @@ fn file_of_two_sectors(rt: HostRuntime) -> Result<(), Fail> {
     Ok(())
 }
 
-// Of one Worker with two records: its boot file, and the lengths of the records at its end.
+// A load of one Worker with two records: its boot file ends with the lengths of the records.
 #[test]
 fn small_load(rt: HostRuntime) -> Result<(), Fail> {
     let load = Load {
@@ -46,8 +46,8 @@ fn first_slices(rt: HostRuntime) -> Result<(), Fail> {
 }
 
 /// The header and the name of the shell's module. With its CRC and its length they are those of
-/// `examples/shell.mod`, which `crates/proc_vectors/assemble.py` makes of the same text: an assembler
-/// that shares nothing with this one.
+/// `examples/shell.mod`, which `crates/proc_vectors/assemble.py` makes from the same text. That
+/// assembler shares nothing with this one.
 const SHELL_HEAD: [u8; 18] = [
     0x87, 0xcd, 0x00, 0x6e, 0x00, 0x0d, 0x11, 0x81, 0x46, 0x00, 0x12, 0x00, 0xc8, 0x53, 0x79, 0x73,
     0x47, 0xef,
@@ -56,10 +56,10 @@ const SHELL_HEAD: [u8; 18] = [
 /// The last bytes of that module.
 const SHELL_CRC: [u8; 3] = [0xfb, 0xea, 0x3d];
 
-/// How many bytes it has.
+/// The number of bytes of that module.
 const SHELL_LENGTH: usize = 110;
 
-// The entry offset is the word at 9, just behind the name, and the name is `SysGo`.
+// The entry offset is the word at 9, the address just after the name, and the name is `SysGo`.
 #[test]
 fn shell_is_assembled(rt: HostRuntime) -> Result<(), Fail> {
     let module = assemble(rt.alloc(), shell_source())?;

@@ -1,5 +1,5 @@
-//! Sources with the modules that they make, and the first rule that others break. The expected
-//! values are those of an outside program.
+//! Sources with the modules that they make, and the first rule that other sources break. The
+//! expected values are those of an outside program.
 
 use asm_model::error::AsmError;
 use asm6809::{AsmFault, assemble, size};
@@ -28,7 +28,7 @@ fn assemble_hello(rt: HostRuntime) -> Result<(), Fail> {
     Ok(())
 }
 
-/// A source, with the line that breaks a rule first and the rule.
+/// A source, the first line that breaks a rule, and the rule.
 type Refused = (&'static [u8], u64, AsmError);
 
 /// Sources that are refused.
@@ -131,7 +131,7 @@ fn lengths(rt: HostRuntime) -> Result<(), Fail> {
     Ok(())
 }
 
-/// The source of a module of so many labels, each of which names the one above it.
+/// The source of a module of `count` labels, each of which names the one above it.
 fn many_labels(alloc: Global, count: u32) -> Result<Vec<u8>, AllocError> {
     let mut source = Vec::new(alloc);
     source.extend_from_slice(b" mod a,$21,0,0\nl0 equ *\n")?;
@@ -150,7 +150,7 @@ fn labels(rt: HostRuntime) -> Result<(), Fail> {
     Ok(())
 }
 
-/// The source of a module of a word, then of so many labels from `l0` on, each twice the one above it.
+/// The source of a module of a word, then of labels from `l0` on, each twice the one above it.
 fn doubled_labels(
     alloc: Global,
     word: &str,

@@ -130,7 +130,7 @@ fn terminals_that_are_there(rt: HostRuntime) -> Result<(), Fail> {
     Ok(())
 }
 
-// A line at a tick with so many keys.
+// A line at a tick with this number of keys.
 fn line_of(alloc: Global, start: &[u8], keys: u32) -> Result<Vec<u8>, AllocError> {
     let mut line = start.to_vec(alloc)?;
     for _ in 0..keys {

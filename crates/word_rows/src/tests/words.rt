@@ -1,4 +1,4 @@
-//! Command lines, and what is read of them, each as one line of text.
+//! Command lines, and what is read from them, each as one line of text.
 
 use os9_base::registers::TimePacket;
 use os9_words::command::{Command, RunWords, WordsFault, read_words};
@@ -8,7 +8,7 @@ use std::alloc::{AllocError, Global};
 use std::process::Abort;
 use std::test::Fail;
 
-/// The words of a line, which are what stands between its blanks: none, one or several characters.
+/// The words of a line: the parts between its blanks, each of no, one or several characters.
 fn words_of(alloc: Global, line: &str) -> Result<Vec<String>, AllocError> {
     let mut words = Vec::new(alloc);
     for word in line.split(' ') {
@@ -70,7 +70,7 @@ fn told_vol(alloc: Global, vol: &VolWords) -> Result<String, AllocError> {
     )
 }
 
-/// What is read of words, as a line.
+/// What is read from words, as a line.
 fn told(alloc: Global, words: &[String]) -> Result<String, AllocError> {
     match read_words(alloc, words) {
         Ok(Command::Run(run)) => told_run(alloc, "run", &run),
@@ -90,7 +90,7 @@ fn told(alloc: Global, words: &[String]) -> Result<String, AllocError> {
     }
 }
 
-/// Is this read of each line?
+/// Does reading each line give this result?
 fn are_read(rt: &impl Abort, alloc: Global, rows: &[(&str, &str)]) -> Result<(), Fail> {
     for (line, read) in rows {
         let words = words_of(alloc, line)?;
