@@ -2,7 +2,7 @@
 use Rattle.std.proofs.Common.{◌≡◌, ℕ, Bool, true, false, Option, Some, None, List, [], ◌∷◌, map, not, refl}
 use Rattle.std.specs.Prelude.{option_map, if◌then◌else◌}
 use Rattle.std.specs.List.{slice_split, list_all}
-use Rattle.text_cuts.specs.Cuts.{first_word, behind_word, without_spaces}
+use Rattle.text_values.specs.Cuts.{first_word, behind_word, without_spaces}
 use Rattle.module_maker.specs.GuestModule.{marked_name}
 use Rattle.asm_model.specs.declared.directive.Directive.{Directive}
 use Rattle.asm_model.specs.declared.directive.Directive.TheVariants.{Mod, Emod, Equ, Fcb, Fdb, Fcc, Fcs, Os9}

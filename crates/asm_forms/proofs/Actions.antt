@@ -7,8 +7,8 @@ use Rattle.std.proofs.lemmas.Bool.{and_parts, eqb-true}
 use Rattle.std.proofs.lemmas.Bool.Decides.{nat_tests}
 use Rattle.os9_base.specs.Name.{is_name_character, if_name}
 use Rattle.module_maker.specs.GuestModule.{marked_name}
-use Rattle.text_cuts.specs.Cuts.{first_word, behind_word, without_spaces}
-use Rattle.text_cuts.proofs.Places.{position_or_len-first, position_or_len-next}
+use Rattle.text_values.specs.Cuts.{first_word, behind_word, without_spaces}
+use Rattle.text_values.proofs.Places.{position_or_len-first, position_or_len-next}
 use Rattle.asm_model.specs.declared.directive.Directive.{Directive}
 use Rattle.asm_model.specs.declared.directive.Directive.TheVariants as directive
 use Rattle.asm_model.specs.Characters.{is_comma, is_quote, same_word}

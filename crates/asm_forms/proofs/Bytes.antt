@@ -4,7 +4,7 @@ use Rattle.std.specs.Prelude.{nat_le, option_and_then, if◌then◌else◌}
 use Rattle.std.specs.List.{list_all, list_any}
 use Rattle.std.proofs.lemmas.Bool.{eqb-true}
 use Rattle.std.proofs.lemmas.Bool.Decides.{nat_tests}
-use Rattle.number_text.specs.Number.{number_of, number_after, within, hex_digit, is_digit}
+use Rattle.text_values.specs.Number.{number_of, number_after, within, hex_digit, is_digit}
 use Rattle.asm_model.specs.Characters.{is_sign, is_dollar, is_star}
 use Rattle.asm_model.specs.Numbers.{number, hexadecimal, hex_after, greatest_number}
 use Rattle.asm_model.specs.Expressions.{is_label_character}

@@ -11,7 +11,7 @@ use Rattle.cpu_model.specs.declared.instruction.Tail.{Tail}
 use Rattle.cpu_model.specs.declared.instruction.Tail.TheVariants.{Empty, Byte, Word}
 use Rattle.cpu_model.specs.Table.{is_pair}
 use Rattle.cpu_table.specs.Spelling.{prefix, tail_bytes, spelling}
-use Rattle.text_cuts.specs.Cuts.{first_word}
+use Rattle.text_values.specs.Cuts.{first_word}
 use Rattle.asm_model.specs.declared.operand.Field.{Field}
 use Rattle.asm_model.specs.declared.operand.Field.TheVariants as field
 use Rattle.asm_model.specs.declared.operand.Mark.{Mark}

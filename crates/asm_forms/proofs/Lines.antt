@@ -2,8 +2,8 @@
 use Rattle.std.proofs.Common.{◌≡◌, ℕ, ◌&&◌, ◌||◌, not, Bool, true, false, List, [], ◌∷◌, ◌++◌, take, drop, refl, ap, sym, subst, ◌∙◌, append-nil}
 use Rattle.std.specs.List.{position_or_len, list_all, list_any}
 use Rattle.std.proofs.lemmas.Bool.{and_parts, eqb-true}
-use Rattle.text_cuts.specs.Cuts.{is_space, first_word, behind_word, without_spaces}
-use Rattle.text_cuts.proofs.Places.{position_or_len-first, position_or_len-next}
+use Rattle.text_values.specs.Cuts.{is_space, first_word, behind_word, without_spaces}
+use Rattle.text_values.proofs.Places.{position_or_len-first, position_or_len-next}
 use Rattle.asm_model.proofs.Spaces.{or_left, first_next, behind_next, first_all, behind_all, first_of, behind_of}
 use Rattle.asm_model.specs.Instructions.{operand_text}
 use Rattle.asm_forms.specs.Instructions.{EndsThere, nothing, space}

@@ -12,7 +12,7 @@ use Rattle.cpu_model.specs.declared.instruction.Instr.{Instr}
 use Rattle.cpu_model.specs.declared.instruction.Tail.{Tail}
 use Rattle.cpu_model.specs.declared.instruction.Tail.TheVariants.{Empty, Byte}
 use Rattle.cpu_model.specs.Table.{row, is_pair}
-use Rattle.text_cuts.specs.Cuts.{first_word, behind_word, without_spaces}
+use Rattle.text_values.specs.Cuts.{first_word, behind_word, without_spaces}
 use Rattle.asm_model.specs.declared.operand.Field.{Field}
 use Rattle.asm_model.specs.declared.operand.Field.TheVariants as field
 use Rattle.asm_model.specs.declared.operand.Mark.{Mark}

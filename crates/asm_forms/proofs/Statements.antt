@@ -3,7 +3,7 @@ use Rattle.std.proofs.Common.{◌≡◌, ℕ, ◌&&◌, not, Bool, true, false, 
 use Rattle.std.specs.Prelude.{nat_le, length, if◌then◌else◌}
 use Rattle.std.specs.List.{list_all, list_any}
 use Rattle.std.proofs.lemmas.Bool.Decides.{nat_tests}
-use Rattle.text_cuts.specs.Cuts.{is_space, first_word, behind_word, without_spaces}
+use Rattle.text_values.specs.Cuts.{is_space, first_word, behind_word, without_spaces}
 use Rattle.asm_model.specs.Characters.{is_line_byte, is_star}
 use Rattle.asm_model.specs.Expressions.{is_letter, is_label_character, longest_label, is_register_name, is_label}
 use Rattle.asm_model.specs.Statements.{Action, label_alone, instruction, module_start, module_end, equals, byte_list, word_list, characters, system_call, Statement, action_of, skipped, broken, stated, is_skipped, statement, after_label, labelled, line_read}

@@ -6,7 +6,7 @@ use Rattle.cpu_model.specs.declared.instruction.Instr.{Instr}
 use Rattle.cpu_model.specs.declared.rows.Row.{Row}
 use Rattle.cpu_model.specs.Table as table
 use Rattle.cpu_table.specs.Spelling.{spelling}
-use Rattle.text_cuts.specs.Cuts.{is_space}
+use Rattle.text_values.specs.Cuts.{is_space}
 use Rattle.asm_model.specs.Characters.{is_line_byte, same_word}
 use Rattle.asm_model.specs.Mnemonics.{row_word}
 use Rattle.asm_model.specs.Instructions.{Shape, with_tail}

@@ -3,7 +3,7 @@ use Rattle.std.proofs.Common.{◌≡◌, ℕ, suc, ◌+◌, ◌<◌, ◌≤◌, 
 use Rattle.std.specs.Prelude.{if◌then◌else◌, ◌&&◌}
 use Rattle.std.specs.List.{slice_split, onto_first, position_or_len, before_first, after_first, list_any}
 use Rattle.std.proofs.lemmas.List.Splits.{slice_split-cons_no, slice_split_first}
-use Rattle.text_cuts.proofs.Places.{position_or_len-first, position_or_len-next, position_or_len-within}
+use Rattle.text_values.proofs.Places.{position_or_len-first, position_or_len-next, position_or_len-within}
 use Rattle.asm_model.specs.Characters.{is_quote}
 use Rattle.asm_model.specs.Statements.{quoted, ends_there}
 

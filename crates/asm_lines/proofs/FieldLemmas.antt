@@ -2,7 +2,7 @@
 use Rattle.std.proofs.Common.{◌≡◌, ℕ, ◌==◌, Bool, true, false, cond, Option, Some, None, List, [], ◌∷◌, length, refl, ap, ◌∙◌}
 use Rattle.std.specs.Prelude.{is_some, IfSome}
 use Rattle.std.specs.List.{slice_split, onto_first}
-use Rattle.text_cuts.specs.Cuts.{first_word, behind_word, without_spaces}
+use Rattle.text_values.specs.Cuts.{first_word, behind_word, without_spaces}
 use Rattle.asm_model.specs.Characters.{is_comma}
 use Rattle.asm_model.specs.Statements.{module_fields, action_of, statement, after_label}
 use Rattle.asm_lines.specs.declared.cuts.Cut.{Cut}

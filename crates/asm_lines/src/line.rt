@@ -6,7 +6,7 @@ ghost use Rattle.asm_lines.specs.Lines.{action_said, line_said};
 
 use crate::operands::{Action, action_of};
 use asm_terms::is_label;
-use text_cuts::{behind_word, first_word, without_spaces};
+use text_values::{behind_word, first_word, without_spaces};
 
 /// A label, if there is one, and an action.
 #[derive(Clone, Copy, Debug)]

@@ -10,7 +10,7 @@ use crate::words::directive_of;
 use asm_model::directive::Directive;
 use asm_terms::{is_constant_expression, is_expression};
 use asm_text::{Shape, shape_of};
-use text_cuts::first_word;
+use text_values::first_word;
 
 /// The operands of `mod`, as texts.
 #[derive(Clone, Copy, Debug)]

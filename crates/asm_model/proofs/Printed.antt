@@ -14,7 +14,7 @@ use Rattle.asm_model.specs.declared.operand.Wanted.{Wanted}
 use Rattle.asm_model.specs.declared.operand.Wanted.TheVariants.{Nothing, Fixed, Value}
 use Rattle.asm_model.specs.declared.operand.Field.{Field}
 use Rattle.asm_model.specs.declared.operand.Field.TheVariants as field
-use Rattle.text_cuts.specs.Cuts.{first_word}
+use Rattle.text_values.specs.Cuts.{first_word}
 use Rattle.asm_model.specs.Mnemonics.{row_word}
 use Rattle.asm_model.specs.Print.{printed, printed_row, printed_operand, with_operand}
 use Rattle.asm_model.specs.Operands.{Operand, mark_of, row_operand, filled, modulo, distance}

@@ -2,7 +2,7 @@
 use Rattle.std.proofs.Common.{◌≡◌, ℕ, ◌+◌, Bool, true, false, Option, Some, None, List, [], ◌∷◌, inl, inr, refl, subst}
 use Rattle.std.specs.Prelude.{option_map, option_and_then, if◌then◌else◌}
 use Rattle.std.specs.List.{find, list_all}
-use Rattle.text_cuts.specs.Cuts.{first_word}
+use Rattle.text_values.specs.Cuts.{first_word}
 use Rattle.cpu_model.specs.declared.instruction.Tail.{Tail}
 use Rattle.cpu_model.specs.declared.instruction.Instr.{Instr}
 use Rattle.cpu_model.specs.Table.{row}

@@ -4,7 +4,7 @@ use Rattle.std.specs.Prelude.{◌&&◌, nat_le}
 use Rattle.std.specs.List.{position_or_len, list_any, list_all}
 use Rattle.std.proofs.lemmas.Bool.{and_parts, and_from}
 use Rattle.std.proofs.lemmas.Bool.Decides.{nat_tests}
-use Rattle.text_cuts.specs.Cuts.{is_space, first_word, behind_word, without_spaces}
+use Rattle.text_values.specs.Cuts.{is_space, first_word, behind_word, without_spaces}
 use Rattle.asm_model.specs.Characters.{is_line_byte}
 use Rattle.asm_model.specs.Print.{with_operand}
 use Rattle.asm_model.specs.Instructions.{operand_text}

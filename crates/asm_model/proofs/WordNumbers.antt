@@ -1,7 +1,7 @@
 -- A word's four digits are read as the word.
 use Rattle.std.proofs.Common.{◌≡◌, ℕ, ◌+◌, ◌*◌, ◌/◌, ◌%◌, ◌<◌, false, Some, [], ◌∷◌, refl, ap, ◌∙◌, arith}
 use Rattle.std.specs.List.{list_any}
-use Rattle.number_text.specs.Number.{hex_digit}
+use Rattle.text_values.specs.Number.{hex_digit}
 use Rattle.asm_model.specs.Characters.{is_comma, is_sign}
 use Rattle.asm_model.specs.Numbers.{hex_character}
 use Rattle.asm_model.specs.Print.{word_number}

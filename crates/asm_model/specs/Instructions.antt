@@ -15,7 +15,7 @@ use Rattle.asm_model.specs.declared.operand.Wanted.TheVariants.{Nothing, Fixed, 
 use Rattle.asm_model.specs.declared.operand.Field.{Field}
 use Rattle.asm_model.specs.declared.operand.Field.TheVariants as field
 use Rattle.asm_model.specs.declared.operand.Mark.{Mark}
-use Rattle.text_cuts.specs.Cuts.{first_word, behind_word, without_spaces}
+use Rattle.text_values.specs.Cuts.{first_word, behind_word, without_spaces}
 use Rattle.asm_model.specs.Characters.{is_line_byte, same_word}
 use Rattle.asm_model.specs.Mnemonics.{row_word}
 use Rattle.asm_model.specs.Expressions.{terms, value_of, constant_meaning}

@@ -1,6 +1,6 @@
 -- Numbers in assembler texts (this project's own, in the manner of the usual assemblers of the 6809).
 use Rattle.std.specs.Prelude.{ℕ, ◌+◌, ◌*◌, ◌/◌, ◌%◌, nat_le, nat_lt, Option, Some, None, option_and_then, List, [], ◌∷◌, ◌++◌, length, if◌then◌else◌}
-use Rattle.number_text.specs.Number.{number_of, within, hex_digit}
+use Rattle.text_values.specs.Number.{number_of, within, hex_digit}
 use Rattle.asm_model.specs.Characters.{is_dollar}
 
 -- ---- hexadecimal digits

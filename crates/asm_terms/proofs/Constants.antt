@@ -3,7 +3,7 @@ use Rattle.std.proofs.Common.{◌≡◌, ℕ, ◌==◌, ◌&&◌, Bool, true, fa
 use Rattle.std.specs.Prelude.{option_map, option_and_then, if◌then◌else◌}
 use Rattle.std.proofs.lemmas.Bool.{and_parts, eqb-true}
 use Rattle.std.proofs.lemmas.Bool.Decides.{nat_tests}
-use Rattle.number_text.specs.Number.{is_digit}
+use Rattle.text_values.specs.Number.{is_digit}
 use Rattle.asm_model.specs.Numbers.{number}
 use Rattle.asm_model.specs.Expressions.{constant, label, term, star, is_label, is_letter, constant_meaning}
 

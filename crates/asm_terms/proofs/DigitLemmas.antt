@@ -2,7 +2,7 @@
 use Rattle.std.proofs.Common.{◌≡◌, ℕ, suc, ◌+◌, ◌*◌, ◌<◌, ◌≤◌, ◌==◌, Bool, true, Option, Some, None, List, [], ◌∷◌, length, drop, get_or, refl, sym, ap, ◌∙◌, arith, drop-cons, add-one}
 use Rattle.std.specs.Prelude.{nat_le, option_map, option_and_then, if◌then◌else◌}
 use Rattle.std.proofs.lemmas.Bool.{leb-true, le-leb}
-use Rattle.number_text.specs.Number.{hex_digit}
+use Rattle.text_values.specs.Number.{hex_digit}
 use Rattle.asm_model.specs.Numbers.{hex_after, hexadecimal}
 use Rattle.asm_model.proofs.Finite.{on_below}
 

@@ -4,7 +4,7 @@ use Rattle.std.specs.Prelude.{nat_le, option_map, option_and_then, if◌then◌e
 use Rattle.std.specs.List.{slice_split, onto_first, list_any}
 use Rattle.std.proofs.lemmas.Bool.Decides.{nat_tests}
 use Rattle.std.proofs.lemmas.List.{take_rest}
-use Rattle.number_text.specs.Number.{number_of, number_after, hex_digit, within, is_digit}
+use Rattle.text_values.specs.Number.{number_of, number_after, hex_digit, within, is_digit}
 use Rattle.asm_model.specs.Characters.{is_sign, is_minus, is_dollar}
 use Rattle.asm_model.specs.Numbers.{number, hexadecimal, hex_after, greatest_number}
 use Rattle.asm_model.specs.Expressions.{Signed, Term, term, terms, signed, terms_with, terms_after, lone_value, constant_meaning}

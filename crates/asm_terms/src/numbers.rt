@@ -1,11 +1,11 @@
 ghost use Rattle.std.specs.Prelude.{◌≡◌, ◌+◌, ◌*◌, ◌<◌, ◌≤◌, IfSome, option_map, option_and_then, pos};
 ghost use Rattle.asm_model.specs.Characters.{is_minus};
-ghost use Rattle.number_text.specs.Number.{hex_digit as hex_digit_lem};
+ghost use Rattle.text_values.specs.Number.{hex_digit as hex_digit_lem};
 ghost use Rattle.asm_model.specs.Numbers.{hexadecimal as hexadecimal_lem, number as number_lem};
 ghost use Rattle.asm_model.specs.Expressions.{lone_value as lone_value_lem, terms};
 ghost use Rattle.asm_terms.specs.Terms.{joined};
 
-use number_text::{hex_digit, read_number};
+use text_values::{hex_digit, read_number};
 
 /// The greatest number: a word of ones.
 const GREATEST: u32 = 65_535;

@@ -5,7 +5,7 @@ use Rattle.std.specs.Borrow.{Bor}
 use Rattle.std.specs.List.{slice_split, onto_first, position_or_len}
 use Rattle.std.proofs.lemmas.List.Splits.{slice_split_first}
 use Rattle.std.proofs.lemmas.Bool.{eqb-true}
-use Rattle.text_cuts.proofs.Places.{position_or_len-first, position_or_len-next}
+use Rattle.text_values.proofs.Places.{position_or_len-first, position_or_len-next}
 use Rattle.asm_model.specs.Characters.{is_closing}
 use Rattle.asm_model.specs.Operands.{before_bracket}
 use Rattle.asm_text.specs.Cuts.{two, two_of}

@@ -12,7 +12,7 @@ use crate::shape::{Shape, shape_length, shape_of};
 use crate::tail::tail_with;
 use asm_terms::Numbers;
 use cpu_model::instruction::Instr;
-use text_cuts::{behind_word, first_word, without_spaces};
+use text_values::{behind_word, first_word, without_spaces};
 
 // Are all bytes from a space to `~`?
 fn are_line_bytes(line: &[u8]) -> bool

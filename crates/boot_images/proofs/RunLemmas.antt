@@ -11,9 +11,9 @@ use Rattle.file_drives.proofs.DriveLemmas.{media-there}
 use Rattle.file_start.specs.Start.{HaveImages, HaveVolumes}
 use Rattle.machine_model.specs.Start.{Starts}
 use Rattle.machine_model.specs.State.{State}
-use Rattle.disk_ends.proofs.Images.{images-keep-ends}
-use Rattle.disk_ends.proofs.Runs.{first-events-keep-ends, run-keeps-ends, slice-keeps-ends}
-use Rattle.disk_ends.proofs.Starts.{start-has-images, start-has-no-more}
+use Rattle.image_laws.proofs.Images.{images-keep-ends}
+use Rattle.image_laws.proofs.Runs.{first-events-keep-ends, run-keeps-ends, slice-keeps-ends}
+use Rattle.image_laws.proofs.Starts.{start-has-images, start-has-no-more}
 use Rattle.os9_kernel.specs.Breaks.{BreaksEvent}
 use Rattle.os9_kernel.specs.Calls.{StopsSlice}
 use Rattle.os9_kernel.specs.Outside.{Outside}

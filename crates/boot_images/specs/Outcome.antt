@@ -7,7 +7,7 @@ use Rattle.file_drives.specs.Drives.{drive_states}
 use Rattle.file_rules.specs.Files.{volume_at}
 use Rattle.machine_model.specs.Run.{Run}
 use Rattle.machine_model.specs.State.{State, has_living}
-use Rattle.disk_ends.specs.Images.{IsWrittenBack}
+use Rattle.image_laws.specs.Images.{IsWrittenBack}
 use Rattle.boot_run.specs.Console.{IsObserved}
 use Rattle.os9_kernel.specs.Changes.{NoneAsks}
 use Rattle.boot_run.specs.Machine.{IsUnrun, Judges, LeavesUnrun, RunsFirst, Setup, StartsLoaded}

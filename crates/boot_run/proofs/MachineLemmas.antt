@@ -25,7 +25,7 @@ use Rattle.event_rules.specs.declared.ends.BootFault.{BootFault}
 use Rattle.event_rules.specs.declared.ends.BootFault.TheVariants.{OutOfMemory, BadModule, NoFirst, TooLarge}
 use Rattle.machine_model.specs.Start.{Boot as Begun, Starts}
 use Rattle.machine_model.specs.State.{State, has_living}
-use Rattle.kept_laws.proofs.RunningLaws.{start-running}
+use Rattle.wait_laws.proofs.RunningLaws.{start-running}
 use Rattle.os9_kernel.specs.declared.kernel.Kernel.{Kernel}
 use Rattle.os9_kernel.specs.declared.new.Config.{Config}
 use Rattle.os9_kernel.specs.declared.new.StartError.{StartError}

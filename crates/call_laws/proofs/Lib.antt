@@ -6,3 +6,9 @@ pub mod Lists
 pub mod MemoryKept
 pub mod ModulesKept
 pub mod OthersKept
+pub mod Codes
+pub mod EndsKept
+pub mod IoKept
+pub mod OthersLeft
+pub mod PathsKept
+pub mod StepWalk

@@ -1,5 +1,6 @@
-//! What one call on processes and modules leaves unchanged of memory, of the modules and of the
-//! other processes.
+//! What one call leaves unchanged of memory, of the modules, of the devices and of the other
+//! processes.
 #![tactic(auto)]
 
+pub mod attempt;
 pub mod call;

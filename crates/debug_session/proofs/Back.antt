@@ -9,7 +9,7 @@ use Rattle.os9_outer.specs.TerminalState.{TerminalState}
 use Rattle.os9_outer.specs.declared.terminal.Key.{Key}
 use Rattle.script_text.specs.declared.script.ScriptKey.{ScriptKey}
 use Rattle.key_loading.specs.Loaded.{HasNoKeys, keys_for, loaded_from, with_keys}
-use Rattle.key_dropping.specs.Dropped.{CanBeTaken, LosesKeys}
+use Rattle.key_loading.specs.Dropped.{CanBeTaken, LosesKeys}
 use Rattle.event_rules.specs.Console.{terminals_emptied, without_bytes}
 use Rattle.event_rules.specs.Terminals.{OnlyGains, TerminalsOnlyGain}
 use Rattle.run_laws.specs.Faults.{NotFailed}

@@ -6,7 +6,7 @@ use Rattle.os9_base.specs.Count.{Rose}
 use Rattle.os9_outer.specs.TerminalState.{TerminalState, fault_counts}
 use Rattle.script_text.specs.declared.script.ScriptKey.{ScriptKey}
 use Rattle.key_loading.specs.Loaded.{loaded, loaded_from}
-use Rattle.key_dropping.specs.Dropped.{FailsAt, LosesKeys}
+use Rattle.key_loading.specs.Dropped.{FailsAt, LosesKeys}
 use Rattle.event_rules.specs.Console.{terminals_emptied}
 use Rattle.event_rules.specs.Terminals.{TerminalsOnlyGain}
 use Rattle.file_rules.specs.Files.{DriveState, drive_at}

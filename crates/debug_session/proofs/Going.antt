@@ -6,9 +6,9 @@ use Rattle.machine_model.specs.State.{State}
 use Rattle.file_rules.specs.Files.{Files}
 use Rattle.file_drives.specs.Drives.{drive_states}
 use Rattle.os9_kernel.specs.Outside.{Outside}
-use Rattle.debug_rules.specs.Course.{Course, last_of}
-use Rattle.debug_rules.specs.Prints.{shows}
-use Rattle.debug_rules.specs.Show.{end_line}
+use Rattle.debug_text.specs.Course.{Course, last_of}
+use Rattle.debug_text.specs.Prints.{shows}
+use Rattle.debug_text.specs.Show.{end_line}
 use Rattle.debug_text.specs.declared.command.Command.{Command}
 use Rattle.debug_text.specs.declared.command.Command.TheVariants.{To, Back, Regs, Mem, Dis}
 use Rattle.debug_text.specs.declared.command.Span.{Span}

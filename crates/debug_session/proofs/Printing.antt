@@ -12,9 +12,9 @@ use Rattle.event_rules.specs.Start.{Refuses}
 use Rattle.event_rules.specs.declared.ends.BootFault.{BootFault}
 use Rattle.os9_kernel.specs.Outside.{Outside}
 use Rattle.boot_run.specs.World.{FailsToWrite, HasNoFault, World}
-use Rattle.debug_rules.proofs.Courses.{course-one, course-some}
-use Rattle.debug_rules.specs.Course.{Course, position_after}
-use Rattle.debug_rules.specs.Prints.{printed_from, shows}
+use Rattle.debug_text.proofs.Courses.{course-one, course-some}
+use Rattle.debug_text.specs.Course.{Course, position_after}
+use Rattle.debug_text.specs.Prints.{printed_from, shows}
 use Rattle.debug_text.specs.declared.command.Command.{Command}
 use Rattle.event_run.specs.Devices.{Unfailed}
 use Rattle.event_run.specs.declared.position.Position.{Position}

@@ -7,7 +7,7 @@ use Rattle.os9_base.specs.declared.limits.TheConstants.{LAST_TICK}
 use Rattle.os9_outer.specs.TerminalState.{TerminalState}
 use Rattle.script_text.specs.declared.script.ScriptKey.{ScriptKey}
 use Rattle.key_loading.specs.Loaded.{HasNoKeys, loaded, loaded_from}
-use Rattle.key_dropping.specs.Dropped.{LosesKeys}
+use Rattle.key_loading.specs.Dropped.{LosesKeys}
 use Rattle.file_rules.specs.Files.{DriveState, NoneFailed as NoDriveHasFailed}
 use Rattle.file_drives.specs.Drives.{DriveView, drive_state, drive_states}
 use Rattle.file_start.specs.Start.{FailsAmong, HaveImages, HaveVolumes, StartsDrives}
@@ -22,7 +22,7 @@ use Rattle.machine_model.specs.State.{State}
 use Rattle.event_rules.proofs.TerminalLaws.{gain-same}
 use Rattle.machine_model.proofs.Drives.{drives-same}
 use Rattle.machine_model.proofs.Starts.{starts-one}
-use Rattle.kept_laws.proofs.RunningLaws.{start-running}
+use Rattle.wait_laws.proofs.RunningLaws.{start-running}
 use Rattle.os9_kernel.specs.Outside.{Outside}
 use Rattle.os9_kernel.specs.Starting.{IsAccepted, IsStarted, StartIsRefused, WhereRefused, drive_fault}
 use Rattle.os9_kernel.specs.Tie.{Represents, Stands}
@@ -30,8 +30,8 @@ use Rattle.os9_kernel.specs.declared.kernel.Kernel.{Kernel}
 use Rattle.os9_kernel.specs.declared.new.StartError.{StartError}
 use Rattle.os9_kernel.specs.declared.new.StartError.TheVariants.{Boot, Drive}
 use Rattle.run_laws.specs.Faults.{NotFailed}
-use Rattle.debug_rules.specs.Course.{Course}
-use Rattle.debug_rules.specs.Prints.{IsCourse}
+use Rattle.debug_text.specs.Course.{Course}
+use Rattle.debug_text.specs.Prints.{IsCourse}
 use Rattle.event_run.specs.Devices.{DevicesGain, Unfailed}
 use Rattle.event_run.specs.Position.{CanGoOn, IsAt}
 use Rattle.event_run.specs.declared.position.Position.{Position}

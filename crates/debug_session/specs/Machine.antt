@@ -12,8 +12,8 @@ use Rattle.machine_model.specs.State.{State}
 use Rattle.os9_kernel.specs.Outside.{Outside}
 use Rattle.os9_kernel.specs.declared.new.Config.{Config}
 use Rattle.boot_run.specs.Machine.{CanRun}
-use Rattle.debug_rules.specs.Course.{Course}
-use Rattle.debug_rules.specs.Prints.{IsCourse}
+use Rattle.debug_text.specs.Course.{Course}
+use Rattle.debug_text.specs.Prints.{IsCourse}
 use Rattle.event_run.specs.Devices.{Unfailed}
 use Rattle.debug_session.specs.declared.machine.Machine.{Machine}
 use Rattle.debug_session.specs.declared.machine.SessionFault.{SessionFault}

@@ -2,15 +2,15 @@
 use Rattle.std.specs.Prelude.{◌≡◌, ℕ, ◌-◌, ◌<◌, ⊤, Result, All, OnOk, IfOk, IfErr, List}
 use Rattle.os9_base.specs.Cells.{Cells}
 use Rattle.key_loading.specs.Loaded.{loaded}
-use Rattle.key_dropping.specs.Dropped.{FailsAt}
+use Rattle.key_loading.specs.Dropped.{FailsAt}
 use Rattle.event_rules.specs.Start.{Refuses}
 use Rattle.event_rules.specs.declared.ends.BootFault.{BootFault}
 use Rattle.file_drives.specs.Drives.{drive_states}
 use Rattle.machine_model.specs.State.{State}
 use Rattle.os9_kernel.specs.Outside.{Outside}
-use Rattle.debug_rules.specs.Course.{Course, last_of, position_after, state_at}
-use Rattle.debug_rules.specs.Prints.{shows}
-use Rattle.debug_rules.specs.Show.{shown_cells}
+use Rattle.debug_text.specs.Course.{Course, last_of, position_after, state_at}
+use Rattle.debug_text.specs.Prints.{shows}
+use Rattle.debug_text.specs.Show.{shown_cells}
 use Rattle.debug_text.specs.declared.command.Command.{Command}
 use Rattle.debug_text.specs.declared.command.Command.TheVariants.{To, Back}
 use Rattle.event_run.specs.Devices.{DevicesGain, Unfailed}

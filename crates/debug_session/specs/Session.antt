@@ -1,15 +1,15 @@
 -- A session (this project's own).
 use Rattle.std.specs.Prelude.{◌≡◌, ◌≢◌, ◌⊎◌, ℕ, All, Result, Some, Err, IfErr, OnOk, List, [], take, fold, slice_get}
 use Rattle.os9_outer.specs.Stream.{GainsPrefix, stream_with}
-use Rattle.key_dropping.specs.Dropped.{FailsAt}
+use Rattle.key_loading.specs.Dropped.{FailsAt}
 use Rattle.event_rules.specs.Start.{Refuses}
 use Rattle.machine_model.specs.Start.{Starts}
 use Rattle.machine_model.specs.State.{State}
 use Rattle.run_laws.specs.Faults.{CanRise}
 use Rattle.debug_text.specs.declared.command.Command.{Command}
 use Rattle.os9_kernel.specs.Outside.{Outside}
-use Rattle.debug_rules.specs.Course.{Course, position_after}
-use Rattle.debug_rules.specs.Prints.{printed_from}
+use Rattle.debug_text.specs.Course.{Course, position_after}
+use Rattle.debug_text.specs.Prints.{printed_from}
 use Rattle.event_run.specs.Devices.{DevicesGain}
 use Rattle.boot_run.specs.World.{FailsToWrite, HasNoFault, World}
 use Rattle.debug_session.specs.Counts.{FailedOnce, TerminalRose}

@@ -3,8 +3,8 @@
 ghost use Rattle.std.specs.Prelude.{◌≡◌, ◌<◌, IfOk, vec_len};
 ghost use Rattle.os9_base.specs.declared.limits.TheConstants.{PROCESS_PLACES};
 ghost use Rattle.os9_kernel.specs.Outside.{OnDevices, outside};
-ghost use Rattle.debug_rules.specs.Prints.{shows};
-ghost use Rattle.debug_rules.specs.Show.{end_line as end_line_lem};
+ghost use Rattle.debug_text.specs.Prints.{shows};
+ghost use Rattle.debug_text.specs.Show.{end_line as end_line_lem};
 ghost use Rattle.debug_text.specs.declared.command.Command.TheVariants.{To, Back};
 ghost use Rattle.debug_session.specs.Machine.{or_no_memory};
 ghost use Rattle.debug_session.specs.Moves.{AtPosition, HasShown, IsUnderWay, MovesOn};
@@ -12,8 +12,7 @@ ghost use Rattle.debug_session.specs.Moves.{AtPosition, HasShown, IsUnderWay, Mo
 use crate::machine::{Machine, SessionFault};
 use crate::memory::{push_instructions, push_memory};
 use crate::moves::go_to;
-use debug_lines::{push_end, push_regs};
-use debug_text::{Command, Span};
+use debug_text::{Command, Span, push_end, push_regs};
 use device_table::devices::Devices;
 use event_run::{Position, Step};
 use os9_outer::drive::BlockDriver;

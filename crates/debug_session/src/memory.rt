@@ -2,13 +2,12 @@
 
 ghost use Rattle.std.specs.Prelude.{◌≡◌, ◌<◌, ◌≤◌, ◌++◌, OnOk};
 ghost use Rattle.os9_base.specs.declared.limits.TheConstants.{PROCESS_PLACES};
-ghost use Rattle.debug_rules.specs.Disassembly.{bytes_from as bytes_from_lem, dis_lines, longest_instruction};
-ghost use Rattle.debug_rules.specs.Show.{mem_line};
+ghost use Rattle.debug_text.specs.Disassembly.{bytes_from as bytes_from_lem, dis_lines, longest_instruction};
+ghost use Rattle.debug_text.specs.Show.{mem_line};
 ghost use Rattle.debug_session.specs.Moves.{SeesCells};
 
 use arrayvec::ArrayVec;
-use debug_lines::{push_address, push_instruction, push_seen};
-use debug_text::Span;
+use debug_text::{Span, push_address, push_instruction, push_seen};
 use event_run::Position;
 use std::alloc::AllocError;
 

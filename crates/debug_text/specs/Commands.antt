@@ -1,7 +1,7 @@
 -- The commands of a debugger, in the form of a text (this project's own).
 use Rattle.std.specs.Prelude.{ℕ, ◌+◌, ◌-◌, ◌*◌, ◌^◌, min, true, Option, Some, None, option_map, option_and_then, Result, List, [], ◌∷◌, codes, if◌then◌else◌}
 use Rattle.std.specs.Str.{bytes_eq}
-use Rattle.number_text.specs.Number.{number_of, within}
+use Rattle.text_values.specs.Number.{number_of, within}
 use Rattle.script_text.specs.Lines.{line_words, is_edged, text_gives}
 use Rattle.script_text.specs.Script.{byte_of}
 use Rattle.debug_text.specs.declared.command.Command.{Command}

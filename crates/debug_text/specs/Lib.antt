@@ -1,2 +1,7 @@
 pub mod Commands
 pub mod Cuts
+pub mod Course
+pub mod Disassembly
+pub mod Prints
+pub mod Rows
+pub mod Show

@@ -2,7 +2,7 @@ ghost use Rattle.std.specs.Prelude.{◌≡◌, Some, option_map};
 ghost use Rattle.script_text.specs.Lines.{line_words};
 ghost use Rattle.debug_text.specs.Cuts.{cut_words, of_only};
 
-use text_cuts::{first_space, without_spaces};
+use text_values::{first_space, without_spaces};
 
 /// A line that was cut after its first word.
 #[derive(Clone, Copy)]

@@ -1,11 +1,17 @@
-//! The commands of a debugger, in the form of a text.
+//! The commands of a debugger, in the form of a text; what each prints; and the lines of a
+//! disassembly.
 #![tactic(auto)]
 
+pub use command::{Command, Span};
+pub use line::{push_address, push_end, push_instruction, push_regs, push_seen};
+pub use reader::read_commands;
+
 pub mod command;
+pub mod course;
 mod cut;
+mod digits;
+mod line;
 mod reader;
 mod words;
 pub mod worked;
-
-pub use command::{Command, Span};
-pub use reader::read_commands;
+pub mod worked_rules;

@@ -1,9 +1,9 @@
 ghost use Rattle.std.specs.Prelude.{◌≡◌, ◌≤◌, IfSome, [], ◌∷◌, min, option_map};
 ghost use Rattle.debug_text.specs.Commands.{address_of, count_of, last_position, position_of};
-ghost use Rattle.number_text.specs.Number.{number_after};
+ghost use Rattle.text_values.specs.Number.{number_after};
 ghost use Rattle.script_text.specs.Script.{byte_of};
 
-use number_text::{hex_digit, read_number};
+use text_values::{hex_digit, read_number};
 
 /// The least and the greatest count of a command.
 const LEAST: u32 = 1;

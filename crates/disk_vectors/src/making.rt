@@ -12,14 +12,11 @@ use os9_base::name::Name;
 use os9_base::registers::TimePacket;
 use os9_outer::drive::BlockDriver;
 use rbf_access::Volume;
-use rbf_creation::create;
-use rbf_dirs::delete;
-use rbf_folder::make_dir;
+use rbf_create::{create, make_dir};
+use rbf_delete::{delete, set_attr, set_fd_attr};
 use rbf_sector::Fd;
-use rbf_size::set_size;
-use rbf_update::{set_attr, set_fd_attr};
 use rbf_walk::{may, walk};
-use rbf_write::write_at;
+use rbf_write::{set_size, write_at};
 use std::alloc::Global;
 
 // The greatest attributes of a file that is not a directory.

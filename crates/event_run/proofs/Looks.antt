@@ -14,7 +14,7 @@ use Rattle.io_rules.specs.Arrivals.{ArrivesFrom, Desk, after_key_signal, every_u
 use Rattle.event_rules.specs.Console.{terminals_emptied}
 use Rattle.machine_model.specs.Run.{Choose, Tick, desk_of}
 use Rattle.machine_model.specs.State.{State}
-use Rattle.kept_laws.proofs.RunningLaws.{tick-leaves}
+use Rattle.wait_laws.proofs.RunningLaws.{tick-leaves}
 use Rattle.os9_kernel.specs.View.{living_regs}
 use Rattle.event_run.specs.Position.{LooksAlike}
 

@@ -16,7 +16,7 @@ use Rattle.machine_model.specs.Run.{Choose, Tick}
 use Rattle.machine_model.specs.Start.{Boot}
 use Rattle.machine_model.specs.State.{State, has_living}
 use Rattle.run_laws.proofs.Starting.{start-bare}
-use Rattle.debug_rules.specs.Prints.{IsCourse}
+use Rattle.debug_text.specs.Prints.{IsCourse}
 use Rattle.event_rules.proofs.TerminalLaws.{gain-same}
 use Rattle.event_rules.specs.Start.{first_process}
 use Rattle.machine_model.proofs.Drives.{drives-same}
@@ -28,8 +28,8 @@ use Rattle.os9_kernel.specs.declared.kernel.Kernel.{Kernel}
 use Rattle.os9_kernel.proofs.Represented.{living-few, represents-emptied}
 use Rattle.run_laws.specs.Faults.{HasNoVolumes, NoneFailed}
 use Rattle.run_laws.proofs.Kept.{choice-bare, tick-bare}
-use Rattle.debug_rules.specs.Course.{Course, last_of, state_at}
-use Rattle.debug_rules.specs.Show.{shown, shown_cells, shown_regs}
+use Rattle.debug_text.specs.Course.{Course, last_of, state_at}
+use Rattle.debug_text.specs.Show.{shown, shown_cells, shown_regs}
 use Rattle.os9_base.specs.declared.registers.Regs.{Regs}
 use Rattle.proc_model.specs.Memory.{MemoryState, map_at}
 use Rattle.proc_model.specs.Objects.{object_cells}

@@ -4,7 +4,7 @@ use Rattle.os9_base.specs.declared.call.OutOfMemory.{OutOfMemory}
 use Rattle.machine_model.specs.State.{State, has_living}
 use Rattle.os9_kernel.specs.Outside.{Outside}
 use Rattle.os9_kernel.specs.Tie.{Represents, ticks}
-use Rattle.debug_rules.specs.Course.{Course, last_of}
+use Rattle.debug_text.specs.Course.{Course, last_of}
 use Rattle.event_run.specs.Devices.{DevicesGain, Unfailed}
 use Rattle.event_run.specs.Position.{CanGoOn, IsAt}
 use Rattle.event_run.specs.declared.position.Position.{Position}

@@ -8,8 +8,8 @@ use Rattle.os9_kernel.specs.Outside.{Outside}
 use Rattle.os9_kernel.specs.Tie.{IsGoing, Represents, Stands, executed, ticks}
 use Rattle.os9_kernel.specs.View.{living_regs}
 use Rattle.run_laws.specs.Faults.{HasNoVolumes, NoneFailed}
-use Rattle.debug_rules.specs.Course.{Course, state_at}
-use Rattle.debug_rules.specs.Show.{shown}
+use Rattle.debug_text.specs.Course.{Course, state_at}
+use Rattle.debug_text.specs.Show.{shown}
 use Rattle.event_run.specs.declared.position.Position.{Position}
 
 -- ---- what is left of a run

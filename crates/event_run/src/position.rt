@@ -3,9 +3,9 @@ ghost use Rattle.os9_kernel.specs.Outside.{OnDevices, Outside, outside};
 ghost use Rattle.os9_kernel.specs.Tie.{IsGoing, Represents, Stands, executed, ticks};
 ghost use Rattle.machine_model.specs.Start.{Boot};
 ghost use Rattle.machine_model.specs.State.{State};
-ghost use Rattle.debug_rules.specs.Course.{Course, state_at};
-ghost use Rattle.debug_rules.specs.Prints.{IsCourse};
-ghost use Rattle.debug_rules.specs.Show.{shown, shown_cells, shown_regs};
+ghost use Rattle.debug_text.specs.Course.{Course, state_at};
+ghost use Rattle.debug_text.specs.Prints.{IsCourse};
+ghost use Rattle.debug_text.specs.Show.{shown, shown_cells, shown_regs};
 ghost use Rattle.event_run.specs.Moves.{HasBegun, HasEvents, HasFound, HasGone};
 ghost use Rattle.event_run.specs.Position.{CanGoOn, IsAt};
 

@@ -29,8 +29,8 @@ use Rattle.file_rules.specs.declared.places.FilePlace.{FilePlace}
 use Rattle.file_laws.specs.Kinds.{AreKinds}
 use Rattle.file_laws.proofs.Steps.{IsFound, needs-by, refuses-by}
 use Rattle.touch_laws.proofs.Splits.{list-by}
-use Rattle.io_laws.specs.Terminals.{AreOnTerminals}
-use Rattle.io_laws.proofs.StepWalk.{step-gives}
+use Rattle.call_laws.specs.Terminals.{AreOnTerminals}
+use Rattle.call_laws.proofs.StepWalk.{step-gives}
 use Rattle.run_laws.specs.Mounted.{AreMounted}
 use Rattle.run_laws.proofs.Changing.{SomeChange}
 use Rattle.run_laws.proofs.SomeEffects.{call-there, some-effect}

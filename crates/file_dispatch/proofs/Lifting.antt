@@ -28,8 +28,8 @@ use Rattle.file_state.specs.Attempt.{Attempts, Standing}
 use Rattle.file_state.specs.Counted.{AttemptsIn, AttemptsWithin, calls_of}
 use Rattle.file_state.specs.Tie.{IsSound, StandsFor}
 use Rattle.file_state.specs.declared.state.FileState.{FileState}
-use Rattle.file_tree.proofs.SameLemmas.{some-machine}
-use Rattle.path_calls.specs.Quiet.{Ends, IsQuiet, effect_of}
+use Rattle.dir_calls.proofs.SameLemmas.{some-machine}
+use Rattle.device_paths.specs.Quiet.{Ends, IsQuiet, effect_of}
 use Rattle.file_rules.specs.Memory.{LacksMemory}
 use Rattle.file_dispatch.specs.Attempts.{IsOnDevice, Tries}
 use Rattle.file_dispatch.specs.Bounds.{attempt_calls}

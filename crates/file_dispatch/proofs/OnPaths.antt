@@ -23,10 +23,10 @@ use Rattle.file_drives.specs.Drives.{DriveView}
 use Rattle.file_state.specs.Tie.{IsSound}
 use Rattle.file_state.specs.declared.state.FileState.{FileState}
 use Rattle.file_state.specs.declared.state.OpenFile.{OpenFile as KernelFile}
-use Rattle.file_bytes.proofs.AgainLemmas.{again-no_read}
-use Rattle.file_bytes.proofs.OpenedLemmas.{is-named}
-use Rattle.file_bytes.specs.Opened.{IsOpened, ReadsNoTerminal}
-use Rattle.path_calls.specs.Quiet.{IsQuiet}
+use Rattle.file_io.proofs.AgainLemmas.{again-no_read}
+use Rattle.file_io.proofs.OpenedLemmas.{is-named}
+use Rattle.file_io.specs.Opened.{IsOpened, ReadsNoTerminal}
+use Rattle.device_paths.specs.Quiet.{IsQuiet}
 use Rattle.file_dispatch.specs.Attempts.{IsOnDevice}
 use Rattle.file_dispatch.specs.Uses.{call_of, device_of}
 use Rattle.file_dispatch.specs.declared.path_use.PathUse.{PathUse}

@@ -3,10 +3,10 @@ use Rattle.std.specs.Prelude.{ℕ}
 use Rattle.file_rules.specs.Files.{Asker, Files}
 use Rattle.file_rules.specs.declared.path_call.PathCall.{PathCall}
 use Rattle.file_rules.specs.declared.path_call.PathCall.TheVariants as Call
-use Rattle.file_bytes.specs.Calls.{f_perr_calls, i_read_calls, i_seek_calls, i_write_calls, i_writln_calls}
-use Rattle.file_opens.specs.Calls.{i_create_calls, i_open_calls}
+use Rattle.file_io.specs.Calls.{f_perr_calls, i_read_calls, i_seek_calls, i_write_calls, i_writln_calls}
+use Rattle.file_open.specs.Calls.{i_create_calls, i_open_calls}
 use Rattle.file_status.specs.Status.{i_getstt_calls, i_setstt_calls}
-use Rattle.file_tree.specs.Calls.{i_chgdir_calls, i_delete_calls, i_deletx_calls, i_makdir_calls}
+use Rattle.dir_calls.specs.Calls.{i_chgdir_calls, i_delete_calls, i_deletx_calls, i_makdir_calls}
 
 -- a call that never reaches a drive
 abbrev pub no_calls : Asker → Files → ℕ → ℕ

@@ -14,12 +14,12 @@ ghost use Rattle.os9_outer.specs.TerminalState.{TerminalState};
 ghost use Rattle.proc_rules.specs.Records.{IsLiving};
 
 use device_table::devices::Devices;
-use file_opens::create::i_create;
-use file_opens::open::i_open;
+use dir_calls::chgdir::i_chgdir;
+use dir_calls::delete::{i_delete, i_deletx};
+use dir_calls::makdir::i_makdir;
+use file_open::create::i_create;
+use file_open::open::i_open;
 use file_state::state::FileState;
-use file_tree::chgdir::i_chgdir;
-use file_tree::delete::{i_delete, i_deletx};
-use file_tree::makdir::i_makdir;
 use os9_base::call::CallEnd;
 use os9_base::registers::{Pid, TimePacket};
 use os9_outer::drive::BlockDriver;

@@ -1,7 +1,7 @@
 //! Calls that use an open path, by what it was opened on.
 
 ghost use Rattle.std.specs.Prelude.{◌≡◌, List, None, vec_len};
-ghost use Rattle.file_bytes.specs.Opened.{IsOpened};
+ghost use Rattle.file_io.specs.Opened.{IsOpened};
 ghost use Rattle.file_dispatch.specs.Attempts.{TriesFrom};
 ghost use Rattle.file_dispatch.specs.Bounds.{attempt_calls};
 ghost use Rattle.file_dispatch.specs.Uses.{call_of, device_of};
@@ -21,9 +21,9 @@ ghost use Rattle.proc_rules.specs.Records.{IsLiving, record_at};
 use crate::device::attempt_on_device;
 use crate::path_use::PathUse;
 use device_table::devices::Devices;
-use file_bytes::reads::{read, read_line};
-use file_bytes::seeks::{seek, seek_nothing};
-use file_bytes::writes::{write, write_error, write_line};
+use file_io::reads::{read, read_line};
+use file_io::seeks::{seek, seek_nothing};
+use file_io::writes::{write, write_error, write_line};
 use file_state::state::{FileState, OpenFile};
 use file_status::gets::get_status;
 use file_status::sets::set_status;

@@ -23,8 +23,8 @@ use Rattle.rbf_access.specs.Mounted.{IsMounted, Represents}
 use Rattle.rbf_access.specs.declared.faults.FileFault.{FileFault}
 use Rattle.rbf_access.specs.declared.faults.FileFault.TheVariants.{Device, NoCluster, TooManyRuns}
 use Rattle.rbf_access.specs.declared.volume.Volume.{Volume}
-use Rattle.rbf_files.proofs.FilledFile.{put_same_file}
-use Rattle.rbf_growth.specs.Grown.{is_gained}
+use Rattle.rbf_write.proofs.FilledFile.{put_same_file}
+use Rattle.rbf_alloc.specs.Grown.{is_gained}
 use Rattle.rbf_walk.specs.declared.error.DirError.TheVariants.{File}
 use Rattle.rbf_write.proofs.Contents.{put_none}
 use Rattle.rbf_write.specs.Files.{OnVolumeFile}

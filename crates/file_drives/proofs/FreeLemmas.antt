@@ -14,7 +14,7 @@ use Rattle.rbf_change.specs.Calls.{shape, cluster_size, is_free_in, free_total}
 use Rattle.rbf_change.specs.Growth.{Gains, IsChoice, clusters_needed, free_beside, uses}
 use Rattle.rbf_change.proofs.LawfulWrites.{shape-image}
 use Rattle.rbf_access.specs.Mounted.{Represents}
-use Rattle.rbf_growth.proofs.Chosen.{uses_more}
+use Rattle.rbf_alloc.proofs.Chosen.{uses_more}
 
 -- how many of a range pass two tests, of which the first is stricter
 module _ (f h : ℕ → Bool) (stricter : (c : ℕ) → f c ≡ true → h c ≡ true) where

@@ -1,3 +1,5 @@
+pub mod LawsEntries
+pub mod Deletions
 pub mod AttributeLemmas
 pub mod ChangeLemmas
 pub mod DeletionLemmas

@@ -7,10 +7,9 @@ ghost use Rattle.file_drives.specs.Slots.{HasDataFileOn, HasFileOn};
 use os9_base::registers::TimePacket;
 use os9_outer::drive::BlockDriver;
 use rbf_access::{FileFault, Volume};
-use rbf_size::set_size;
-use rbf_update::set_attr;
+use rbf_delete::set_attr;
 use rbf_walk::DirError;
-use rbf_write::write_at;
+use rbf_write::{set_size, write_at};
 
 // Writes bytes to a file that is not a directory.
 fn write_on(

@@ -2,6 +2,7 @@
 //! their files, each on the one drive that it reaches.
 #![tactic(auto)]
 
+pub mod changes;
 mod changing;
 pub mod disks;
 mod entries;

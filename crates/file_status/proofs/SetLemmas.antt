@@ -21,7 +21,7 @@ use Rattle.rbf_access.specs.Faults.{file_error}
 use Rattle.rbf_access.specs.declared.faults.FileFault.{FileFault}
 use Rattle.rbf_access.specs.declared.faults.FileFault.TheVariants.{Device, NoCluster, TooManyRuns}
 use Rattle.rbf_access.specs.declared.volume.Volume.{Volume}
-use Rattle.rbf_update.specs.Attributes.{attribute_calls}
+use Rattle.rbf_delete.specs.Attributes.{attribute_calls}
 use Rattle.rbf_write.specs.Outcomes.{laying_calls}
 use Rattle.rbf_write.specs.Sizes.{Sizing, giving_calls, size_calls}
 use Rattle.rbf_walk.specs.Walk.{directory_error}

@@ -10,7 +10,7 @@ use Rattle.io_rules.specs.Status.{options}
 use Rattle.io_rules.specs.declared.status.TheConstants.{OPTION_BYTES}
 use Rattle.rbf_change.specs.Calls.{cluster_size}
 use Rattle.rbf_change.specs.Growth.{clusters_needed}
-use Rattle.rbf_update.specs.Attributes.{attribute_calls}
+use Rattle.rbf_delete.specs.Attributes.{attribute_calls}
 use Rattle.rbf_write.specs.Sizes.{size_calls}
 use Rattle.proc_rules.specs.Records.{record_at}
 use Rattle.proc_state.specs.Tie.{Represents}

@@ -1,3 +1,9 @@
+pub mod Parts
+pub mod Marks
+pub mod Fields
+pub mod Rules
+pub mod Volume
+pub mod Free
 pub mod AcceptedLemmas
 pub mod BehindLemmas
 pub mod RandomLemmas

@@ -1,3 +1,4 @@
+pub mod BootDisk
 pub mod Accepted
 pub mod Random
 pub mod Stress

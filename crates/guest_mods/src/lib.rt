@@ -1,17 +1,21 @@
 //! The image that the command `stress` boots, with a boot file of modules, and its list of slices;
-//! and the source of a shell. The maker of modules is passed on from `module_maker`.
+//! the modules and their disk; and the source of a shell. The maker of modules is passed on from
+//! `module_maker`.
 #![tactic(auto)]
 
+pub use image::boot_image;
 pub use load::Load;
 pub use module_maker::module;
 pub use shell::shell_source;
 pub use slices::stress_slices;
 pub use stress::stress_image;
 
+mod image;
 mod load;
 mod programs;
 mod random;
 pub mod rows;
+mod sectors;
 mod shell;
 mod slices;
 mod stress;

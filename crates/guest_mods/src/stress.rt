@@ -1,13 +1,13 @@
 ghost use Rattle.std.specs.Prelude.{◌≡◌, ◌-◌, IfOk, length};
 ghost use Rattle.rbf_model.specs.Geometry.{image_geometry};
 ghost use Rattle.rbf_model.specs.Volume.{Vol, free_clusters};
-ghost use Rattle.boot_disk.specs.BootDisk.{boot_image as boot_image_lem, boot_volume, used_sectors, BootsFile};
+ghost use Rattle.guest_mods.specs.BootDisk.{boot_image as boot_image_lem, boot_volume, used_sectors, BootsFile};
 ghost use Rattle.guest_mods.specs.Stress.{IsLoad, stress_file as stress_file_lem};
 ghost use Rattle.guest_mods.specs.Accepted.{IsAccepted};
 
+use crate::boot_image;
 use crate::load::Load;
 use crate::programs::{sysgo, worker};
-use boot_disk::boot_image;
 use os9_base::call::OutOfMemory;
 use std::alloc::Global;
 

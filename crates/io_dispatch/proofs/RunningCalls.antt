@@ -18,12 +18,12 @@ use Rattle.io_rules.specs.Codes.{io_call_of}
 use Rattle.io_rules.specs.Io.{Io, kept_at}
 use Rattle.io_rules.specs.declared.io_call.IoCall.{IoCall}
 use Rattle.io_rules.specs.declared.io_call.IoCall.TheVariants as Call
-use Rattle.io_laws.specs.Kept.{AreKept, StaysAllowed as IsAllowed, StaysRead as AllowedRead}
-use Rattle.io_laws.specs.Terminals.{AreOnTerminals}
-use Rattle.io_laws.proofs.Codes.{attempts-code}
+use Rattle.call_laws.specs.Kept.{AreKept, StaysAllowed as IsAllowed, StaysRead as AllowedRead}
+use Rattle.call_laws.specs.Terminals.{AreOnTerminals}
+use Rattle.call_laws.proofs.Codes.{attempts-code}
 use Rattle.proc_state.specs.Tie.{Represents}
 use Rattle.proc_state.specs.declared.state.ProcState.{ProcState}
-use Rattle.stream_calls.specs.Moving.{AreTerminals, StaysIfKept, StaysRead}
+use Rattle.device_io.specs.Moving.{AreTerminals, StaysIfKept, StaysRead}
 use Rattle.io_dispatch.specs.Staying.{MayAttempt, StaysAllowed}
 
 -- each terminal that a path was opened on is there

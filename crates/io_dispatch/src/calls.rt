@@ -3,21 +3,21 @@
 ghost use Rattle.std.specs.Prelude.{◌≡◌, vec_len};
 ghost use Rattle.proc_rules.specs.Records.{IsLiving};
 ghost use Rattle.io_dispatch.specs.Staying.{MayAttempt};
-ghost use Rattle.stream_calls.specs.Streams.{streams};
-ghost use Rattle.stream_calls.specs.Trying.{AttemptsFrom, WantsMemoryFrom};
+ghost use Rattle.device_io.specs.Streams.{streams};
+ghost use Rattle.device_io.specs.Trying.{AttemptsFrom, WantsMemoryFrom};
 
+use device_io::stream_reads::{i_read, i_readln};
+use device_io::stream_writes::{f_perr, i_write, i_writln};
+use device_paths::numbers::{i_close, i_dup};
+use device_paths::open::{i_create, i_open};
+use device_paths::status::{i_getstt, i_setstt};
 use device_table::devices::Devices;
 use io_rules::io_call::IoCall;
 use io_state::state::IoState;
-use open_calls::open::{i_create, i_open};
 use os9_base::call::CallEnd;
 use os9_base::registers::Pid;
 use os9_outer::terminal::CharDriver;
-use path_calls::numbers::{i_close, i_dup};
-use path_calls::status::{i_getstt, i_setstt};
 use proc_state::state::ProcState;
-use stream_calls::reads::{i_read, i_readln};
-use stream_calls::writes::{f_perr, i_write, i_writln};
 
 /// An attempt of a call on paths by a living process (System Programmer's Manual, "I/O service
 /// requests"). The process does not get its result yet. If the process has a pending call, this is

@@ -23,7 +23,7 @@ use Rattle.event_rules.specs.declared.ends.EventEnd.{EventEnd}
 use Rattle.event_rules.specs.declared.ends.EventEnd.TheVariants.{Ran}
 use Rattle.call_laws.proofs.CallsKept.{AttemptLeft, changed-same, left-done, left-refused}
 use Rattle.call_laws.proofs.EventsKept.{broken-left, instruction-left}
-use Rattle.io_laws.proofs.EndsKept.{by-end}
+use Rattle.call_laws.proofs.EndsKept.{by-end}
 use Rattle.call_laws.proofs.MemoryKept.{itself-written, kept-written}
 use Rattle.call_laws.proofs.OthersKept.{changed-self}
 use Rattle.machine_model.specs.Event.{Acts, Event, before_delivery}

@@ -31,15 +31,15 @@ use Rattle.file_rules.specs.declared.path_call.PathCall.{PathCall}
 use Rattle.file_rules.specs.declared.path_call.PathCall.TheVariants as OnPath
 use Rattle.event_rules.specs.Event.{next_instruction}
 use Rattle.event_rules.specs.declared.ends.EventEnd.{EventEnd}
-use Rattle.io_laws.specs.Terminals.{KeepsReading}
+use Rattle.call_laws.specs.Terminals.{KeepsReading}
 use Rattle.call_laws.specs.Others.{AttemptsCall}
 use Rattle.call_laws.proofs.ForkedChildren.{NamesChild}
-use Rattle.io_laws.proofs.PathsKept.{open-stays}
-use Rattle.io_laws.specs.Others.{LeavesPaths}
-use Rattle.io_laws.proofs.IoKept.{EffectLeft, FailsOn}
-use Rattle.io_laws.proofs.OthersLeft.{attempt-leaves, effect-left, left-leaves}
+use Rattle.call_laws.proofs.PathsKept.{open-stays}
+use Rattle.call_laws.specs.PathOthers.{LeavesPaths}
+use Rattle.call_laws.proofs.IoKept.{EffectLeft, FailsOn}
+use Rattle.call_laws.proofs.OthersLeft.{attempt-leaves, effect-left, left-leaves}
 use Rattle.call_laws.proofs.OthersKept.{free-is, living-record}
-use Rattle.io_laws.proofs.PathsKept.{IoLeft, PathsLeft, io-ended, io-interrupted, io-same, left-numbers}
+use Rattle.call_laws.proofs.PathsKept.{IoLeft, PathsLeft, io-ended, io-interrupted, io-same, left-numbers}
 use Rattle.touch_laws.specs.Devices.{IsOnDevice, number_in}
 use Rattle.touch_laws.specs.Touch.{IsSamePath, KeepsIo, LeavesDevices, MovesPosition, PathsMove}
 use Rattle.touch_laws.proofs.Attempts.{attempt-comes}

@@ -9,3 +9,6 @@ pub mod Linking
 pub mod Loaded
 pub mod Programs
 pub mod VolumeEvents
+pub mod ObjectLawsAreas
+pub mod Events
+pub mod Starts

@@ -16,7 +16,7 @@ use Rattle.io_rules.specs.declared.io_call.Direction.TheVariants.{Writing}
 use Rattle.file_rules.specs.Attempts.{asker_of}
 use Rattle.file_rules.specs.Files.{OpenFile, open_file}
 use Rattle.file_rules.specs.declared.path_call.PathCall.{PathCall}
-use Rattle.io_laws.specs.Terminals.{KeepsReading}
+use Rattle.call_laws.specs.Terminals.{KeepsReading}
 use Rattle.call_laws.specs.Others.{AttemptsCall}
 use Rattle.touch_laws.specs.Devices.{IsDevice, number_in}
 use Rattle.touch_laws.specs.Touch.{IsSamePath, moves_position}

@@ -7,3 +7,4 @@ pub mod Loading
 pub mod Modules
 pub mod NewObjects
 pub mod Volumes
+pub mod NewBytes

@@ -11,7 +11,7 @@ use Rattle.call_rules.specs.CallResult.{CallResult, refused}
 use Rattle.call_rules.specs.Inner.{Inner}
 use Rattle.call_rules.specs.ModuleLinks.{Entered}
 use Rattle.call_rules.specs.Program.{Program}
-use Rattle.file_loading.proofs.LoadedLemmas.{some-memory}
+use Rattle.load_calls.proofs.LoadedLemmas.{some-memory}
 use Rattle.file_drives.specs.Drives.{DriveView, media_of}
 use Rattle.file_rules.specs.Files.{Asker, Files, NoneFailed}
 use Rattle.file_rules.specs.Load.{GoesOnLoaded, Loaded}
@@ -28,8 +28,8 @@ use Rattle.file_state.specs.declared.state.FileState.{FileState}
 use Rattle.io_rules.specs.PathList.{PathList}
 use Rattle.proc_state.specs.Tie.{Answers, Comes, Represents, inner_of}
 use Rattle.proc_state.specs.declared.state.ProcState.{ProcState}
-use Rattle.program_files.specs.Reading.{AnswersReading, IsInBuffer, ReadsTo}
-use Rattle.program_files.specs.declared.reading.ProgramRead.{ProgramRead}
+use Rattle.load_calls.specs.Reading.{AnswersReading, IsInBuffer, ReadsTo}
+use Rattle.load_calls.specs.declared.reading.ProgramRead.{ProgramRead}
 use Rattle.load_calls.specs.Attempts.{AttemptsBy, file_calls, start_calls}
 use Rattle.load_calls.specs.Loading.{GoesOn}
 

@@ -4,8 +4,8 @@ use Rattle.call_rules.specs.CallResult.{CallResult, done, refused}
 use Rattle.call_rules.specs.Inner.{Inner}
 use Rattle.file_rules.specs.Load.{Loaded, Loads}
 use Rattle.file_rules.specs.ProgramFile.{ProgramFile}
-use Rattle.file_loading.proofs.OutcomeLemmas.{tried-refused}
-use Rattle.file_loading.specs.Entering.{TriesFile}
+use Rattle.load_calls.proofs.OutcomeLemmas.{tried-refused}
+use Rattle.load_calls.specs.Entering.{TriesFile}
 use Rattle.proc_state.specs.Tie.{Answers, Represents}
 use Rattle.proc_state.specs.declared.state.ProcState.{ProcState}
 use Rattle.load_calls.specs.Loading.{GoesOn}

@@ -1,3 +1,13 @@
+pub mod TryingLemmas
+pub mod EnteringLemmas
+pub mod LoadedLemmas
+pub mod OutcomeLemmas
+pub mod SeenLemmas
+pub mod FirstLemmas
+pub mod FoundLemmas
+pub mod ReadingLemmas
+pub mod TieLemmas
+pub mod WayLemmas
 mod AttemptLemmas
 mod GoingOnLemmas
 mod LinkLemmas

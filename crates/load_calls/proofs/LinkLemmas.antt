@@ -17,7 +17,7 @@ use Rattle.call_rules.specs.Inner.{Inner, own_at, regs_at, with_memory}
 use Rattle.call_rules.specs.Link.{Mapped, after_link, links_at, mapped_group}
 use Rattle.file_rules.specs.Load.{Loaded, links_first}
 use Rattle.file_rules.specs.ProgramFile.{ProgramFile}
-use Rattle.file_loading.proofs.OutcomeLemmas.{IsLoaded}
+use Rattle.load_calls.proofs.OutcomeLemmas.{IsLoaded}
 use Rattle.module_calls.specs.Linked.{links_entered}
 use Rattle.load_calls.specs.Loading.{has_place}
 use Rattle.load_calls.proofs.MapLemmas.{mapped-at, mapped-there, mapped-new}

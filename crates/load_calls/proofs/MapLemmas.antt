@@ -17,7 +17,7 @@ use Rattle.proc_model.specs.Objects.{NamesObjects, file_blocks, object_byte, obj
 use Rattle.proc_model.specs.Slots.{Slots, group_slot, highest_free_run, place_names, with_group}
 use Rattle.call_rules.specs.Link.{Mapped, mapped_group}
 use Rattle.file_rules.specs.Load.{Loaded}
-use Rattle.file_loading.proofs.OutcomeLemmas.{IsLoaded}
+use Rattle.load_calls.proofs.OutcomeLemmas.{IsLoaded}
 
 -- ---- what is seen
 

@@ -9,8 +9,8 @@ use Rattle.proc_model.specs.Module.{step_from}
 use Rattle.proc_model.specs.ModuleList.{new_entry}
 use Rattle.proc_model.specs.Objects.{block_count, file_blocks}
 use Rattle.file_rules.specs.Load.{Loaded, Loads}
-use Rattle.file_loading.proofs.OutcomeLemmas.{IsLoaded, loads-ok, loads-one, tried-ok}
-use Rattle.file_loading.specs.Entering.{TriesFile}
+use Rattle.load_calls.proofs.OutcomeLemmas.{IsLoaded, loads-ok, loads-one, tried-ok}
+use Rattle.load_calls.specs.Entering.{TriesFile}
 
 -- a file of so many bytes that was tried, and whose first module this is
 pub record IsReady (m : MemoryState) (file : List ℕ) (size : ℕ) (first : ModuleInfo) : Type 0 where

@@ -19,7 +19,7 @@ use Rattle.proc_model.specs.MemoryChanges.{new_numbers}
 use Rattle.proc_model.specs.ModuleList.{ModuleEntry, entered_groups, free_number, module_entry_at, new_entry, some_entry, with_module_entry}
 use Rattle.proc_model.specs.Objects.{file_block, file_blocks, file_objects}
 use Rattle.file_rules.specs.Load.{Loaded, with_file_entered}
-use Rattle.file_loading.proofs.OutcomeLemmas.{IsLoaded, first-found}
+use Rattle.load_calls.proofs.OutcomeLemmas.{IsLoaded, first-found}
 
 -- ---- lists
 

@@ -22,7 +22,7 @@ use Rattle.call_rules.specs.Program.{Program, blocks_of_pages, most_pages, progr
 use Rattle.file_rules.specs.Load.{Loaded}
 use Rattle.file_rules.specs.Program.{forks, loaded_program, starts_first}
 use Rattle.file_rules.specs.ProgramFile.{ProgramFile}
-use Rattle.file_loading.proofs.OutcomeLemmas.{IsLoaded, first-there}
+use Rattle.load_calls.proofs.OutcomeLemmas.{IsLoaded, first-there}
 use Rattle.fork_calls.specs.Loading.{loads_program}
 use Rattle.load_calls.specs.Starting.{start_refusal}
 use Rattle.load_calls.proofs.RoomLemmas.{free-after}

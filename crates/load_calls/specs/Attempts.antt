@@ -18,7 +18,7 @@ use Rattle.file_rules.specs.Way.{list_of}
 use Rattle.file_state.specs.Attempt.{OnEach, Standing}
 use Rattle.file_state.specs.Counted.{CalledAtMost, calls_of}
 use Rattle.file_state.specs.Tie.{StandsFor}
-use Rattle.program_files.specs.Calls.{list_calls}
+use Rattle.load_calls.specs.Calls.{list_calls}
 
 -- an attempt of a process had this end, called the drives at most this number of times, and left all media unchanged
 pub record AttemptsBy (attempt : CallResult → Files → Type 0) (m : Inner) (p : ℕ) (end : CallEnd) (most : ℕ)

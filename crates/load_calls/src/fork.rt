@@ -2,7 +2,7 @@
 
 ghost use Rattle.std.specs.Prelude.{◌≡◌, ◌≤◌, IsSome, Ok, take, vec_len};
 ghost use Rattle.call_rules.specs.Inner.{Inner};
-ghost use Rattle.file_loading.specs.Entering.{TriesFile};
+ghost use Rattle.load_calls.specs.Entering.{TriesFile};
 ghost use Rattle.file_rules.specs.Program.{forks, parameters_of, starts_first};
 ghost use Rattle.file_rules.specs.ProgramFile.{ProgramFile};
 ghost use Rattle.guest_memory.specs.Tie.{Represents as RepresentsMemory};
@@ -16,13 +16,15 @@ ghost use Rattle.os9_base.specs.declared.limits.TheConstants.{MOST_GROUP_BYTES a
 ghost use Rattle.proc_model.specs.Memory.{MemoryState};
 ghost use Rattle.proc_rules.specs.Records.{IsLiving};
 ghost use Rattle.proc_state.specs.Tie.{Represents};
-ghost use Rattle.program_files.specs.Reading.{IsInBuffer};
+ghost use Rattle.load_calls.specs.Reading.{IsInBuffer};
 
 use crate::front::try_front;
 use crate::named::names_program;
 use crate::program::{PROGRAM, enter_program, start_refusal};
+use crate::reading::{ProgramRead, read_program};
+use crate::refusal::program_refusal;
+use crate::trial::blocks_of;
 use device_table::devices::Devices;
-use file_loading::trial::blocks_of;
 use file_state::state::FileState;
 use fork_calls::fork::{f_fork as fork_named, start_child};
 use fork_calls::naming::area_pages;
@@ -33,8 +35,6 @@ use os9_outer::drive::BlockDriver;
 use proc_model::module::ModuleInfo;
 use proc_state::outcome::call_end;
 use proc_state::state::ProcState;
-use program_files::reading::{ProgramRead, read_program};
-use program_files::refusal::program_refusal;
 /// F$Fork: starts a process (System Programmer's Manual, F$Fork). Takes the type and language of
 /// the program in A, the pages of its data area in B, its name or its file's path list at X, and
 /// the size and the address of its parameters in Y and U. Returns the number of the new process in

@@ -2,7 +2,7 @@
 
 ghost use Rattle.std.specs.Prelude.{◌≡◌, ℕ, ◌≤◌, IfOk, IsSome, Ok, take};
 ghost use Rattle.call_rules.specs.Inner.{Inner, with_memory};
-ghost use Rattle.file_loading.specs.Entering.{TriesFile};
+ghost use Rattle.load_calls.specs.Entering.{TriesFile};
 ghost use Rattle.file_rules.specs.Load.{Loaded, Loads};
 ghost use Rattle.guest_memory.specs.Tie.{Represents as RepresentsMemory, modules_of};
 ghost use Rattle.load_calls.specs.Loading.{HasFirst, IsEnteredIn};
@@ -11,8 +11,8 @@ ghost use Rattle.proc_model.specs.Memory.{MemoryState};
 ghost use Rattle.proc_model.specs.ModuleList.{module_entry_at};
 ghost use Rattle.proc_state.specs.Tie.{Represents};
 
-use file_loading::entering::enter_tried;
-use file_loading::trial::try_file;
+use crate::entering::enter_tried;
+use crate::trial::try_file;
 use proc_model::module::{ModId, ModuleInfo};
 use proc_state::state::ProcState;
 

@@ -2,7 +2,7 @@
 
 ghost use Rattle.std.specs.Prelude.{◌≡◌, ◌<◌, ◌≤◌, Ok, take, vec_len};
 ghost use Rattle.call_rules.specs.Inner.{Inner};
-ghost use Rattle.file_loading.specs.Entering.{TriesFile};
+ghost use Rattle.load_calls.specs.Entering.{TriesFile};
 ghost use Rattle.file_rules.specs.Load.{links_first};
 ghost use Rattle.file_rules.specs.ProgramFile.{ProgramFile};
 ghost use Rattle.guest_memory.specs.Tie.{Represents as RepresentsMemory};
@@ -16,11 +16,12 @@ ghost use Rattle.os9_base.specs.declared.limits.TheConstants.{MOST_GROUP_BYTES a
 ghost use Rattle.proc_model.specs.Memory.{MemoryState};
 ghost use Rattle.proc_rules.specs.Records.{IsLiving};
 ghost use Rattle.proc_state.specs.Tie.{Represents};
-ghost use Rattle.program_files.specs.Reading.{IsInBuffer};
+ghost use Rattle.load_calls.specs.Reading.{IsInBuffer};
 
 use crate::front::{enter_front, try_front};
+use crate::reading::{ProgramRead, read_program};
+use crate::trial::blocks_of;
 use device_table::devices::Devices;
-use file_loading::trial::blocks_of;
 use file_state::state::FileState;
 use module_calls::links::link_module;
 use os9_base::call::CallEnd;
@@ -31,7 +32,6 @@ use proc_model::memory::MOST_LINKS;
 use proc_model::module::ModuleInfo;
 use proc_state::outcome::call_end;
 use proc_state::state::ProcState;
-use program_files::reading::{ProgramRead, read_program};
 
 /// F$Load: loads a file of modules (System Programmer's Manual, F$Load). Takes the path list at X;
 /// returns the first module's type and language in A, its attributes and revision in B, X past the

@@ -2,7 +2,7 @@
 
 ghost use Rattle.std.specs.Prelude.{◌≡◌, ◌≤◌, ◌<◌, IsSome, Ok, take};
 ghost use Rattle.call_rules.specs.Inner.{Inner};
-ghost use Rattle.file_loading.specs.Entering.{TriesFile};
+ghost use Rattle.load_calls.specs.Entering.{TriesFile};
 ghost use Rattle.file_rules.specs.Load.{Loaded, Loads};
 ghost use Rattle.file_rules.specs.Program.{parameters_of};
 ghost use Rattle.file_rules.specs.ProgramFile.{ProgramFile};
@@ -14,9 +14,10 @@ ghost use Rattle.proc_model.specs.Memory.{MemoryState};
 ghost use Rattle.proc_model.specs.ModuleList.{module_entry_at};
 ghost use Rattle.proc_rules.specs.Records.{IsLiving};
 ghost use Rattle.proc_state.specs.Tie.{Represents};
-ghost use Rattle.program_files.specs.Reading.{IsInBuffer};
+ghost use Rattle.load_calls.specs.Reading.{IsInBuffer};
 
 use crate::front::enter_front;
+use crate::reading::ProgramRead;
 use fork_calls::naming::area_pages;
 use fork_calls::program::NamedProgram;
 use guest_memory::memory::Memory;
@@ -26,7 +27,6 @@ use os9_base::limits::MAP_SLOTS;
 use os9_base::registers::Pid;
 use proc_model::module::ModuleInfo;
 use proc_state::state::ProcState;
-use program_files::reading::ProgramRead;
 
 /// The type and language of a program in 6809 code (Level Two manual, "Memory modules").
 pub(crate) const PROGRAM: u8 = 0x11;

@@ -1,7 +1,7 @@
 -- Where `-` stands for an option's value, the words are refused.
 use Rattle.std.proofs.Common.{◌≡◌, ◌∙◌, ◌&&◌, ℕ, Bool, true, false, not, cond, List, [], ◌∷◌, Option, Some, None, bytes_eq, refl, sym, ap, true≢false}
 use Rattle.std.specs.List.{before_first, list_any}
-use Rattle.word_options.specs.Given.{Given, given, is_equals, is_given, nothing_given, with_arguments, with_option, words_give}
+use Rattle.option_reader.specs.Given.{Given, given, is_equals, is_given, nothing_given, with_arguments, with_option, words_give}
 use Rattle.std.specs.List.{after_first}
 use Rattle.option_reader.specs.Dash.{has_dash_value}
 use Rattle.option_reader.proofs.Forms.{by_form}

@@ -10,7 +10,7 @@ use Rattle.clap.specs.Takes.{is_given}
 use Rattle.clap.specs.declared.error.Error.{Error}
 use Rattle.clap.specs.declared.error.kind.ErrorKind.{ErrorKind}
 use Rattle.clap.specs.declared.error.kind.ErrorKind.TheVariants.{OutOfMemory}
-use Rattle.word_options.specs.Given.{Given, words_give}
+use Rattle.option_reader.specs.Given.{Given, words_give}
 use Rattle.option_reader.specs.Dash.{has_dash_value}
 use Rattle.option_reader.specs.Rows.{HasValue, app_with, given_of}
 use Rattle.option_reader.proofs.Rules.{built_with, option_built, rules_with, shape_with}

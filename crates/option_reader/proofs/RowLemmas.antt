@@ -10,7 +10,7 @@ use Rattle.clap.specs.Matches.{matched_of, raw_values}
 use Rattle.clap.specs.declared.parser.matches.Found.{Found}
 use Rattle.clap.specs.Walk.{Row, Text, all_of, at_row, first_of, has_row, more_values, reading_by, used, with_values, rows_of}
 use Rattle.clap.specs.declared.parser.matches.ValueSource.TheVariants.{CommandLine}
-use Rattle.word_options.specs.Given.{Given, is_given, value_of, with_arguments, with_option}
+use Rattle.option_reader.specs.Given.{Given, is_given, value_of, with_arguments, with_option}
 use Rattle.option_reader.specs.Rows.{HasValue, given_of, option_of}
 use Rattle.option_reader.proofs.Rules.{arguments_built, option_built, same_bytes, bytes-sym}
 

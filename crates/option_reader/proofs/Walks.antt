@@ -6,7 +6,7 @@ use Rattle.std.proofs.lemmas.List.Elements.{All-head, All-nil, All-tail}
 use Rattle.clap.specs.Kinds.{or_else}
 use Rattle.clap.specs.Walk.{Row, Text, Waiting, Walk, idle, option, positional, arg_by_id, has_row, used}
 use Rattle.clap.specs.Faults.{use_fault}
-use Rattle.word_options.specs.Given.{Given, given, is_equals, is_given, nothing_given, with_arguments, with_option, words_give}
+use Rattle.option_reader.specs.Given.{Given, given, is_equals, is_given, nothing_given, with_arguments, with_option, words_give}
 use Rattle.option_reader.specs.Dash.{has_dash_value}
 use Rattle.option_reader.proofs.Forms.{IsPlainWord, by_form, flag_char, plain_dash, plain_empty, plain_other, short_is}
 use Rattle.option_reader.proofs.Rules.{option_built, rules_with, long_found, id_found, name_is, same_bytes, bytes-sym}

@@ -1,7 +1,7 @@
 -- A word `-` in the place of an option's value (this project's own).
 use Rattle.std.specs.Prelude.{ℕ, ◌&&◌, not, nat_eq, bytes_eq, codes, Bool, true, false, List, [], ◌∷◌, if◌then◌else◌}
 use Rattle.std.specs.List.{list_any, starts_with}
-use Rattle.word_options.specs.Given.{is_equals}
+use Rattle.option_reader.specs.Given.{is_equals}
 
 -- the word is `--name`, so that its value is the next word
 abbrev pub waits_for_value : List ℕ → Bool

@@ -4,7 +4,7 @@ use Rattle.std.specs.List.{flat_map}
 use Rattle.clap.specs.Words.{App, Row, Rule, all_of, new_app, new_rule}
 use Rattle.clap.specs.declared.builder.action.ArgAction.TheVariants.{Append, Set}
 use Rattle.clap.specs.declared.builder.value_parser.ValueParser.TheVariants.{NonEmptyString}
-use Rattle.word_options.specs.Given.{Given, GivenOption}
+use Rattle.option_reader.specs.Given.{Given, GivenOption}
 
 -- the rule of the arguments, whose id is not the name of an option
 abbrev pub arguments_rule : Rule

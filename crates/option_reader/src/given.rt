@@ -1,6 +1,6 @@
 ghost use Rattle.std.specs.Prelude.{◌≡◌, ◌≢◌, [], IfOk, map, option_map, slice_get, string_bytes};
 ghost use Rattle.std.specs.List.{All};
-ghost use Rattle.word_options.specs.Given.{only_argument as only_argument_lem, value_of, words_give};
+ghost use Rattle.option_reader.specs.Given.{only_argument as only_argument_lem, value_of, words_give};
 
 use crate::command::command_with;
 use crate::dash::has_dash_value;
@@ -18,7 +18,7 @@ pub struct GivenWords<'a> {
 impl<'a> Model for GivenWords<'a> {
     ghost use Rattle.std.specs.List.{All};
     ghost use Rattle.clap.specs.Words.{found_of, rows_of};
-    ghost use Rattle.word_options.specs.Given.{Given};
+    ghost use Rattle.option_reader.specs.Given.{Given};
     ghost use Rattle.option_reader.specs.Rows.{HasValue, given_of};
 
     ghost Value = { Given };

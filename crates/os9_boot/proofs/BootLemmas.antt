@@ -19,12 +19,12 @@ use Rattle.command_files.specs.declared.status.Input.TheVariants.{Script as Scri
 use Rattle.os9_boot.specs.Boots.{BootComesTo}
 use Rattle.os9_boot.specs.Commands.{CommandCall}
 use Rattle.os9_boot.specs.Host.{FailsAsTold}
-use Rattle.os9_boot.specs.Left.{BootMayEnd, LeavesDevices}
+use Rattle.os9_boot.specs.BootLeft.{BootMayEnd, LeavesDevices}
 use Rattle.os9_boot.specs.Images.{RefusesImages}
 use Rattle.command_files.specs.Reading.{HasBootFiles, RefusesTexts}
 use Rattle.command_files.specs.Setup.{HaveTexts, SetsUpBoot}
 use Rattle.os9_boot.specs.Written.{EndsBoot}
-use Rattle.os9_boot.proofs.CallLemmas.{kept-counts, out-of-memory, still-silent, unchanged}
+use Rattle.os9_boot.proofs.BootCallLemmas.{kept-counts, out-of-memory, still-silent, unchanged}
 use Rattle.os9_boot.proofs.MachineLemmas.{EndsSo, RunFails, IsOfMachine, machine-ends}
 
 -- ---- a machine that ran with images

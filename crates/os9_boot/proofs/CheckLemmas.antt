@@ -14,9 +14,9 @@ use Rattle.command_files.specs.declared.status.End.{End}
 use Rattle.command_files.specs.declared.status.End.TheVariants.{Ended, CannotWrite, NoMemory, BadImage}
 use Rattle.os9_boot.specs.Check.{CheckComesTo, PrintFails, PrintsAs, PrintsLine, counts_of, tree_line}
 use Rattle.os9_boot.specs.Commands.{CommandCall}
-use Rattle.os9_boot.specs.Left.{CheckMayEnd, LeavesDevices}
+use Rattle.os9_boot.specs.BootLeft.{CheckMayEnd, LeavesDevices}
 use Rattle.os9_boot.specs.Host.{FailsAsTold}
-use Rattle.os9_boot.proofs.CallLemmas.{kept-counts, still-silent, unchanged}
+use Rattle.os9_boot.proofs.BootCallLemmas.{kept-counts, still-silent, unchanged}
 
 module _ (before after : World) (image bytes : List ℕ) (read : IfSome before.files (λ files. bytes ≡ file_contents files image)) where
   -- what holds of the bytes holds of the file

@@ -1,4 +1,7 @@
 pub mod CallLemmas
+pub mod NoteLemmas
+pub mod OutLemmas
+pub mod BootCallLemmas
 pub mod CheckLemmas
 pub mod WriteLemmas
 pub mod MachineLemmas

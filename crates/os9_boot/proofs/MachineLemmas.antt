@@ -21,10 +21,10 @@ use Rattle.command_files.specs.declared.status.End.{End}
 use Rattle.command_files.specs.declared.status.End.TheVariants.{Ended, Living, CannotRead, CannotWrite, CannotWriteImage, NoMemory, BadImage, BadText, BadBounds, DriveFailed, CannotWriteFile, Refused, BadSource, TerminalFailed}
 use Rattle.os9_boot.specs.Boots.{IsUndone, MachineComesTo, RunsToEnd, RunsUnended, RunsUnwritten}
 use Rattle.command_files.specs.Left.{ChangesOnly}
-use Rattle.os9_boot.specs.Left.{BootLeavesFiles, LeavesDevices}
+use Rattle.os9_boot.specs.BootLeft.{BootLeavesFiles, LeavesDevices}
 use Rattle.command_files.specs.End.{boot_end}
 use Rattle.os9_boot.specs.Written.{EndsBoot, StopsAt, WritesBack, ends_run}
-use Rattle.os9_boot.proofs.CallLemmas.{kept-counts, still-silent, still-undone}
+use Rattle.os9_boot.proofs.BootCallLemmas.{kept-counts, still-silent, still-undone}
 use Rattle.command_files.proofs.ChangeLemmas.{all-change, first-change, same-changes}
 
 -- the host failed as the end of a machine's run says, whose images have these names

@@ -18,7 +18,7 @@ use Rattle.command_files.specs.declared.status.Input.TheVariants.{Script, Slices
 use Rattle.command_files.specs.Reading.{RefusesTexts}
 use Rattle.command_files.specs.Stops.{NotesStop}
 use Rattle.command_files.proofs.ReadLemmas.{read-none, written-none}
-use Rattle.asm_command.specs.Asm.{asm_outputs}
+use Rattle.os9_boot.specs.Asm.{asm_outputs}
 use Rattle.vol_command.specs.Vol.{vol_outputs}
 use Rattle.os9_boot.specs.Check.{PrintsAs, PrintsLine}
 use Rattle.os9_boot.specs.End.{stress_end}

@@ -17,12 +17,12 @@ use Rattle.command_files.specs.declared.status.End.TheVariants.{CannotRead, Cann
 use Rattle.command_files.specs.declared.status.Input.TheVariants.{Script as ScriptInput, Slices as SlicesInput}
 use Rattle.os9_boot.specs.Boots.{RunComesTo}
 use Rattle.os9_boot.specs.Commands.{CommandCall}
-use Rattle.os9_boot.specs.Left.{LeavesDevices, RunMayEnd}
+use Rattle.os9_boot.specs.BootLeft.{LeavesDevices, RunMayEnd}
 use Rattle.os9_boot.specs.Host.{FailsAsTold}
 use Rattle.command_files.specs.Reading.{HasRunFiles, RefusesTexts}
 use Rattle.command_files.specs.Setup.{SetsUpRun}
 use Rattle.os9_boot.specs.Written.{ends_run}
-use Rattle.os9_boot.proofs.CallLemmas.{kept-counts, out-of-memory, still-silent, unchanged}
+use Rattle.os9_boot.proofs.BootCallLemmas.{kept-counts, out-of-memory, still-silent, unchanged}
 use Rattle.os9_boot.proofs.MachineLemmas.{EndsSo, RunFails, ends-alone, IsOfMachine, machine-ends}
 
 -- ---- a machine that ran without images

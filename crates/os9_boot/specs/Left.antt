@@ -1,88 +1,43 @@
--- How a command may end, and what it leaves of the output, the devices and the files (this project's own).
-use Rattle.std.specs.Prelude.{◌≡◌, ℕ, ⊤, List}
+-- How `asm` may end, and what it leaves (this project's own).
+use Rattle.std.specs.Prelude.{◌≡◌, ℕ, ⊤, List, []}
 use Rattle.os9_outer.specs.Host.{IfObserved}
-use Rattle.boot_run.specs.Machine.{FailsToMount}
+use Rattle.os9_words.specs.declared.asm_words.AsmWords.{AsmWords}
 use Rattle.boot_run.specs.World.{World}
+use Rattle.command_files.specs.FileNames.{IsFront}
 use Rattle.command_files.specs.Left.{ChangesOnly, IsSilent}
 use Rattle.command_files.specs.declared.status.End.{End}
-use Rattle.command_files.specs.declared.status.End.TheVariants.{Ended, Living, CannotRead, CannotWrite, CannotWriteImage, NoMemory, BadImage, BadText, BadBounds, DriveFailed, CannotWriteFile, Refused, BadSource, TerminalFailed}
-use Rattle.command_files.specs.declared.status.Input.{Input}
-use Rattle.command_files.specs.declared.status.Input.TheVariants.{Script, Slices}
+use Rattle.command_files.specs.declared.status.End.TheVariants.{Ended, CannotRead, CannotWriteFile, NoMemory, BadSource}
+use Rattle.command_files.specs.declared.status.Input.TheVariants.{Source}
+use Rattle.os9_boot.specs.Asm.{asm_outputs}
 
 -- ---- how it may end
 
--- the words of a run and a boot name two texts
-abbrev pub IsText : Input → Type 0
-IsText Script = ⊤
-IsText Slices = ⊤
-IsText input = ⊥
-
--- the ends of a run: it has no image to check, to mount or to write, and does not go back
-abbrev pub RunMayEnd : End → Type 0
-RunMayEnd (BadText input line) = IsText input
-RunMayEnd (BadImage number fault) = ⊥
-RunMayEnd BadBounds = ⊥
-RunMayEnd (CannotWriteImage number) = ⊥
-RunMayEnd (DriveFailed drive number) = ⊥
-RunMayEnd CannotWriteFile = ⊥
-RunMayEnd (Refused number) = ⊥
-RunMayEnd (BadSource line error) = ⊥
-RunMayEnd (TerminalFailed n) = ⊥
-RunMayEnd end = ⊤
-
--- those of a boot: it makes no file, uses no tool, and reads no source
-abbrev pub BootMayEnd : End → Type 0
-BootMayEnd (BadText input line) = IsText input
-BootMayEnd CannotWriteFile = ⊥
-BootMayEnd (Refused number) = ⊥
-BootMayEnd (BadSource line error) = ⊥
-BootMayEnd (TerminalFailed n) = ⊥
-BootMayEnd end = ⊤
-
--- those of a check: it has one image, and runs nothing
-abbrev pub CheckMayEnd : End → Type 0
-CheckMayEnd Ended = ⊤
-CheckMayEnd (CannotRead input) = ⊤
-CheckMayEnd CannotWrite = ⊤
-CheckMayEnd NoMemory = ⊤
-CheckMayEnd (BadImage number fault) = number ≡ 0
-CheckMayEnd end = ⊥
-
--- those of a stress: it reads and writes no file, and has one image
-abbrev pub StressMayEnd : End → Type 0
-StressMayEnd Ended = ⊤
-StressMayEnd Living = ⊤
-StressMayEnd CannotWrite = ⊤
-StressMayEnd NoMemory = ⊤
-StressMayEnd (DriveFailed drive number) = drive ≡ 0
-StressMayEnd end = ⊥
+-- it reads only SOURCE
+abbrev pub AsmMayEnd : End → Type 0
+AsmMayEnd Ended = ⊤
+AsmMayEnd (CannotRead input) = input ≡ Source
+AsmMayEnd CannotWriteFile = ⊤
+AsmMayEnd NoMemory = ⊤
+AsmMayEnd (BadSource line error) = ⊤
+AsmMayEnd end = ⊥
 
 -- ---- what it leaves
 
--- what is left of the output and the devices, observed or not, by the end of the command with this number of images: if
--- no machine was started all is unchanged, or the drive of an image failed
-abbrev pub LeavesDevices : ℕ → World → World → End → Type 0
-LeavesDevices images before after Ended = ⊤
-LeavesDevices images before after Living = ⊤
-LeavesDevices images before after CannotWrite = ⊤
-LeavesDevices images before after (CannotWriteImage number) = ⊤
-LeavesDevices images before after NoMemory = ⊤
-LeavesDevices images before after (DriveFailed drive number) = FailsToMount images drive number before after
-LeavesDevices images before after end = IsSilent before after
+-- the output and the devices are unchanged, whatever its end
+abbrev pub AsmLeaves : World → World → End → Type 0
+AsmLeaves before after end = IsSilent before after
 
--- what a boot leaves of the files: it writes images only after its run
-abbrev pub BootLeavesFiles : List (List ℕ) → World → World → End → Type 0
-BootLeavesFiles names before after Ended = IfObserved (ChangesOnly names) before.files after.files
-BootLeavesFiles names before after Living = IfObserved (ChangesOnly names) before.files after.files
-BootLeavesFiles names before after (CannotWriteImage number) = IfObserved (ChangesOnly names) before.files after.files
-BootLeavesFiles names before after NoMemory = IfObserved (ChangesOnly names) before.files after.files
-BootLeavesFiles names before after end = after.files ≡ before.files
+-- of the files: it writes one only after a source was accepted
+abbrev pub AsmLeavesFiles : AsmWords → World → World → End → Type 0
+AsmLeavesFiles asm before after Ended = IfObserved (ChangesOnly (asm_outputs asm)) before.files after.files
+AsmLeavesFiles asm before after CannotWriteFile = IfObserved (ChangesOnly (asm_outputs asm)) before.files after.files
+AsmLeavesFiles asm before after NoMemory = IfObserved (ChangesOnly (asm_outputs asm)) before.files after.files
+AsmLeavesFiles asm before after end = after.files ≡ before.files
 
--- a check leaves the devices unchanged
-pub record CheckLeaves (before after : World) (end : End) : Type 0 where
-  pub out : LeavesDevices 0 before after end
-  pub devices : after.devices ≡ before.devices
-
--- the contents of the files are unchanged
-abbrev pub KeepsFiles : World → World → End → Type 0
-KeepsFiles before after end = after.files ≡ before.files
+-- the files that it has written: OUT if it is done or OUT could not be written, OUT or none if memory was out, and else
+-- none
+abbrev pub AsmWrites : AsmWords → End → List (List ℕ) → Type 0
+AsmWrites asm Ended written = written ≡ asm_outputs asm
+AsmWrites asm CannotWriteFile written = written ≡ asm_outputs asm
+AsmWrites asm NoMemory written = IsFront written (asm_outputs asm)
+AsmWrites asm end written = written ≡ []

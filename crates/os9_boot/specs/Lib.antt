@@ -1,3 +1,7 @@
+pub mod Asm
+pub mod Call
+pub mod Left
+pub mod Steps
 pub mod Boots
 pub mod Check
 pub mod Commands
@@ -10,7 +14,7 @@ pub mod FilesNoted
 pub mod Headline
 pub mod Host
 pub mod Images
-pub mod Left
+pub mod BootLeft
 pub mod Meaning
 pub mod TopCall
 pub mod Written

@@ -13,8 +13,8 @@ use Rattle.stress_run.specs.Stress.{StressComesTo}
 use Rattle.stress_run.specs.declared.stress.StressEnd.{StressEnd}
 use Rattle.command_files.specs.declared.status.End.{End}
 use Rattle.command_files.specs.declared.status.Input.{Input}
-use Rattle.asm_command.specs.Asm.{AsmComesTo, asm_file_name, asm_inputs}
-use Rattle.asm_command.specs.Left.{AsmLeaves, AsmLeavesFiles, AsmMayEnd, AsmWrites}
+use Rattle.os9_boot.specs.Asm.{AsmComesTo, asm_file_name, asm_inputs}
+use Rattle.os9_boot.specs.Left.{AsmLeaves, AsmLeavesFiles, AsmMayEnd, AsmWrites}
 use Rattle.vol_command.specs.Left.{VolLeaves, VolLeavesFiles, VolMayEnd, VolWrites}
 use Rattle.vol_command.specs.Vol.{VolComesTo, vol_file_name, vol_inputs}
 use Rattle.os9_boot.specs.Boots.{BootComesTo, RunComesTo}
@@ -25,7 +25,7 @@ use Rattle.command_files.specs.End.{run_file_name}
 use Rattle.os9_boot.specs.End.{stress_end}
 use Rattle.command_files.specs.FileNames.{run_inputs}
 use Rattle.os9_boot.specs.FileNames.{BootWrites, WritesNone}
-use Rattle.os9_boot.specs.Left.{BootLeavesFiles, BootMayEnd, CheckLeaves, CheckMayEnd, KeepsFiles, LeavesDevices, RunMayEnd, StressMayEnd}
+use Rattle.os9_boot.specs.BootLeft.{BootLeavesFiles, BootMayEnd, CheckLeaves, CheckMayEnd, KeepsFiles, LeavesDevices, RunMayEnd, StressMayEnd}
 
 pub record Meaning : Type 1 where
   pub comes : World → World → End → Type 0  -- its outcome, if that can be observed

@@ -5,7 +5,7 @@ ghost use Rattle.os9_words.specs.Streams.{WritesErr};
 ghost use Rattle.os9_boot.specs.End.{stress_end};
 ghost use Rattle.os9_boot.specs.EndLines.{end_line, end_name, shown_name};
 
-use asm_command::asm_name;
+use crate::asm_name;
 use command_files::names::name_in;
 use command_files::report;
 use command_files::status::{End, Input};

@@ -14,8 +14,8 @@ ghost use Rattle.os9_words.specs.Notes.{notes_of};
 
 use crate::boot::{boot_images, run_modules};
 use crate::check::check_image;
+use crate::do_asm;
 use crate::status::{end_of_stress, report_end};
-use asm_command::do_asm;
 use command_files::status::End;
 use device_table::devices::Devices;
 use os9_debug::do_debug;

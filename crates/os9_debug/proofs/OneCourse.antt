@@ -9,7 +9,7 @@ use Rattle.script_text.specs.declared.script.ScriptKey.{ScriptKey}
 use Rattle.key_loading.specs.Loaded.{loaded_from}
 use Rattle.os9_words.specs.declared.debug_words.DebugWords.{DebugWords}
 use Rattle.boot_run.specs.World.{World}
-use Rattle.debug_rules.proofs.Courses.{course-one, course-some}
+use Rattle.debug_text.proofs.Courses.{course-one, course-some}
 use Rattle.debug_session.specs.Machine.{boot_of}
 use Rattle.command_files.specs.declared.status.End.TheVariants.{Ended}
 use Rattle.os9_debug.specs.Call.{DebugCall}

@@ -11,7 +11,7 @@ use Rattle.os9_outer.specs.TerminalState.{TerminalState, fault_counts}
 use Rattle.file_drives.specs.Drives.{DriveView, drive_states}
 use Rattle.script_text.specs.Script.{AreKeys, IsKey}
 use Rattle.script_text.specs.declared.script.ScriptKey.{ScriptKey}
-use Rattle.key_dropping.specs.Dropped.{FailsAt}
+use Rattle.key_loading.specs.Dropped.{FailsAt}
 use Rattle.os9_words.specs.declared.command.RunWords.{RunWords}
 use Rattle.os9_words.specs.Command.{IsRun}
 use Rattle.boot_images.specs.Drives.{IsEmpty, without_media}
@@ -20,8 +20,8 @@ use Rattle.boot_images.proofs.DriveLemmas.{counts-without, empty-without, given-
 use Rattle.os9_kernel.specs.Outside.{Outside}
 use Rattle.run_laws.specs.Faults.{NoDriveFailed, NotFailed}
 use Rattle.boot_run.specs.World.{World}
-use Rattle.debug_rules.specs.Course.{Course}
-use Rattle.debug_rules.specs.Prints.{printed_from}
+use Rattle.debug_text.specs.Course.{Course}
+use Rattle.debug_text.specs.Prints.{printed_from}
 use Rattle.debug_text.specs.declared.command.Command.{Command}
 use Rattle.event_run.specs.Devices.{Unfailed}
 use Rattle.debug_session.specs.Counts.{FailedOnce, RoseOnce, TerminalRose}

@@ -13,14 +13,14 @@ use Rattle.event_rules.specs.declared.ends.EventEnd.{EventEnd}
 use Rattle.event_rules.specs.Event.{cost_of}
 use Rattle.machine_model.specs.Event.{Acts, Event, cost}
 use Rattle.machine_model.specs.State.{State}
-use Rattle.kept_laws.specs.Running.{IsRunning}
+use Rattle.wait_laws.specs.Running.{IsRunning}
 use Rattle.os9_kernel.specs.declared.act.Act.{Act}
 use Rattle.os9_kernel.specs.declared.kernel.Kernel.{Kernel}
 use Rattle.os9_kernel.specs.Next.{DoesNext, act_in_machine, next_of}
 use Rattle.os9_kernel.specs.Outside.{Outside}
 use Rattle.os9_kernel.specs.Slice.{Instructions, last, more}
 use Rattle.os9_kernel.specs.Tie.{Represents, IsGoing}
-use Rattle.kept_laws.proofs.Events.{event-running}
+use Rattle.wait_laws.proofs.Events.{event-running}
 use Rattle.os9_kernel.proofs.Represented.{act-tied}
 
 -- the process that was chosen does this next

@@ -24,7 +24,7 @@ use Rattle.io_rules.specs.Waiting.{io_waits_for}
 use Rattle.os9_sched.specs.Members.{member_of, wait_at}
 use Rattle.os9_sched.specs.declared.member.Wait.{Wait as Waiting}
 use Rattle.call_laws.proofs.OthersKept.{free-is, living-record}
-use Rattle.io_laws.specs.Kept.{AreKept}
+use Rattle.call_laws.specs.Kept.{AreKept}
 use Rattle.file_rules.specs.Attempts.{asker_of}
 use Rattle.file_rules.specs.Files.{Asker, Files}
 use Rattle.file_rules.specs.Load.{GoesOnLoaded, Loaded, LoadAttempts, links_first}
@@ -34,8 +34,8 @@ use Rattle.file_state.specs.Attempt.{Standing}
 use Rattle.touch_laws.proofs.Loads.{fork-leaves}
 use Rattle.machine_model.specs.Services.{Serves, files_after_fork, service_of, with_files}
 use Rattle.machine_model.specs.State.{State}
-use Rattle.kept_laws.proofs.Loads.{Child, chain-over, fork-over, load-over}
-use Rattle.kept_laws.proofs.Over.{IsOver, of-needs, of-refuses, over-by}
+use Rattle.wait_laws.proofs.Loads.{Child, chain-over, fork-over, load-over}
+use Rattle.wait_laws.proofs.Over.{IsOver, of-needs, of-refuses, over-by}
 use Rattle.os9_kernel.specs.Causes.{wait_by, wait_for}
 use Rattle.os9_kernel.specs.Loads.{AttemptsLoad, LoadsSo}
 use Rattle.os9_kernel.specs.Paths.{MayBegin, files_begun, number_in_a}

@@ -12,13 +12,13 @@ use Rattle.proc_state.specs.declared.state.ProcState.{ProcState}
 use Rattle.proc_state.specs.Tie.{Represents}
 use Rattle.event_rules.specs.Console.{terminals_emptied}
 use Rattle.machine_model.specs.State.{State}
-use Rattle.kept_laws.proofs.RunningLaws.{emptied-running}
+use Rattle.wait_laws.proofs.RunningLaws.{emptied-running}
 use Rattle.os9_kernel.specs.declared.kernel.Kernel.{Kernel}
 use Rattle.os9_kernel.specs.Next.{next_of}
 use Rattle.os9_kernel.specs.Outside.{Outside}
 use Rattle.os9_kernel.specs.Tie.{Represents as RepresentsState}
 use Rattle.os9_kernel.proofs.Columns.{living-within}
-pub use Rattle.file_tree.proofs.SameLemmas.{some-machine}
+pub use Rattle.dir_calls.proofs.SameLemmas.{some-machine}
 
 -- there are 33 places for processes
 pub places-there : (processes : ProcState) (m : Inner) → Represents processes m → length m.records ≡ 33

@@ -17,7 +17,7 @@ use Rattle.os9_kernel.specs.declared.kernel.Kernel.{Kernel}
 use Rattle.os9_kernel.specs.declared.new.Config.{Config}
 use Rattle.os9_kernel.specs.Outside.{Outside}
 use Rattle.os9_kernel.specs.Starting.{IsStarted, boot_of}
-use Rattle.kept_laws.proofs.RunningLaws.{start-running}
+use Rattle.wait_laws.proofs.RunningLaws.{start-running}
 
 -- the processes are those of a machine that starts
 abbrev pub ProcessesStart : List ℕ → ℕ → ProcState → Type 0

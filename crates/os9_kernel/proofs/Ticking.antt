@@ -17,7 +17,7 @@ use Rattle.machine_model.specs.State.{State}
 use Rattle.os9_kernel.specs.declared.kernel.Kernel.{Kernel}
 use Rattle.os9_kernel.specs.Outside.{Outside}
 use Rattle.os9_kernel.specs.Tie.{Represents, ticks}
-use Rattle.kept_laws.proofs.RunningLaws.{tick-running}
+use Rattle.wait_laws.proofs.RunningLaws.{tick-running}
 
 -- the kernel's files with this input and output
 abbrev pub with_keys : FileState → Io → FileState

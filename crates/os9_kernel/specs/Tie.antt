@@ -7,7 +7,7 @@ use Rattle.proc_state.specs.declared.state.ProcState.{ProcState}
 use Rattle.proc_state.specs.Tie.{Represents as RepresentsProcesses}
 use Rattle.file_state.specs.Tie.{StandsFor}
 use Rattle.machine_model.specs.State.{State}
-use Rattle.kept_laws.specs.Running.{IsRunning}
+use Rattle.wait_laws.specs.Running.{IsRunning}
 use Rattle.os9_kernel.specs.Outside.{Outside}
 use Rattle.os9_kernel.specs.declared.kernel.Kernel.{Kernel}
 

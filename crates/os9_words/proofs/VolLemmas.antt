@@ -7,9 +7,9 @@ use Rattle.std.proofs.lemmas.List.{length-take, take_all}
 use Rattle.std.proofs.lemmas.Slice.Eq.{bytes_eq-Decides}
 use Rattle.os9_base.specs.declared.registers.TimePacket.{TimePacket}
 use Rattle.civil_time.specs.CivilTime.{is_time_packet}
-use Rattle.number_text.specs.Number.{number_of, within}
+use Rattle.text_values.specs.Number.{number_of, within}
 use Rattle.rbf_model.specs.Geometry.{is_cluster_size}
-use Rattle.word_options.specs.Given.{Given, value_of}
+use Rattle.option_reader.specs.Given.{Given, value_of}
 use Rattle.os9_words.specs.Times.{time_of}
 use Rattle.os9_words.specs.Vol.{IsVol, cluster_of, cluster_size, format_with, rest_count, sectors_in, tool_with, verb_of, verb_with, vol_of, vol_with}
 use Rattle.os9_words.specs.declared.vol_words.Verb.{Verb}

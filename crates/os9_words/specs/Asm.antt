@@ -1,6 +1,6 @@
 -- The words of `asm` (this project's own).
 use Rattle.std.specs.Prelude.{Option, Some, None, List, ℕ, [], slice_get}
-use Rattle.word_options.specs.Given.{Given}
+use Rattle.option_reader.specs.Given.{Given}
 use Rattle.os9_words.specs.declared.asm_words.AsmWords.{AsmWords}
 
 -- `asm` has no options

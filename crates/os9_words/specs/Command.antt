@@ -3,8 +3,8 @@ use Rattle.std.specs.Prelude.{◌≡◌, ℕ, ◌<◌, ◌≤◌, true, nat_le, 
 use Rattle.std.specs.Option.{option_map_or}
 use Rattle.os9_base.specs.declared.registers.TimePacket.{TimePacket}
 use Rattle.civil_time.specs.CivilTime.{is_time_packet}
-use Rattle.number_text.specs.Number.{number_of, within}
-use Rattle.word_options.specs.Given.{Given, only_argument, value_of, words_give}
+use Rattle.text_values.specs.Number.{number_of, within}
+use Rattle.option_reader.specs.Given.{Given, only_argument, value_of, words_give}
 use Rattle.os9_words.specs.Asm.{asm_of, asm_options}
 use Rattle.os9_words.specs.Debug.{debug_of, debug_options}
 use Rattle.os9_words.specs.Run.{blocks_of, run_options, run_words_of, run_words_with}

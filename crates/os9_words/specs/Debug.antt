@@ -1,6 +1,6 @@
 -- The words of `debug` (this project's own).
 use Rattle.std.specs.Prelude.{ℕ, Option, Some, None, List, [], ◌∷◌, codes}
-use Rattle.word_options.specs.Given.{Given, value_of}
+use Rattle.option_reader.specs.Given.{Given, value_of}
 use Rattle.os9_words.specs.Run.{run_words_of}
 use Rattle.os9_words.specs.declared.command.RunWords.{RunWords}
 use Rattle.os9_words.specs.declared.debug_words.DebugWords.{DebugWords}

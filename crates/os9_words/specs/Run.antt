@@ -2,8 +2,8 @@
 use Rattle.std.specs.Prelude.{ℕ, Option, Some, None, List, [], ◌∷◌, codes}
 use Rattle.std.specs.Option.{option_map_or}
 use Rattle.os9_base.specs.declared.registers.TimePacket.{TimePacket}
-use Rattle.number_text.specs.Number.{number_of, within}
-use Rattle.word_options.specs.Given.{Given, only_argument, value_of}
+use Rattle.text_values.specs.Number.{number_of, within}
+use Rattle.option_reader.specs.Given.{Given, only_argument, value_of}
 use Rattle.os9_words.specs.Times.{time_of}
 use Rattle.os9_words.specs.declared.command.RunWords.{RunWords}
 

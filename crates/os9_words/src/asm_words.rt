@@ -1,7 +1,7 @@
 //! The words of `asm`, the assembler.
 
 ghost use Rattle.std.specs.Prelude.{◌≡◌, IfOk, None, Some, map, option_and_then, string_bytes};
-ghost use Rattle.word_options.specs.Given.{words_give};
+ghost use Rattle.option_reader.specs.Given.{words_give};
 ghost use Rattle.os9_words.specs.Command.{OnRefused};
 ghost use Rattle.os9_words.specs.Asm.{asm_of as asm_of_lem, asm_options};
 

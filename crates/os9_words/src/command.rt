@@ -10,16 +10,16 @@ ghost use Rattle.os9_words.specs.Debug.{debug_of as debug_of_lem, debug_options}
 ghost use Rattle.os9_words.specs.Run.{blocks_of as blocks_of_lem, run_options, run_words_of};
 ghost use Rattle.os9_words.specs.Vol.{vol_of as vol_of_lem, vol_options};
 ghost use Rattle.os9_words.specs.declared.command.Command.TheVariants.{Asm, Debug, Vol};
-ghost use Rattle.word_options.specs.Given.{words_give};
+ghost use Rattle.option_reader.specs.Given.{words_give};
 
 use crate::asm_words::{AsmWords, read_asm};
 use crate::debug_words::{DebugWords, read_debug};
 use crate::vol_words::{VolWords, read_vol};
 use crate::word::{Word, Words};
-use number_text::read_number;
 use option_reader::{GivenWords, read_given};
 use os9_base::registers::TimePacket;
 use std::alloc::{AllocError, Global};
+use text_values::read_number;
 use thiserror::Error;
 use time_text::read_time;
 

@@ -1,7 +1,7 @@
 //! The words of `debug`, the debugger.
 
 ghost use Rattle.std.specs.Prelude.{◌≡◌, IfOk, None, Some, map, option_and_then, string_bytes};
-ghost use Rattle.word_options.specs.Given.{words_give};
+ghost use Rattle.option_reader.specs.Given.{words_give};
 ghost use Rattle.os9_words.specs.Command.{IsRun, OnRefused};
 ghost use Rattle.os9_words.specs.Debug.{debug_of as debug_of_lem, debug_options};
 

@@ -3,17 +3,17 @@
 ghost use Rattle.std.specs.Prelude.{◌≡◌, ◌≢◌, ◌+◌, ◌≤◌, nat_eq, codes, IfOk, IfSome, Some, None, drop, length, map, option_and_then, slice_get, string_bytes, take, true};
 ghost use Rattle.civil_time.specs.CivilTime.{is_time_packet};
 ghost use Rattle.rbf_model.specs.Geometry.{is_cluster_size as is_cluster_size_lem};
-ghost use Rattle.word_options.specs.Given.{value_of, words_give};
+ghost use Rattle.option_reader.specs.Given.{value_of, words_give};
 ghost use Rattle.os9_words.specs.Command.{OnRefused};
 ghost use Rattle.os9_words.specs.Vol.{cluster_of as cluster_of_lem, format_with, rest_count as rest_count_lem, sectors_in, tool_with};
 ghost use Rattle.os9_words.specs.Vol.{verb_of as verb_of_lem, vol_of as vol_of_lem, vol_options, IsVol};
 
 use crate::command::{WordsFault, read_options, time_of};
 use crate::word::{Word, Words};
-use number_text::read_number;
 use option_reader::GivenWords;
 use os9_base::registers::TimePacket;
 use std::alloc::{AllocError, Global};
+use text_values::read_number;
 
 /// What `vol` does with an image.
 #[derive(Clone, Copy, Debug, PartialEq, Eq)]

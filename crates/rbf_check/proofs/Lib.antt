@@ -1,3 +1,6 @@
+pub mod Dotting
+pub mod Keyed
+pub mod Naming
 pub mod Copied
 pub mod Counted
 pub mod Listed

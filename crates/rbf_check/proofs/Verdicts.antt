@@ -20,7 +20,7 @@ use Rattle.rbf_model.proofs.Keeps.{number_of_reached}
 use Rattle.rbf_sector.specs.Ident.{geometry_of}
 use Rattle.rbf_reach.specs.declared.image.IdentifiedImage.{IdentifiedImage}
 use Rattle.rbf_reach.specs.Least.{IsLeastBreach}
-use Rattle.rbf_name_rules.specs.Dots.{AreDotsDecided}
+use Rattle.rbf_check.specs.Dots.{AreDotsDecided}
 use Rattle.rbf_check.specs.Verdict.{KeepsBefore, IsLeastFault, IsLeastError, IsErrorOf}
 use Rattle.rbf_sector_rules.proofs.Owned.{lie_within}
 use Rattle.rbf_reach.proofs.Options.{none_some, some_same}

@@ -1,3 +1,6 @@
+pub mod Dots
+pub mod Keys
+pub mod Named
 pub mod Clusters
 pub mod Places
 pub mod Survey

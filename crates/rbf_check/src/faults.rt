@@ -6,7 +6,7 @@ ghost use Rattle.rbf_reach.specs.Linked.{AreLinks};
 ghost use Rattle.rbf_check.specs.Verdict.{IsLeastError, KeepsBefore};
 ghost use Rattle.rbf_check.specs.declared.faults.CheckError.TheVariants.{OutOfMemory};
 
-use rbf_name_rules::{least_badly_named, least_named_again, least_without_dots};
+use crate::{least_badly_named, least_named_again, least_without_dots};
 use rbf_reach::{FoundFile, IdentifiedImage, Link, list_links};
 use rbf_sector_rules::{
     OwnRule, least_bad_number, least_breach, least_unmarked, least_used_again, map_breach,

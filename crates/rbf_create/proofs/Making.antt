@@ -40,12 +40,12 @@ use Rattle.rbf_access.specs.Mounted.{Represents, IsMounted}
 use Rattle.rbf_access.specs.declared.faults.FileFault.{FileFault}
 use Rattle.rbf_access.specs.declared.faults.FileFault.TheVariants.{Device, NoCluster, TooManyRuns}
 use Rattle.rbf_access.proofs.Reading.{below_total}
-use Rattle.rbf_growth.specs.Gained.{IsTooMany}
-use Rattle.rbf_growth.proofs.Growing.{agrees_on}
+use Rattle.rbf_alloc.specs.Gained.{IsTooMany}
+use Rattle.rbf_alloc.proofs.Growing.{agrees_on}
 use Rattle.rbf_access.specs.declared.volume.Volume.{Volume}
-use Rattle.rbf_growth.specs.Grown.{IsChosen, IsGrown, GrowthEnds, Grows}
+use Rattle.rbf_alloc.specs.Grown.{IsChosen, IsGrown, GrowthEnds, Grows}
 use Rattle.rbf_sector.specs.declared.fd.Fd.{Fd}
-use Rattle.rbf_update.proofs.Stored.{IsStored}
+use Rattle.rbf_delete.proofs.Stored.{IsStored}
 use Rattle.rbf_create.specs.Described.{IsReadAs}
 use Rattle.rbf_create.specs.Made.{IsMade, MakingEnds, Makes}
 use Rattle.rbf_create.proofs.NewDescriptor.{first_more, first_none, same_file}

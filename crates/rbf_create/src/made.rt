@@ -10,7 +10,7 @@ use crate::parts::{descriptor, first_segs, new_file};
 use os9_base::registers::TimePacket;
 use os9_outer::drive::BlockDriver;
 use rbf_access::{FileFault, Volume};
-use rbf_growth::grow;
+use rbf_alloc::grow;
 use rbf_segs::Segs;
 
 /// Makes a file without contents and without a name, and returns the number of its descriptor,

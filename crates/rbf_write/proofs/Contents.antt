@@ -8,8 +8,8 @@ use Rattle.rbf_model.specs.Writes.{put_at}
 use Rattle.rbf_segs.proofs.Runs.{append_nil}
 use Rattle.rbf_change.specs.Contents.{extended}
 use Rattle.rbf_change.specs.Faults.{IsFront, none, sector, end}
-use Rattle.rbf_files.specs.Laid.{laid_byte, laid_bytes}
-use Rattle.rbf_files.proofs.LaidBytes.{laid_in, laid_after, laid_zero, laid_before, put_before, put_in, put_behind, target_byte, length-target}
+use Rattle.rbf_write.specs.Laid.{laid_byte, laid_bytes}
+use Rattle.rbf_write.proofs.LaidBytes.{laid_in, laid_after, laid_zero, laid_before, put_before, put_in, put_behind, target_byte, length-target}
 use Rattle.rbf_model.proofs.Pieces.{length-put_at}
 
 -- a byte of a list over which bytes are laid that may go past its end

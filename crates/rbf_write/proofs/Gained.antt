@@ -20,8 +20,8 @@ use Rattle.rbf_change.specs.Calls.{shape, cluster_size}
 use Rattle.rbf_change.specs.Growth.{with_clusters, Gains}
 use Rattle.rbf_change.proofs.LawfulWrites.{shape-image}
 use Rattle.rbf_access.proofs.ReadFile.{room_for}
-use Rattle.rbf_files.specs.Laid.{IsDataOf}
-use Rattle.rbf_files.proofs.Segments.{IsSpace, space_with, space_old, with_segments}
+use Rattle.rbf_write.specs.Laid.{IsDataOf}
+use Rattle.rbf_write.proofs.Segments.{IsSpace, space_with, space_old, with_segments}
 
 -- the sectors of clusters
 abbrev pub cluster_sectors : ℕ → List ℕ → List ℕ

@@ -33,14 +33,14 @@ use Rattle.rbf_access.specs.Cached.{IsCacheOf}
 use Rattle.rbf_access.specs.Mounted.{kept, Represents, IsMounted, IsSound}
 use Rattle.rbf_access.specs.Reading.{IsFdOf}
 use Rattle.rbf_access.proofs.ReadFile.{contents_are, room_for}
-use Rattle.rbf_growth.specs.Grown.{ChangesMap, IsChosen, IsGrown, GrowthEnds}
-use Rattle.rbf_growth.proofs.Chosen.{has_free, length-with}
-use Rattle.rbf_growth.proofs.Growing.{agrees_on}
-use Rattle.rbf_files.specs.Laid.{IsDataOf, IsLaid, IsPartLaid, laid_bytes, laid_front}
-use Rattle.rbf_files.proofs.Described.{described}
-use Rattle.rbf_files.proofs.FilledFile.{all_of_none, put_here, put_twice, put_same_file}
-use Rattle.rbf_files.proofs.Redated.{same_file, beside_put, here_put, agrees_put}
-use Rattle.rbf_files.proofs.LaidBytes.{front_byte, rest_byte, length-front, length-target, target_byte, laid_after}
+use Rattle.rbf_alloc.specs.Grown.{ChangesMap, IsChosen, IsGrown, GrowthEnds}
+use Rattle.rbf_alloc.proofs.Chosen.{has_free, length-with}
+use Rattle.rbf_alloc.proofs.Growing.{agrees_on}
+use Rattle.rbf_write.specs.Laid.{IsDataOf, IsLaid, IsPartLaid, laid_bytes, laid_front}
+use Rattle.rbf_write.proofs.Described.{described}
+use Rattle.rbf_write.proofs.FilledFile.{all_of_none, put_here, put_twice, put_same_file}
+use Rattle.rbf_write.proofs.Redated.{same_file, beside_put, here_put, agrees_put}
+use Rattle.rbf_write.proofs.LaidBytes.{front_byte, rest_byte, length-front, length-target, target_byte, laid_after}
 use Rattle.rbf_write.specs.declared.loaded.Loaded.{Loaded}
 use Rattle.rbf_write.specs.Finished.{IsResized}
 use Rattle.rbf_write.specs.Laying.{Laying, laid_contents, laid_file, laying_needs, KeepsBytesFrom, AllAreMarked, IsTidyChange, IsTidyStop, IsLaidOver, LayingEnds}

@@ -1,3 +1,11 @@
+pub mod Descriptors
+pub mod Segments
+pub mod Described
+pub mod Redated
+pub mod LaidBytes
+pub mod LaidSector
+pub mod FilledFile
+pub mod Filling
 pub mod Contents
 pub mod Gained
 pub mod Laid
@@ -5,3 +13,8 @@ pub mod Steps
 pub mod Needed
 pub mod Whole
 pub mod Sized
+pub mod CutFile
+pub mod CutDone
+pub mod Beside
+pub mod CutAnswers
+pub mod SetSizes

@@ -23,7 +23,7 @@ use Rattle.rbf_access.specs.Faults.{file_fault}
 use Rattle.rbf_access.specs.Mounted.{Represents}
 use Rattle.rbf_access.proofs.Counting.{counts_then}
 use Rattle.rbf_access.proofs.ReadFile.{room_for}
-use Rattle.rbf_files.proofs.FilledFile.{put_same_file}
+use Rattle.rbf_write.proofs.FilledFile.{put_same_file}
 use Rattle.rbf_write.specs.Laying.{Laying, laid_contents, laid_file, laying_end, laying_needs, IsTidyChange, IsTidyStop, AnswersLaying}
 use Rattle.rbf_write.specs.Outcomes.{AreMarked, laying_calls}
 use Rattle.rbf_write.specs.Sizes.{Sizing, size_needs, giving_up, given_up, zeroed_segments, IsTidySize, IsSized, AnswersSize, giving_calls, size_calls}

@@ -38,12 +38,12 @@ use Rattle.rbf_access.proofs.Counting.{counts_most, counts_then, counts_within}
 use Rattle.rbf_access.proofs.MapMarks.{marking_most}
 use Rattle.rbf_access.proofs.Mounting.{free_total_is}
 use Rattle.rbf_access.proofs.Reading.{mounted_still}
-use Rattle.rbf_growth.specs.Grown.{IsGrown, Grows, is_gained, growth_calls}
-use Rattle.rbf_growth.proofs.Chosen.{length-with}
-use Rattle.rbf_growth.proofs.Growing.{agrees_on, sizes_are, k_is, enough_free}
-use Rattle.rbf_files.specs.Laid.{IsDataOf, IsLaid, IsPartLaid, MayLay, Fills, laid_bytes}
-use Rattle.rbf_files.proofs.Segments.{used_is}
-use Rattle.rbf_files.proofs.FilledFile.{put_here}
+use Rattle.rbf_alloc.specs.Grown.{IsGrown, Grows, is_gained, growth_calls}
+use Rattle.rbf_alloc.proofs.Chosen.{length-with}
+use Rattle.rbf_alloc.proofs.Growing.{agrees_on, sizes_are, k_is, enough_free}
+use Rattle.rbf_write.specs.Laid.{IsDataOf, IsLaid, IsPartLaid, MayLay, Fills, laid_bytes}
+use Rattle.rbf_write.proofs.Segments.{used_is}
+use Rattle.rbf_write.proofs.FilledFile.{put_here}
 use Rattle.rbf_write.specs.declared.loaded.Loaded.{Loaded}
 use Rattle.rbf_write.specs.Files.{HasDataFile, IsLoaded, IsClusterCount, IsPastVolumes}
 use Rattle.rbf_write.specs.Finished.{IsFinished, stays, resized}

@@ -21,8 +21,8 @@ use Rattle.rbf_access.specs.Faults.{file_fault}
 use Rattle.rbf_access.specs.Mounted.{Represents}
 use Rattle.rbf_access.proofs.Counting.{counts_then}
 use Rattle.rbf_access.proofs.ReadFile.{room_for}
-use Rattle.rbf_growth.specs.Grown.{ChangesMap}
-use Rattle.rbf_files.proofs.FilledFile.{put_same_file}
+use Rattle.rbf_alloc.specs.Grown.{ChangesMap}
+use Rattle.rbf_write.proofs.FilledFile.{put_same_file}
 use Rattle.rbf_write.specs.Laying.{Laying, laying_end, laid_contents, laid_file, laying_needs, IsTidyChange, AnswersLaying}
 use Rattle.rbf_write.specs.Outcomes.{contents_written, write_needs, IsWritten, AnswersWrite, unchanged, stopped, AreMarked, laying_calls, write_calls}
 use Rattle.rbf_write.proofs.Laid.{tidy_of, same_end, no_clusters}

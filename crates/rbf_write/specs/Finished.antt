@@ -7,7 +7,7 @@ use Rattle.rbf_model.specs.Segments.{sectors_of}
 use Rattle.rbf_change.specs.Calls.{minute_of}
 use Rattle.rbf_change.specs.Tidy.{KeepsListEnd}
 use Rattle.rbf_access.specs.Mounted.{IsSound}
-use Rattle.rbf_files.specs.Changed.{HasFields}
+use Rattle.rbf_write.specs.Changed.{HasFields}
 use Rattle.rbf_write.specs.declared.loaded.Loaded.{Loaded}
 
 -- the descriptor with a new size, these segments, and the date of that change

@@ -1,5 +1,9 @@
+pub mod Changed
+pub mod Laid
+pub mod Sector
 pub mod Files
 pub mod Laying
 pub mod Outcomes
 pub mod Finished
 pub mod Sizes
+pub mod Kept

@@ -12,7 +12,7 @@ use Rattle.rbf_access.specs.declared.faults.FileFault.TheVariants.{Device, NoClu
 use Rattle.rbf_access.specs.Faults.{file_fault}
 use Rattle.rbf_access.specs.MapMarks.{marking_sectors}
 use Rattle.rbf_access.specs.Mounted.{Represents}
-use Rattle.rbf_growth.specs.Grown.{is_gained}
+use Rattle.rbf_alloc.specs.Grown.{is_gained}
 use Rattle.rbf_write.specs.Files.{OnVolumeFile}
 use Rattle.rbf_write.specs.Laying.{Laying, laying_end, IsTidyChange, IsTidyStop}
 

@@ -10,11 +10,11 @@ ghost use Rattle.rbf_write.specs.Outcomes.{IsRefusal, OnMarked, laying_calls};
 
 use crate::clusters::clusters_for;
 use crate::loaded::Loaded;
+use crate::{fill, minute, with_descriptor};
 use os9_base::registers::TimePacket;
 use os9_outer::drive::BlockDriver;
 use rbf_access::{FileFault, Volume};
-use rbf_files::{fill, minute, with_descriptor};
-use rbf_growth::grow;
+use rbf_alloc::grow;
 use rbf_sector::Fd;
 use rbf_segs::Segs;
 

@@ -1,12 +1,21 @@
-//! Writes to the files of a mounted RBF volume, and changes of their size, over a drive that may
-//! fail.
+//! Bytes that are laid over those of files of a mounted RBF volume, writes to these files and changes
+//! of their size, over a drive that may fail.
 #![tactic(auto)]
 
+pub use data::fill;
+pub use descriptor::{minute, with_descriptor};
 pub use laying::lay_over;
 pub use loaded::{Loaded, load_file};
+pub use size::set_size;
 pub use write::write_at;
 
 mod clusters;
+mod data;
+mod descriptor;
+mod kept;
 mod laying;
 mod loaded;
+mod sector;
+mod shorter;
+mod size;
 mod write;

@@ -59,8 +59,8 @@ use Rattle.file_rules.specs.declared.status.TheConstants.{SS_ATTR, SS_FD, SS_POS
 use Rattle.file_laws.specs.Kinds.{AreKinds}
 use Rattle.file_laws.proofs.Named.{IsNamed, is-named}
 use Rattle.file_laws.proofs.Steps.{IsFound, list-by, needs-by, refuses-by}
-use Rattle.io_laws.specs.Terminals.{AreOnTerminals}
-use Rattle.io_laws.proofs.StepWalk.{step-gives}
+use Rattle.call_laws.specs.Terminals.{AreOnTerminals}
+use Rattle.call_laws.proofs.StepWalk.{step-gives}
 use Rattle.run_laws.proofs.SomeEffects.{IsThere, SomeEffect, call-there, some-effect}
 use Rattle.run_laws.specs.Mounted.{AreMounted}
 use Rattle.run_laws.proofs.Changing.{SomeChange, some-attributes, some-deletion, some-size, some-write}

@@ -18,7 +18,7 @@ use Rattle.call_rules.specs.Ready.{Act, attempts, delivers, executes, act_of, ne
 use Rattle.call_laws.proofs.OthersKept.{living-within, record-put}
 use Rattle.event_rules.specs.Event.{after_instruction, broken_off, delivery_end, instruction_end}
 use Rattle.machine_model.specs.Run.{is_going}
-use Rattle.kept_laws.proofs.KeptEvents.{lives-runs}
+use Rattle.wait_laws.proofs.KeptEvents.{lives-runs}
 
 -- ---- what a process does after an event, if it goes on
 

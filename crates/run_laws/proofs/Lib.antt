@@ -22,3 +22,6 @@ pub mod Starting
 pub mod Steps
 pub mod Terminals
 pub mod Unfailed
+pub mod Loads
+pub mod Onward
+pub mod Same

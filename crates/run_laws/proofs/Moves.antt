@@ -21,8 +21,8 @@ use Rattle.machine_model.specs.Run.{Choose, Tick}
 use Rattle.machine_model.specs.Services.{Serves, Service, files_after_call, files_after_fork, loads, no_call, on_paths, on_processes, on_time, service_of}
 use Rattle.machine_model.specs.Start.{Boot, Starts}
 use Rattle.machine_model.specs.State.{Rest, State}
-use Rattle.kept_laws.proofs.Events.{event-running}
-use Rattle.kept_laws.proofs.RunningLaws.{choice-running, emptied-running, start-running, tick-running}
+use Rattle.wait_laws.proofs.Events.{event-running}
+use Rattle.wait_laws.proofs.RunningLaws.{choice-running, emptied-running, start-running, tick-running}
 use Rattle.run_laws.specs.Mounted.{AreMounted, CanGo}
 use Rattle.run_laws.proofs.Keeping.{does-mounted, mounted-first, mounted-same}
 

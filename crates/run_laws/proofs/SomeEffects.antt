@@ -22,8 +22,8 @@ use Rattle.io_rules.specs.Pipes.{count_regs}
 use Rattle.io_rules.specs.Step.{Caller, IoEffect, IoEnd, IoStep, answers, fails, keeps, refused, comes, reads, writes, leaves, TerminalRead}
 use Rattle.io_rules.specs.Terminals.{read_ends, read_leaves, request_of}
 use Rattle.io_rules.specs.declared.io_call.IoCall.{IoCall}
-use Rattle.io_laws.specs.Terminals.{AreOnTerminals}
-use Rattle.io_laws.proofs.StepWalk.{HasPathOn, StepGives}
+use Rattle.call_laws.specs.Terminals.{AreOnTerminals}
+use Rattle.call_laws.proofs.StepWalk.{HasPathOn, StepGives}
 use Rattle.run_laws.proofs.Terminals.{given}
 
 -- ---- one terminal

@@ -20,7 +20,7 @@ use Rattle.file_rules.specs.Files.{Files, NoneFailed}
 use Rattle.time_rules.specs.Attempts.{time_step}
 use Rattle.event_rules.specs.declared.ends.EventEnd.{EventEnd}
 use Rattle.call_laws.proofs.CallsKept.{left-refused}
-use Rattle.io_laws.proofs.EndsKept.{by-end}
+use Rattle.call_laws.proofs.EndsKept.{by-end}
 use Rattle.call_laws.proofs.ForksKept.{attempt-left}
 use Rattle.call_laws.proofs.OthersKept.{living-within}
 use Rattle.machine_model.specs.Event.{Acts, Event, before_delivery, files_after_delivery, files_after_instruction}
@@ -30,8 +30,8 @@ use Rattle.machine_model.specs.Start.{Boot, Starts}
 use Rattle.machine_model.specs.State.{Rest, State, with_rest}
 use Rattle.isolation_laws.proofs.Asked.{Asks, asks}
 use Rattle.isolation_laws.proofs.EventsKept.{time-left}
-use Rattle.kept_laws.proofs.Loads.{Child, chain-over, fork-over, load-over}
-use Rattle.kept_laws.proofs.Over.{over-by}
+use Rattle.wait_laws.proofs.Loads.{Child, chain-over, fork-over, load-over}
+use Rattle.wait_laws.proofs.Over.{over-by}
 use Rattle.run_laws.specs.Mounted.{CanGo}
 use Rattle.run_laws.specs.Faults.{HasNoVolumes}
 use Rattle.run_laws.specs.Runs.{HasEvent, HasRun, HasSlice, MakesFile}

@@ -4,3 +4,4 @@ pub mod Mounted
 pub mod Reached
 pub mod Runs
 pub mod Session
+pub mod SoFar

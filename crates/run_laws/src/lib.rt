@@ -4,4 +4,5 @@
 
 pub mod later;
 pub mod run;
+pub mod session;
 pub mod single;

@@ -4,7 +4,7 @@ use Rattle.std.specs.Option.{option_and_then, option_map_or}
 use Rattle.std.proofs.lemmas.Bool.{le-leb, and_from, and_parts, ltb-true}
 use Rattle.std.proofs.lemmas.List.Elements.{All-append, All-replicate}
 use Rattle.std.specs.Str.{bytes_eq}
-use Rattle.number_text.specs.Number.{number_of}
+use Rattle.text_values.specs.Number.{number_of}
 use Rattle.script_text.specs.declared.script.ScriptKey.{ScriptKey}
 use Rattle.script_text.specs.declared.script.Reached.{Reached}
 use Rattle.script_text.specs.Lines.{line_words, is_edged, text_lines}

@@ -5,7 +5,7 @@ use Rattle.std.specs.Option.{option_and_then}
 use Rattle.std.proofs.lemmas.Bool.{and_parts, leb-true}
 use Rattle.std.proofs.lemmas.List.Elements.{All-append, All-replicate}
 use Rattle.std.proofs.lemmas.List.Sums.{sum_by-append}
-use Rattle.number_text.specs.Number.{number_of, within}
+use Rattle.text_values.specs.Number.{number_of, within}
 use Rattle.script_text.specs.declared.slices.Total.{Total}
 use Rattle.script_text.specs.Lines.{all_given, line_words, is_edged, text_lines}
 use Rattle.script_text.specs.Slices.{word_slices, line_slices, are_few_slices, slice_number, times_of, from_asterisk, is_asterisk, slices_of, IsSlice, AreSlices}

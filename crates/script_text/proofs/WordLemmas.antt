@@ -4,8 +4,8 @@ use Rattle.std.specs.List.{position_or_len, prefix_len, slice_split}
 use Rattle.std.proofs.lemmas.Bool.{cases_lt, lt-ltb, le-ltb}
 use Rattle.std.proofs.lemmas.List.{length-take}
 use Rattle.std.proofs.lemmas.List.Folds.{length-prefix_len}
-use Rattle.text_cuts.specs.Cuts.{is_space, without_spaces, first_word as front_of, behind_word as back_of}
-use Rattle.text_cuts.proofs.Places.{position_or_len-next}
+use Rattle.text_values.specs.Cuts.{is_space, without_spaces, first_word as front_of, behind_word as back_of}
+use Rattle.text_values.proofs.Places.{position_or_len-next}
 use Rattle.script_text.specs.Lines.{is_word, line_words}
 
 -- the front of a list up to its first space, with what follows

@@ -2,7 +2,7 @@
 use Rattle.std.specs.Prelude.{ℕ, ◌+◌, ◌==◌, ◌||◌, not, nat_eq, Bool, true, false, Option, Some, is_none, unwrap_or, option_map, option_and_then, position, filter, Result, Ok, Err, List, [], ◌∷◌, ◌++◌, length, take, drop, slice_index_or}
 use Rattle.std.specs.List.{position_or_len, slice_split, starts_with, ends_with, flat_map, range_with_len}
 use Rattle.std.specs.Option.{option_map_or}
-use Rattle.text_cuts.specs.Cuts.{is_space}
+use Rattle.text_values.specs.Cuts.{is_space}
 
 -- the lines of a text: the parts between its line feeds; the part after the last line feed is a line too,
 -- an empty one if the text ends there

@@ -1,7 +1,7 @@
 -- The script: which key arrives at which tick at which terminal (this project's own).
 use Rattle.std.specs.Prelude.{◌≡◌, ◌≤◌, ◌<◌, ◌+◌, ◌-◌, ◌*◌, ◌==◌, ◌&&◌, nat_le, nat_lt, ℕ, Bool, true, All, Option, Some, None, option_map, option_and_then, position, Result, List, [], ◌∷◌, length, map, codes, if◌then◌else◌}
 use Rattle.std.specs.Str.{bytes_eq}
-use Rattle.number_text.specs.Number.{number_of, within, hex_digit}
+use Rattle.text_values.specs.Number.{number_of, within, hex_digit}
 use Rattle.script_text.specs.declared.script.ScriptKey.{ScriptKey}
 use Rattle.script_text.specs.Lines.{line_words, is_edged, all_given, text_gives}
 

@@ -1,7 +1,7 @@
 -- The list of slices: the number of instructions of each slice (this project's own).
 use Rattle.std.specs.Prelude.{◌≤◌, ◌==◌, ◌&&◌, nat_le, ℕ, Bool, All, Option, Some, None, option_map, option_and_then, Result, List, [], ◌∷◌, length, drop, sum, replicate, if◌then◌else◌}
 use Rattle.std.specs.List.{position_or_len, before_first}
-use Rattle.number_text.specs.Number.{number_of, within}
+use Rattle.text_values.specs.Number.{number_of, within}
 use Rattle.script_text.specs.Lines.{line_words, is_edged, all_given, text_gives}
 
 -- a number of the slice text: from 1 to 1,000,000

@@ -6,8 +6,8 @@ ghost use Rattle.script_text.specs.Reached.{read_keys, count_up_to, reached_with
 
 use crate::fault::LineFault;
 use crate::words::Words;
-use number_text::{hex_digit, read_number};
 use std::alloc::{AllocError, Global};
+use text_values::{hex_digit, read_number};
 
 /// A key of the script.
 #[derive(Clone, Copy, Debug, PartialEq, Eq)]

@@ -7,8 +7,8 @@ ghost use Rattle.script_text.specs.Totals.{total_with, IsWithinLimits};
 
 use crate::fault::LineFault;
 use crate::words::Words;
-use number_text::read_number;
 use std::alloc::{AllocError, Global};
+use text_values::read_number;
 
 /// The greatest number in the slice text.
 const MOST: u32 = 1_000_000;

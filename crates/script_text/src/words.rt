@@ -2,7 +2,7 @@ ghost use Rattle.std.specs.Prelude.{◌≡◌};
 ghost use Rattle.std.specs.Iterator.{YieldsFirstRef, item_count};
 ghost use Rattle.script_text.specs.Lines.{line_words};
 
-use text_cuts::{first_space, without_spaces};
+use text_values::{first_space, without_spaces};
 
 /// The remaining words of a line: the nonempty parts between its spaces.
 #[derive(Clone, Copy)]

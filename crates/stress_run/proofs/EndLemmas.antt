@@ -20,7 +20,7 @@ use Rattle.event_rules.specs.Start.{Refuses}
 use Rattle.event_rules.specs.declared.ends.BootFault.{BootFault}
 use Rattle.os9_words.specs.Lines.{stress_line}
 use Rattle.rbf_model.specs.Volume.{DiskVolume}
-use Rattle.stress_laws.proofs.Started.{never-refused-accepted}
+use Rattle.stress_run.proofs.Started.{never-refused-accepted}
 use Rattle.guest_mods.proofs.AcceptedLemmas.{accepted}
 use Rattle.stress_run.specs.Counts.{counts_with}
 use Rattle.stress_run.specs.Disk.{seed_disk, seed_file}

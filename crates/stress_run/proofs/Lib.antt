@@ -1,3 +1,4 @@
+pub mod Started
 pub mod CountLemmas
 pub mod DiskLemmas
 pub mod EndLemmas

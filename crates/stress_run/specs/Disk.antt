@@ -1,6 +1,6 @@
 -- The disk of a stress.
 use Rattle.std.specs.Prelude.{◌≡◌, ℕ, List, [], ◌∷◌}
-use Rattle.boot_disk.specs.BootDisk.{BootsFile, boot_image, boot_volume}
+use Rattle.guest_mods.specs.BootDisk.{BootsFile, boot_image, boot_volume}
 use Rattle.rbf_model.specs.Volume.{Vol}
 use Rattle.guest_mods.specs.Stress.{stress_file}
 use Rattle.stress_run.specs.Stress.{stress_load}

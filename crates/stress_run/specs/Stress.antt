@@ -4,7 +4,7 @@ use Rattle.os9_outer.specs.Stream.{stream_with, GainsPrefix}
 use Rattle.os9_words.specs.Times.{default_start}
 use Rattle.os9_words.specs.Lines.{stress_line}
 use Rattle.rbf_model.specs.Volume.{DiskVolume}
-use Rattle.boot_disk.specs.BootDisk.{boot_image}
+use Rattle.guest_mods.specs.BootDisk.{boot_image}
 use Rattle.guest_mods.specs.declared.load.Load.{Load}
 use Rattle.guest_mods.specs.Random.{slice_lengths}
 use Rattle.guest_mods.specs.Stress.{stress_file}

@@ -1,7 +1,7 @@
 -- Numbers of two and of four digits, read and spelled.
 use Rattle.std.proofs.Common.{◌≡◌, ◌≤◌, ℕ, ◌+◌, ◌-◌, ◌*◌, ◌/◌, ◌%◌, Bool, true, false, nat_le, Some, None, List, [], ◌∷◌, length, refl, ap, ◌∙◌, arith, if◌then◌else◌}
 use Rattle.std.proofs.lemmas.Bool.{and_parts, and_from, le-leb, leb-true}
-use Rattle.number_text.specs.Number.{is_digit, number_after, number_of}
+use Rattle.text_values.specs.Number.{is_digit, number_after, number_of}
 use Rattle.time_text.specs.Spelled.{digit, two_digits, four_digits}
 
 -- ---- spelled, and read

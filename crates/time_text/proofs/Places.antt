@@ -4,7 +4,7 @@ use Rattle.std.proofs.lemmas.Bool.{and_parts, leb-true, eqb-true}
 use Rattle.std.proofs.lemmas.List.{take-append-drop, drop-drop, take_all}
 use Rattle.os9_base.specs.declared.registers.TimePacket.{TimePacket}
 use Rattle.civil_time.specs.CivilTime.{is_time_packet}
-use Rattle.number_text.specs.Number.{within}
+use Rattle.text_values.specs.Number.{within}
 use Rattle.time_text.specs.Spelled.{two_digits, spelled}
 use Rattle.time_text.specs.TimeText.{dash, letter_t, colon, has_marks, number_at, year_in, packet_with, packet_in, if_time, time_in}
 use Rattle.time_text.proofs.Digits.{some-same, two-spelled, four-spelled}

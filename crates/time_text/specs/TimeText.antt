@@ -2,7 +2,7 @@
 use Rattle.std.specs.Prelude.{ℕ, ◌-◌, ◌==◌, ◌&&◌, Bool, Option, Some, None, option_and_then, option_map, List, length, take, drop, slice_index_or, if◌then◌else◌}
 use Rattle.os9_base.specs.declared.registers.TimePacket.{TimePacket}
 use Rattle.civil_time.specs.CivilTime.{is_time_packet}
-use Rattle.number_text.specs.Number.{number_of, within}
+use Rattle.text_values.specs.Number.{number_of, within}
 
 -- the character `-`, `T` and `:`
 abbrev pub dash : ℕ

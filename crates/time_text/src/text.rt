@@ -2,9 +2,9 @@ ghost use Rattle.std.specs.Prelude.{◌≡◌, ◌≤◌, ◌+◌, IfSome, lengt
 ghost use Rattle.civil_time.specs.CivilTime.{is_time_packet};
 ghost use Rattle.time_text.specs.TimeText.{has_marks as has_marks_lem, number_at as number_at_lem, packet_in as packet_in_lem, time_in, year_in as year_in_lem};
 
-use number_text::read_number;
 use os9_base::registers::TimePacket;
 use os9_clock::time::is_time;
+use text_values::read_number;
 
 /// The number of characters of a date and time.
 const TEXT_BYTES: usize = 19;

@@ -4,13 +4,12 @@ ghost use Rattle.rbf_access.specs.Mounted.{IsMounted, IsSound};
 use crate::fields::{RowError, number};
 use crate::words::Words;
 use blank_disk::format as format_disk;
-use disk_repair::repair;
 use os9_outer::drive::BlockDriver;
 use os9_outer::ram_drive::RamDrive;
 use rbf_access::Volume;
 use rbf_check::{CheckError, Tree, check};
 use std::alloc::{AllocError, Global};
-use vol_tools::{NewFile, ToolFault, get, list, mkdir, put, remove};
+use vol_tools::{NewFile, ToolFault, get, list, mkdir, put, remove, repair};
 
 /// The answer of a command.
 #[derive(Drop)]

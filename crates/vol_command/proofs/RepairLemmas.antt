@@ -10,8 +10,8 @@ use Rattle.rbf_model.specs.Space.{cluster_count, is_marked}
 use Rattle.rbf_model.specs.Volume.{DiskVolume, Vol, lost_clusters}
 use Rattle.rbf_model.proofs.Owners.{cluster_positive}
 use Rattle.vol_tools.specs.Tail.{KeepsTail}
-use Rattle.disk_repair.specs.Clearing.{ClearsBits, bit_of}
-use Rattle.disk_repair.proofs.Lists.{filter_has}
+use Rattle.vol_tools.specs.Clearing.{ClearsBits, bit_of}
+use Rattle.vol_tools.proofs.Lists.{filter_has}
 
 -- the mark of a cluster is its bit in the image
 mark-is : (image : List ℕ) (c : ℕ) → is_marked (sector image) c ≡ bit_of image c

@@ -7,8 +7,8 @@ use Rattle.file_drives.specs.Drives.{DriveView}
 use Rattle.boot_images.specs.BootFile.{IsVolume}
 use Rattle.boot_images.specs.Drives.{HaveRoom}
 use Rattle.blank_disk.specs.Image.{IsDiskSize}
-use Rattle.disk_repair.specs.Repair.{IsRepaired}
-use Rattle.disk_repair.specs.declared.image.Repaired.{Repaired}
+use Rattle.vol_tools.specs.Repair.{IsRepaired}
+use Rattle.vol_tools.specs.declared.image.Repaired.{Repaired}
 use Rattle.os9_words.specs.Vol.{IsVol}
 use Rattle.os9_words.specs.declared.vol_words.Verb.{Verb}
 use Rattle.os9_words.specs.declared.vol_words.Verb.TheVariants.{Format, Put, Get, Mkdir, Delete, Dir, Repair}

@@ -9,7 +9,7 @@ use Rattle.rbf_model.specs.Faults.{IsFault}
 use Rattle.rbf_model.specs.Geometry.{image_geometry}
 use Rattle.rbf_model.specs.Volume.{DiskVolume, Vol, lost_clusters}
 use Rattle.blank_disk.specs.Image.{IsClean}
-use Rattle.disk_repair.specs.Clearing.{ClearsBits}
+use Rattle.vol_tools.specs.Clearing.{ClearsBits}
 use Rattle.tool_rules.specs.Blank.{blank_volume}
 use Rattle.tool_rules.specs.Refusals.{Refuses}
 use Rattle.tool_rules.specs.Tool.{Gives, Tool, put, get, mkdir, remove, list, repair}

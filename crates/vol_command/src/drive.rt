@@ -5,7 +5,7 @@ ghost use Rattle.rbf_access.specs.Mounted.{IsSound};
 ghost use Rattle.file_drives.specs.Drives.{boxed_seen, ChangesOneDrive, DriveView, drive_views, lent_seen};
 ghost use Rattle.boot_images.specs.BootFile.{IsVolume};
 ghost use Rattle.boot_images.specs.Drives.{HaveRoom};
-ghost use Rattle.image_tools.specs.Uses.{at_time, tool_of};
+ghost use Rattle.vol_tools.specs.Uses.{at_time, tool_of};
 ghost use Rattle.vol_command.specs.Steps.{fault_end, DrivesAfter, UsesDrive, UsesImage};
 
 use crate::made::Made;
@@ -13,12 +13,11 @@ use boot_images::drives::{eject_images, insert_images};
 use boot_images::images::Images;
 use command_files::status::End;
 use device_table::devices::Devices;
-use image_tools::{ToolUse, use_tool};
 use os9_base::registers::TimePacket;
 use os9_outer::drive::BlockDriver;
 use os9_words::vol_words::VolWords;
 use std::alloc::Global;
-use vol_tools::ToolFault;
+use vol_tools::{ToolFault, ToolUse, use_tool};
 
 /// Puts a well formed image into D0, uses a tool on its volume, and takes it out.
 ///

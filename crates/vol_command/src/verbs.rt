@@ -5,7 +5,7 @@ ghost use Rattle.os9_words.specs.Vol.{IsVol};
 ghost use Rattle.file_drives.specs.Drives.{drive_views};
 ghost use Rattle.boot_images.specs.BootFile.{IsVolume};
 ghost use Rattle.boot_images.specs.Drives.{HaveRoom};
-ghost use Rattle.image_tools.specs.Uses.{tool_of as tool_used};
+ghost use Rattle.vol_tools.specs.Uses.{tool_of as tool_used};
 ghost use Rattle.tool_rules.specs.Tool.{freed_line as freed_line_lem, repair as repair_tool};
 ghost use Rattle.vol_command.specs.Steps.{DrivesAfter, MakesOf, RefusesImage, FormatsDisk, RepairsImage};
 ghost use Rattle.vol_command.specs.Vol.{path_of as path_of_lem, tool_of};
@@ -17,14 +17,12 @@ use crate::names::path_of;
 use blank_disk::format;
 use command_files::status::End;
 use device_table::devices::Devices;
-use disk_repair::repair;
-use image_tools::ToolUse;
 use itoa::Buffer;
 use os9_outer::drive::BlockDriver;
 use os9_words::vol_words::{Verb, VolWords};
 use rbf_check::{CheckError, check};
 use std::alloc::{AllocError, Global};
-use vol_tools::NewFile;
+use vol_tools::{NewFile, ToolUse, repair};
 
 /// Makes the image of a disk.
 ///

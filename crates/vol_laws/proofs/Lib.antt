@@ -1,4 +1,5 @@
+pub mod Lists
 pub mod Files
 pub mod Verbs
 pub mod Calls
-pub mod Lists
+pub mod CommandLists

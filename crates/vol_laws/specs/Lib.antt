@@ -1,1 +1,2 @@
+pub mod NewDisk
 pub mod Turns

@@ -10,7 +10,7 @@ use Rattle.os9_words.specs.declared.vol_words.VolWords.{VolWords}
 use Rattle.rbf_model.specs.Volume.{DiskVolume, Vol as HoldsVolume}
 use Rattle.tool_rules.specs.Tool.{IsListed, IsRead}
 use Rattle.tool_rules.specs.Uses.{Use}
-use Rattle.tool_laws.specs.NewDisk.{NewDisk}
+use Rattle.vol_laws.specs.NewDisk.{NewDisk}
 use Rattle.boot_run.specs.World.{World}
 use Rattle.command_files.specs.End.{status_number}
 use Rattle.command_files.specs.declared.status.End.TheVariants.{Ended, Refused}

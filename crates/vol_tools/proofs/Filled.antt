@@ -13,10 +13,10 @@ use Rattle.rbf_access.specs.Mounted.{Represents}
 use Rattle.rbf_access.specs.declared.faults.FileFault.{FileFault}
 use Rattle.rbf_access.specs.declared.faults.FileFault.TheVariants as file
 use Rattle.rbf_walk.proofs.Stepping.{file_in}
-use Rattle.rbf_growth.specs.Grown.{is_gained}
+use Rattle.rbf_alloc.specs.Grown.{is_gained}
 use Rattle.rbf_write.specs.Files.{HasDataFile}
 use Rattle.rbf_write.specs.Outcomes.{AnswersWrite, AreMarked, WriteIsEnded, unchanged, stopped, write_calls}
-use Rattle.tool_paths.specs.Names.{place}
+use Rattle.vol_tools.specs.Names.{place}
 use Rattle.tool_rules.specs.Numbers.{create_number}
 use Rattle.tool_rules.specs.Refusals.{MakingStops, MayLeave, halfway, unchanged as as_before, full, long}
 use Rattle.tool_rules.specs.Tool.{put, CreatesAt, file_attributes}

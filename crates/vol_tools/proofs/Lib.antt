@@ -1,3 +1,11 @@
+pub mod Texts
+pub mod Named
+pub mod Places
+pub mod Bits
+pub mod Lists
+pub mod OneFreed
+pub mod Freed
+pub mod Outcome
 pub mod Counts
 pub mod Ways
 pub mod Placed
@@ -12,3 +20,5 @@ pub mod Turns
 pub mod Tails
 pub mod Entries
 pub mod Others
+pub mod Answers
+pub mod Mounts

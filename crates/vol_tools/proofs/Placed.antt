@@ -4,8 +4,8 @@ use Rattle.std.proofs.lemmas.Bool.{cond-true, cond-false, cases_Bool}
 use Rattle.os9_base.specs.declared.errors.TheConstants.{E_BPNAM}
 use Rattle.rbf_model.specs.Volume.{DiskVolume}
 use Rattle.rbf_change.specs.Names.{is_dots}
-use Rattle.tool_paths.specs.Names.{place, if_proper}
-use Rattle.tool_paths.specs.declared.place.Place.{Place}
+use Rattle.vol_tools.specs.Names.{place, if_proper}
+use Rattle.vol_tools.specs.declared.place.Place.{Place}
 use Rattle.tool_rules.specs.Numbers.{making_number, on_arrival, way_end, entering_number}
 use Rattle.tool_rules.specs.Path.{Place as ToolPlace, place_of}
 use Rattle.vol_tools.specs.Making.{IsNewPlaceOf}

@@ -11,9 +11,9 @@ use Rattle.rbf_access.specs.declared.faults.FileFault.TheVariants as file
 use Rattle.rbf_walk.specs.Walk.{directory_fault}
 use Rattle.rbf_walk.specs.declared.error.DirError.{DirError}
 use Rattle.rbf_walk.specs.declared.error.DirError.TheVariants.{NotAllowed, BadPath, NotFound, Exists, File}
-use Rattle.rbf_dirs.specs.Deleted.{AnswersDeletion, DeletionStops, as_before, lost_now, IsDeletedBy}
-use Rattle.tool_paths.specs.Names.{place}
-use Rattle.tool_paths.specs.declared.place.Place.{Place}
+use Rattle.rbf_delete.specs.Deleted.{AnswersDeletion, DeletionStops, as_before, lost_now, IsDeletedBy}
+use Rattle.vol_tools.specs.Names.{place}
+use Rattle.vol_tools.specs.declared.place.Place.{Place}
 use Rattle.tool_rules.specs.Numbers.{way_end, on_arrival, deleting_number, removing_number, remove_number}
 use Rattle.tool_rules.specs.Path.{place_of}
 use Rattle.tool_rules.specs.Refusals.{MayLeave, halfway, unchanged}

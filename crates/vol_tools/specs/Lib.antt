@@ -1,3 +1,6 @@
+pub mod Names
+pub mod Clearing
+pub mod Repair
 pub mod Faults
 pub mod Answers
 pub mod Making
@@ -6,3 +9,4 @@ pub mod Listed
 pub mod InTurn
 pub mod Tail
 pub mod Others
+pub mod Uses

@@ -5,8 +5,8 @@ use Rattle.rbf_model.specs.Volume.{DiskVolume}
 use Rattle.rbf_change.specs.Names.{is_dots}
 use Rattle.rbf_change.specs.NewFiles.{Enters, Plan, file_plan, directory_plan}
 use Rattle.rbf_access.specs.Mounted.{Represents}
-use Rattle.tool_paths.specs.Names.{place}
-use Rattle.tool_paths.specs.declared.place.Place.{Place}
+use Rattle.vol_tools.specs.Names.{place}
+use Rattle.vol_tools.specs.declared.place.Place.{Place}
 use Rattle.tool_rules.specs.Numbers.{making_number}
 use Rattle.tool_rules.specs.Path.{place_of}
 use Rattle.tool_rules.specs.Refusals.{MakingStops}

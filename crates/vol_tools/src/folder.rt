@@ -8,12 +8,12 @@ ghost use Rattle.vol_tools.specs.Tail.{KeepsTail, OnMedia};
 
 use crate::fault::ToolFault;
 use crate::making::make_folder;
+use crate::new_place_of;
 use os9_base::errors::E_BPNAM;
 use os9_base::registers::TimePacket;
 use os9_outer::drive::BlockDriver;
 use rbf_access::Volume;
 use std::alloc::Global;
-use tool_paths::new_place_of;
 
 /// Makes a directory by its path, for user 0 (this project's own). All users have all permissions.
 ///

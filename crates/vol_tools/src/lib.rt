@@ -1,22 +1,35 @@
 //! Tools for the images of disks: on a mounted volume they put, get, make, delete and list files by
-//! their paths.
+//! their paths; an image is repaired.
 #![tactic(auto)]
 
 pub use fault::ToolFault;
 pub use folder::mkdir;
+pub use image::{Repaired, repair};
 pub use listing::list;
+pub use mounted::use_tool;
+pub use name::name_of;
 pub use new_file::{NewFile, put};
+pub use path::{directory_names, path_names};
+pub use place::{Place, new_place_of, place_of};
 pub use reading::get;
 pub use removal::remove;
+pub use tool::ToolUse;
 
+mod clear;
 mod fault;
 mod folder;
+mod image;
 pub mod laws;
 mod line;
 mod listing;
 mod making;
+mod mounted;
+mod name;
 mod new_file;
 mod opening;
+mod path;
+mod place;
 mod reading;
 mod removal;
+mod tool;
 mod way;

@@ -10,6 +10,7 @@ ghost use Rattle.vol_tools.specs.Faults.{Faults, tool_fault};
 ghost use Rattle.vol_tools.specs.Listed.{HasListing, NamesFile, lines_of};
 ghost use Rattle.vol_tools.specs.Opening.{AnswersBytes};
 
+use crate::directory_names;
 use crate::fault::ToolFault;
 use crate::line::push_line;
 use crate::opening::{Kind, open_file, read_whole};
@@ -18,7 +19,6 @@ use os9_outer::drive::BlockDriver;
 use rbf_access::Volume;
 use rbf_sector::read_entry;
 use std::alloc::Global;
-use tool_paths::directory_names;
 
 /// The lines of a directory by its path, for user 0 (this project's own); `/` is the root. A line
 /// for each used entry except `.` and `..`, in their order: the attributes as two hexadecimal

@@ -6,14 +6,13 @@ ghost use Rattle.vol_tools.specs.Making.{IsNewPlaceOf, MakesOn, new_directory, n
 ghost use Rattle.vol_tools.specs.Others.{KeepsOthers};
 ghost use Rattle.vol_tools.specs.Tail.{KeepsTail, OnMedia};
 
+use crate::Place;
 use crate::fault::ToolFault;
 use crate::way::way_to;
 use os9_base::registers::TimePacket;
 use os9_outer::drive::BlockDriver;
 use rbf_access::Volume;
-use rbf_creation::create;
-use rbf_folder::make_dir;
-use tool_paths::Place;
+use rbf_create::{create, make_dir};
 
 /// The attributes of a file made by `put`: its owner may read and write it, others may read it.
 const FILE_ATTRIBUTES: u8 = 0x0b;

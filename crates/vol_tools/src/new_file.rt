@@ -9,13 +9,13 @@ ghost use Rattle.vol_tools.specs.Tail.{KeepsTail, OnMedia};
 
 use crate::fault::ToolFault;
 use crate::making::make_file;
+use crate::{Place, new_place_of};
 use os9_base::errors::E_BPNAM;
 use os9_base::registers::TimePacket;
 use os9_outer::drive::BlockDriver;
 use rbf_access::Volume;
 use rbf_write::write_at;
 use std::alloc::Global;
-use tool_paths::{Place, new_place_of};
 
 /// A file to be made: its path from the root, and its bytes.
 #[derive(Clone, Copy, Debug)]

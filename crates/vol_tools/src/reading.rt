@@ -7,11 +7,11 @@ ghost use Rattle.vol_tools.specs.Faults.{Faults, tool_fault};
 
 use crate::fault::ToolFault;
 use crate::opening::{Kind, open_file, read_whole};
+use crate::path_names;
 use os9_base::errors::E_BPNAM;
 use os9_outer::drive::BlockDriver;
 use rbf_access::Volume;
 use std::alloc::Global;
-use tool_paths::path_names;
 
 /// The bytes of a file by its path, for user 0 (this project's own). Nothing changes.
 ///

@@ -1,7 +1,7 @@
 ghost use Rattle.std.specs.Prelude.{◌≡◌, [], ℕ, List, OnOk, Some};
 ghost use Rattle.os9_base.specs.declared.registers.TimePacket.{TimePacket};
 ghost use Rattle.rbf_access.specs.Mounted.{IsMounted};
-ghost use Rattle.tool_paths.specs.Names.{place as place_lem};
+ghost use Rattle.vol_tools.specs.Names.{place as place_lem};
 ghost use Rattle.tool_rules.specs.Path.{place_of as place_of_lem};
 ghost use Rattle.tool_rules.specs.Tool.{remove as remove_tool};
 ghost use Rattle.vol_tools.specs.Answers.{OnVolumeBefore};
@@ -11,12 +11,12 @@ ghost use Rattle.vol_tools.specs.Tail.{KeepsTailUnused, OnMedia};
 
 use crate::fault::ToolFault;
 use crate::way::way_to;
+use crate::{Place, place_of};
 use os9_base::errors::E_BPNAM;
 use os9_outer::drive::BlockDriver;
 use rbf_access::Volume;
-use rbf_dirs::delete;
+use rbf_delete::delete;
 use std::alloc::Global;
-use tool_paths::{Place, place_of};
 
 /// Deletes a file by its path, for user 0 (this project's own).
 ///

@@ -7,7 +7,7 @@ use os9_base::name::{Name, parse_name};
 use os9_outer::drive::BlockDriver;
 use rbf_access::{FileFault, Volume};
 use rbf_check::check;
-use rbf_dirs::delete;
+use rbf_delete::delete;
 use rbf_walk::DirError;
 use std::alloc::Global;
 use std::test::Fail;

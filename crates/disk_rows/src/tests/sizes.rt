@@ -7,7 +7,7 @@ use os9_base::errors::E_SEEK;
 use os9_outer::drive::BlockDriver;
 use rbf_access::{FileFault, Volume};
 use rbf_check::check;
-use rbf_size::set_size;
+use rbf_write::set_size;
 use std::alloc::Global;
 use std::test::Fail;
 

@@ -4,20 +4,20 @@ ghost use Rattle.proc_rules.specs.Records.{IsLiving};
 
 use super::processes::{CLEAR, give_block, lives, same, set, store};
 use device_table::devices::Devices;
-use file_loading::entering::enter_file;
-use file_modules::trying::try_modules;
 use file_state::state::FileState;
 use guest_memory::memory::Memory;
 use load_calls::chain::f_chain;
+use load_calls::entering::enter_file;
 use load_calls::fork::f_fork;
 use load_calls::load::f_load;
+use load_calls::reading::{ProgramRead, read_program};
+use load_calls::refusal::program_refusal;
+use load_calls::trying::try_modules;
 use module_dir::Dir;
 use os9_base::call::CallEnd;
 use os9_base::errors::{E_BMID, E_BPADDR, E_FNA, E_MNF, E_NEMOD, E_PNNF};
 use os9_base::registers::{Pid, Regs};
 use proc_state::state::ProcState;
-use program_files::reading::{ProgramRead, read_program};
-use program_files::refusal::program_refusal;
 use std::alloc::Global;
 use std::test::Fail;
 

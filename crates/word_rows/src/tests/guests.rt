@@ -1,6 +1,5 @@
 use asm6809::assemble;
-use boot_disk::boot_image;
-use guest_mods::{Load, shell_source, stress_image, stress_slices};
+use guest_mods::{Load, boot_image, shell_source, stress_image, stress_slices};
 use std::test::Fail;
 
 // A volume with a file of 257 bytes uses two sectors for it.

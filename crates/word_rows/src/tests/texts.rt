@@ -1,10 +1,10 @@
-use number_text::read_number;
 use os9_base::registers::TimePacket;
 use script_text::fault::LineFault;
 use script_text::script::{ScriptKey, read_script, read_script_for};
 use script_text::slices::read_slices;
 use std::alloc::{AllocError, Global};
 use std::test::Fail;
+use text_values::read_number;
 use time_text::read_time;
 
 /// Digits, the least and the greatest number that is read, and what is read.

@@ -1,7 +1,7 @@
 -- A word and the rest of its line.
 use Rattle.std.proofs.Common.{ap, ◌∙◌}
 use Rattle.std.specs.Prelude.{option_map}
-use Rattle.text_cuts.specs.Cuts.{first_word, without_spaces}
+use Rattle.text_values.specs.Cuts.{first_word, without_spaces}
 use Rattle.asm_model.specs.Statements.{action_of, statement}
 use Rattle.asm_lines.proofs.FieldLemmas.{worded}
 use Rattle.asm_lines.proofs.line.after_label.Goals as goal

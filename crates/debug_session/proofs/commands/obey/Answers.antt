@@ -1,7 +1,7 @@
 use Rattle.std.proofs.Common.{◌≡◌, subst, sym}
 use Rattle.std.specs.Prelude.{IfOk}
 use Rattle.os9_kernel.specs.Outside.{outside}
-use Rattle.debug_rules.specs.Prints.{shows}
+use Rattle.debug_text.specs.Prints.{shows}
 use Rattle.debug_text.specs.declared.command.Command.{Command}
 use Rattle.debug_text.specs.declared.command.Command.TheVariants.{Regs, Mem, Dis}
 use Rattle.debug_session.specs.Moves.{AtPosition, HasShown, MovesOn}

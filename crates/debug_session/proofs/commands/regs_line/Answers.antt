@@ -1,6 +1,6 @@
 use Rattle.std.proofs.Common.{◌++◌, ap, ◌∙◌}
-use Rattle.debug_rules.specs.Course.{state_at}
-use Rattle.debug_rules.specs.Show.{regs_line, shown}
+use Rattle.debug_text.specs.Course.{state_at}
+use Rattle.debug_text.specs.Show.{regs_line, shown}
 use Rattle.debug_session.proofs.commands.regs_line.Goals as goal
 
 pub returns : goal.returns

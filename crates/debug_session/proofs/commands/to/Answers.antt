@@ -1,7 +1,7 @@
 use Rattle.std.proofs.Common.{◌≡◌, List, ℕ, subst, sym, ap, ◌∙◌}
 use Rattle.std.specs.Prelude.{IfOk}
 use Rattle.os9_kernel.specs.Outside.{outside}
-use Rattle.debug_rules.specs.Show.{end_line}
+use Rattle.debug_text.specs.Show.{end_line}
 use Rattle.debug_text.specs.declared.command.Command.TheVariants.{To}
 use Rattle.debug_session.specs.Moves.{HasShown, MovesOn}
 use Rattle.debug_session.proofs.Going.{moves-as, moves-not, moves-told, shown-end, shown-there, shown-told}

@@ -1,6 +1,6 @@
 -- The lines of the instructions before the address are put, and the others follow.
 use Rattle.std.proofs.Common.{◌≡◌, ◌-◌, ◌++◌}
-use Rattle.debug_rules.specs.Disassembly.{dis_lines}
+use Rattle.debug_text.specs.Disassembly.{dis_lines}
 use Rattle.debug_session.specs.Moves.{SeesCells}
 use Rattle.debug_session.proofs.memory.push_instructions.Given as goal
 

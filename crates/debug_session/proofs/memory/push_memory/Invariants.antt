@@ -2,7 +2,7 @@
 use Rattle.std.proofs.Common.{◌≡◌, ◌++◌, ◌%◌}
 use Rattle.std.specs.List.{flat_map, range_with_len}
 use Rattle.asm_model.specs.Numbers.{four_digits}
-use Rattle.debug_rules.specs.Show.{byte_text}
+use Rattle.debug_text.specs.Show.{byte_text}
 use Rattle.debug_session.specs.Moves.{SeesCells}
 use Rattle.debug_session.proofs.memory.push_memory.Given as goal
 

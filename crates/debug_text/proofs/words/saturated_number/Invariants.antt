@@ -1,6 +1,6 @@
 -- The digits below the index spell some value, of which the number is the value or the last position.
 use Rattle.std.proofs.Common.{◌≡◌, ℕ, drop, min}
-use Rattle.number_text.specs.Number.{number_after}
+use Rattle.text_values.specs.Number.{number_after}
 use Rattle.debug_text.specs.Commands.{last_position}
 use Rattle.debug_text.proofs.words.saturated_number.Given as goal
 

@@ -5,7 +5,7 @@ use Rattle.io_rules.specs.Attempts.{caller_of}
 use Rattle.file_rules.specs.Files.{open_file}
 use Rattle.file_rules.specs.Seek.{seeks_nothing}
 use Rattle.file_rules.specs.declared.path_call.PathCall.TheVariants as Call
-use Rattle.file_bytes.proofs.TryingLemmas.{regs-tied}
+use Rattle.file_io.proofs.TryingLemmas.{regs-tied}
 use Rattle.file_dispatch.proofs.Lifting.{lifts-quiet, uncalled-in}
 use Rattle.file_dispatch.proofs.OnPaths.{seeks-on-device, seeks-quiet}
 use Rattle.file_dispatch.proofs.path.seek_path.Goals as goal

@@ -1,5 +1,5 @@
 use Rattle.std.proofs.Common.{[], refl, ◌∙◌}
-use Rattle.file_bytes.proofs.TryingLemmas.{regs-tied}
+use Rattle.file_io.proofs.TryingLemmas.{regs-tied}
 use Rattle.file_dispatch.proofs.Lifting.{never-memory, tries-of}
 use Rattle.file_dispatch.proofs.OnPaths.{none-named, on-device-as}
 use Rattle.file_dispatch.specs.Bounds.{attempt_calls}

@@ -3,7 +3,7 @@ use Rattle.std.proofs.Common.{◌≡◌, ◌-◌, List, ℕ, length, ap, ◌∙�
 use Rattle.std.specs.Prelude.{IfOk}
 use Rattle.rbf_model.specs.Geometry.{image_geometry}
 use Rattle.rbf_model.specs.Volume.{Vol, free_clusters}
-use Rattle.boot_disk.specs.BootDisk.{boot_image, boot_volume, used_sectors, BootsFile}
+use Rattle.guest_mods.specs.BootDisk.{boot_image, boot_volume, used_sectors, BootsFile}
 use Rattle.guest_mods.specs.Stress.{stress_file}
 use Rattle.guest_mods.proofs.AcceptedLemmas.{accepted, short-stress_file}
 use Rattle.guest_mods.proofs.stress.stress_image.Goals as goal

@@ -9,10 +9,10 @@ use Rattle.call_rules.specs.Program.{Program, area_pages, program_kind}
 use Rattle.file_rules.specs.Load.{Loaded}
 use Rattle.file_rules.specs.Program.{chains, loaded_program, starts_first}
 use Rattle.file_rules.specs.ProgramFile.{ProgramFile}
-use Rattle.file_loading.proofs.OutcomeLemmas.{first-there}
+use Rattle.load_calls.proofs.OutcomeLemmas.{first-there}
 use Rattle.fork_calls.specs.Starting.{starts_anew}
 use Rattle.proc_state.specs.Tie.{Answers, Represents}
-use Rattle.program_files.specs.Reading.{IsInBuffer}
+use Rattle.load_calls.specs.Reading.{IsInBuffer}
 use Rattle.load_calls.specs.Starting.{start_refusal}
 use Rattle.load_calls.proofs.GoingOnLemmas.{goes-done, goes-refused}
 use Rattle.load_calls.proofs.ReadyLemmas.{IsReady, ready}

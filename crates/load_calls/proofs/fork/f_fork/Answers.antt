@@ -5,7 +5,7 @@ use Rattle.file_rules.specs.Attempts.{asker_of}
 use Rattle.file_rules.specs.Program.{forks, tests_program}
 use Rattle.file_rules.specs.ProgramFile.{ProgramFile}
 use Rattle.file_rules.specs.Step.{Step}
-use Rattle.file_ways.specs.Ways.{refuses_by}
+use Rattle.file_routes.specs.Ways.{refuses_by}
 use Rattle.load_calls.proofs.AttemptLemmas.{file-read, file-refused, parameters-there, reading-keeps, start-by-file, start-named}
 use Rattle.load_calls.proofs.fork.f_fork.Goals as goal
 

@@ -1,6 +1,6 @@
 use Rattle.std.proofs.Common.{Err, List, ℕ, subst}
 use Rattle.file_rules.specs.Program.{forks, starts_first}
-use Rattle.file_loading.specs.Entering.{TriesFile}
+use Rattle.load_calls.specs.Entering.{TriesFile}
 use Rattle.load_calls.proofs.GoingOnLemmas.{goes-untried}
 use Rattle.load_calls.proofs.fork.fork_read.Goals as goal
 

@@ -2,7 +2,7 @@ use Rattle.std.proofs.Common.{None, vec_len}
 use Rattle.file_rules.specs.Attempts.{asker_of}
 use Rattle.file_rules.specs.Load.{links_first}
 use Rattle.file_rules.specs.ProgramFile.{program_file}
-use Rattle.program_files.specs.Calls.{program_calls}
+use Rattle.load_calls.specs.Calls.{program_calls}
 use Rattle.load_calls.proofs.AttemptLemmas.{file-read, file-refused, reading-keeps}
 use Rattle.load_calls.proofs.load.f_load.Goals as goal
 

@@ -6,13 +6,13 @@ use Rattle.call_rules.specs.CallResult.{CallResult}
 use Rattle.call_rules.specs.Inner.{Inner, regs_at, with_memory}
 use Rattle.file_rules.specs.Load.{Loaded, Loads, links_first}
 use Rattle.file_rules.specs.ProgramFile.{ProgramFile}
-use Rattle.file_loading.proofs.OutcomeLemmas.{first-there}
+use Rattle.load_calls.proofs.OutcomeLemmas.{first-there}
 use Rattle.module_calls.specs.Linked.{links_entered}
 use Rattle.proc_model.proofs.LoadingLemmas.{LiesIn-step}
 use Rattle.proc_model.specs.ModuleList.{module_entry_at}
 use Rattle.proc_model.specs.Objects.{file_blocks}
 use Rattle.proc_state.specs.Tie.{Answers, Represents}
-use Rattle.program_files.specs.Reading.{IsInBuffer}
+use Rattle.load_calls.specs.Reading.{IsInBuffer}
 use Rattle.load_calls.specs.Loading.{has_place}
 use Rattle.load_calls.proofs.GoingOnLemmas.{goes-done, goes-refused}
 use Rattle.load_calls.proofs.LinkLemmas.{in-place, linked-first, no-place}

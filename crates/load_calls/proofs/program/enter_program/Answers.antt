@@ -7,7 +7,7 @@ use Rattle.proc_model.specs.ModuleList.{ModuleEntry}
 use Rattle.proc_state.specs.Tie.{bytes_read}
 use Rattle.file_rules.specs.Load.{Loads}
 use Rattle.file_rules.specs.Program.{parameters_of}
-use Rattle.file_loading.proofs.OutcomeLemmas.{loads-ok}
+use Rattle.load_calls.proofs.OutcomeLemmas.{loads-ok}
 use Rattle.load_calls.proofs.MapLemmas.{same-cells}
 use Rattle.load_calls.proofs.ParameterLemmas.{read-again}
 use Rattle.load_calls.proofs.ReadyLemmas.{ready, ready-first}

@@ -2,7 +2,7 @@ use Rattle.std.proofs.Common.{◌≡◌, ◌∙◌, length, refl, arith}
 use Rattle.std.proofs.lemmas.List.{length-map}
 use Rattle.os9_outer.specs.TerminalState.{terminal_states}
 use Rattle.os9_kernel.specs.Outside.{outside}
-use Rattle.os9_boot.proofs.CallLemmas.{stopped-call}
+use Rattle.os9_boot.proofs.BootCallLemmas.{stopped-call}
 use Rattle.os9_boot.proofs.BootLemmas.{boot-ended, boot-refused, boot-texts-refused}
 use Rattle.os9_boot.proofs.MachineLemmas.{runs-after}
 use Rattle.os9_words.specs.Notes.{HasRead, notes_of}

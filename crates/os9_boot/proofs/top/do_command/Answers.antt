@@ -1,4 +1,4 @@
-use Rattle.os9_boot.proofs.CallLemmas.{command-reported, err-only, reported}
+use Rattle.os9_boot.proofs.BootCallLemmas.{command-reported, err-only, reported}
 use Rattle.os9_boot.proofs.top.do_command.Goals as goal
 
 pub returns-clause-call : goal.returns-clause-call

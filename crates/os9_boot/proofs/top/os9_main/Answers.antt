@@ -2,7 +2,7 @@ use Rattle.std.proofs.Common.{map}
 use Rattle.std.specs.String.{string_bytes}
 use Rattle.os9_kernel.specs.Outside.{outside}
 use Rattle.os9_words.specs.Notes.{notes_of}
-use Rattle.os9_boot.proofs.CallLemmas.{err-only, reported, top-command, top-memory, top-refused}
+use Rattle.os9_boot.proofs.BootCallLemmas.{err-only, reported, top-command, top-memory, top-refused}
 use Rattle.os9_boot.proofs.top.os9_main.Goals as goal
 
 pub do_command-requires-clause-devices : goal.do_command-requires-clause-devices

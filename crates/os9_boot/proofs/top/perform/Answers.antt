@@ -1,4 +1,4 @@
-use Rattle.os9_boot.proofs.CallLemmas.{asm-called, debug-called, stressed, vol-called}
+use Rattle.os9_boot.proofs.BootCallLemmas.{asm-called, debug-called, stressed, vol-called}
 use Rattle.os9_boot.proofs.NameLemmas.{stress-names}
 use Rattle.os9_boot.proofs.top.perform.Goals as goal
 

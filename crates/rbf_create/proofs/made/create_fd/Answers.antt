@@ -1,8 +1,8 @@
 use Rattle.std.proofs.Common.{Err, IsSome, refl, ap, sym, subst, ◌∙◌}
 use Rattle.std.proofs.lemmas.Result.{err_from_is_err_and}
-use Rattle.rbf_growth.proofs.Growing.{sizes_are}
+use Rattle.rbf_alloc.proofs.Growing.{sizes_are}
 use Rattle.rbf_access.proofs.Reading.{mounted_still}
-use Rattle.rbf_update.proofs.Stored.{mounted_now, stored_sound}
+use Rattle.rbf_delete.proofs.Stored.{mounted_now, stored_sound}
 use Rattle.rbf_create.proofs.Making.{number_is, number_on_drive, stored, is_made, unwritten, makes_ok, makes_fault, makes_refused, empty_grows, first_there, number_few, kept_cluster, fd_as, refused_as}
 use Rattle.rbf_create.proofs.made.create_fd.Goals as goal
 

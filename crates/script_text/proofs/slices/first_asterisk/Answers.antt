@@ -3,7 +3,7 @@ use Rattle.std.specs.List.{position_or_len}
 use Rattle.std.proofs.lemmas.Iterator.{YieldsList-from_slice}
 use Rattle.std.proofs.lemmas.Iterator.Search.{position_from_yields_List}
 use Rattle.script_text.specs.Slices.{is_asterisk}
-use Rattle.text_cuts.proofs.Places.{unwrap_or-position, position_or_len-within}
+use Rattle.text_values.proofs.Places.{unwrap_or-position, position_or_len-within}
 use Rattle.script_text.proofs.slices.first_asterisk.Goals as goal
 
 pub returns-clause-place : goal.returns-clause-place

@@ -1,6 +1,6 @@
 -- The image that was made is the only one.
 use Rattle.std.proofs.Common.{ℕ, List, ◌∷◌, [], ◌++◌, ap, ◌∙◌, subst}
-use Rattle.boot_disk.specs.BootDisk.{BootsFile, boot_volume}
+use Rattle.guest_mods.specs.BootDisk.{BootsFile, boot_volume}
 use Rattle.rbf_model.specs.Volume.{Vol}
 use Rattle.stress_run.specs.Disk.{seed_file}
 use Rattle.stress_run.proofs.stress.stress_disk.Goals as goal

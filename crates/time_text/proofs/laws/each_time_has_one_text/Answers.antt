@@ -2,7 +2,7 @@ use Rattle.std.proofs.Common.{◌≡◌, ◌≤◌, ◌∙◌, ℕ, ◌+◌, ◌
 use Rattle.std.proofs.lemmas.Bool.{and_from, le-leb}
 use Rattle.civil_time.proofs.Days.{parts-of}
 use Rattle.civil_time.specs.CivilTime.{packet_time}
-use Rattle.number_text.specs.Number.{within}
+use Rattle.text_values.specs.Number.{within}
 use Rattle.time_text.specs.TimeText.{packet_with, if_time}
 use Rattle.time_text.proofs.Digits.{read-two, read-four}
 use Rattle.time_text.proofs.Places.{is-read, text-spelled}

@@ -2,7 +2,7 @@ use Rattle.std.proofs.Common.{◌≡◌, ℕ, Some, Err, Ok, Vec, Global, List, 
 use Rattle.std.specs.Prelude.{slice_get}
 use Rattle.file_drives.specs.Drives.{ChangesOneDrive, DriveView, drive_views}
 use Rattle.boot_images.specs.Drives.{holding}
-use Rattle.image_tools.specs.Uses.{at_time, tool_of}
+use Rattle.vol_tools.specs.Uses.{at_time, tool_of}
 use Rattle.command_files.specs.declared.status.End.{End}
 use Rattle.vol_command.specs.Steps.{DrivesAfter, UsesDrive, UsesImage, fault_end}
 use Rattle.vol_command.specs.declared.made.Made.{Made}

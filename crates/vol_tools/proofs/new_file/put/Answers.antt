@@ -1,7 +1,7 @@
 -- The path is read, and the file is put at its place.
 use Rattle.std.proofs.Common.{refl, sym, ap, ◌∙◌, option_map}
 use Rattle.std.proofs.lemmas.Result.{err_from_is_err_and}
-use Rattle.tool_paths.specs.Names.{place}
+use Rattle.vol_tools.specs.Names.{place}
 use Rattle.vol_tools.proofs.Counts.{no_faults}
 use Rattle.vol_tools.proofs.Filled.{no_place}
 use Rattle.vol_tools.proofs.Placed.{no_new_place, new_place_is}

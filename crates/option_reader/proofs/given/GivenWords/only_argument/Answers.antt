@@ -1,5 +1,5 @@
 use Rattle.std.proofs.Common.{rules, ◌≡◌, ◌∙◌, ap, sym, option_map, slice_get, is_some, true≢false, refl, Some, None, List, [], ◌∷◌, ℕ}
-use Rattle.word_options.specs.Given.{only}
+use Rattle.option_reader.specs.Given.{only}
 use Rattle.option_reader.proofs.given.GivenWords.only_argument.Goals as goal
 
 only_one : (texts : List (List ℕ)) → slice_get texts 1 ≡ None → slice_get texts 0 ≡ only texts

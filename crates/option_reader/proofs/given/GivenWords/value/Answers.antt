@@ -1,7 +1,7 @@
 use Rattle.std.proofs.Common.{◌≡◌, ◌≢◌, ◌∙◌, refl, sym, ap, Bool, true, false, bytes_eq, List, [], ℕ}
 use Rattle.clap.specs.Words.{found_of, rows_of}
 use Rattle.clap.proofs.WalkLemmas.{first_value-rows}
-use Rattle.word_options.specs.Given.{value_of}
+use Rattle.option_reader.specs.Given.{value_of}
 use Rattle.option_reader.proofs.RowLemmas.{value_of-row}
 use Rattle.option_reader.proofs.Rules.{same_bytes}
 use Rattle.option_reader.proofs.given.GivenWords.value.Goals as goal

@@ -9,7 +9,7 @@ use Rattle.machine_model.specs.Run.{Choose}
 use Rattle.machine_model.specs.State.{State}
 use Rattle.proc_state.specs.Tie.{Represents as RepresentsProcesses}
 use Rattle.os9_kernel.proofs.Choosing.{asks-living}
-use Rattle.kept_laws.proofs.RunningLaws.{choice-running}
+use Rattle.wait_laws.proofs.RunningLaws.{choice-running}
 use Rattle.os9_kernel.proofs.Represented.{tick-kept, living-few}
 use Rattle.os9_kernel.proofs.kernel.Kernel.choose.Goals as goal
 

@@ -1,4 +1,4 @@
-use Rattle.program_files.proofs.FirstLemmas.{alone-sound}
+use Rattle.load_calls.proofs.FirstLemmas.{alone-sound}
 use Rattle.process_rows.proofs.tests.files.call_alone.Goals as goal
 
 pub f_load-requires-clause-sound : goal.f_load-requires-clause-sound

@@ -1,4 +1,4 @@
-use Rattle.program_files.proofs.FirstLemmas.{alone-sound}
+use Rattle.load_calls.proofs.FirstLemmas.{alone-sound}
 use Rattle.process_rows.proofs.tests.files.read_alone.Goals as goal
 
 pub read_program-requires-clause-sound : goal.read_program-requires-clause-sound

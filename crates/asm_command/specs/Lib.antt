@@ -1,4 +1,0 @@
-pub mod Asm
-pub mod Call
-pub mod Left
-pub mod Steps

@@ -1,6 +1,0 @@
-pub mod Parts
-pub mod Marks
-pub mod Fields
-pub mod Rules
-pub mod Volume
-pub mod Free

@@ -1,5 +1,0 @@
-pub mod Course
-pub mod Disassembly
-pub mod Prints
-pub mod Rows
-pub mod Show

@@ -1,0 +1,8 @@
+pub mod LeavingLemmas
+pub mod DeviceLemmas
+pub mod LineLemmas
+pub mod MovingLemmas
+pub mod ReadingLemmas
+pub mod SendingLemmas
+pub mod StepLemmas
+pub mod TryingLemmas

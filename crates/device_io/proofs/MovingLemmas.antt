@@ -1,0 +1,156 @@
+-- What is known of a read or a write once its path is found.
+use Rattle.std.proofs.Common.{◌≡◌, ◌≢◌, ℕ, Bool, true, false, Option, Some, None, is_some, is_none, option_map, option_and_then, unwrap_or, sym, ap, refl, ◌∙◌, subst, arith}
+use Rattle.std.specs.Prelude.{IfSome}
+use Rattle.std.proofs.lemmas.Bool.{false≢true}
+use Rattle.os9_base.specs.declared.registers.Regs.{Regs}
+use Rattle.call_rules.specs.Inner.{Inner, regs_at}
+use Rattle.io_model.specs.Path.{slot_of, desc_of}
+use Rattle.io_model.specs.declared.kept.Kept.{Kept}
+use Rattle.io_model.specs.declared.path.Desc.{Desc}
+use Rattle.io_model.specs.declared.path.SysPath.{SysPath}
+use Rattle.io_model.specs.declared.path.Target.{Target}
+use Rattle.io_model.specs.declared.path.Target.TheVariants.{Term}
+use Rattle.io_model.specs.declared.terminal.ReadKind.{ReadKind}
+use Rattle.io_model.specs.declared.terminal.ReadKind.TheVariants.{Bytes, WholeLine}
+use Rattle.io_rules.specs.Codes.{direction_of}
+use Rattle.io_rules.specs.Io.{Io, OpenPath, open_path, kept_at}
+use Rattle.io_rules.specs.Transfer.{first_call}
+use Rattle.io_rules.specs.declared.io_call.Direction.{Direction}
+use Rattle.io_rules.specs.declared.io_call.Direction.TheVariants as Way
+use Rattle.io_rules.specs.declared.io_call.IoCall.{IoCall}
+use Rattle.io_rules.specs.Again.{IsAgain, IsKept, KeepsCount, path_number}
+use Rattle.io_state.proofs.HeldLemmas.{slot-held}
+use Rattle.io_state.proofs.WaitLemmas.{none-some, some-same}
+use Rattle.io_state.specs.Sound.{IsIo, IsNoRead, read_kind, read_kind_of, target_at}
+use Rattle.device_io.specs.Leaving.{ReadsNoTerminal}
+use Rattle.proc_state.specs.Tie.{Represents}
+use Rattle.proc_state.specs.declared.state.ProcState.{ProcState}
+use Rattle.proc_rules.specs.Records.{record_at}
+use Rattle.device_io.specs.Moving.{MayMove, read_call, read_code}
+
+-- the registers of the processes are those of the machine
+pub regs-tied : (s : ProcState) (m : Inner) (p : ℕ) → Represents s m → (record_at s.table p).regs ≡ regs_at m p
+regs-tied s m p tied = ap (λ (i : Inner). regs_at i p) (sym tied.is)
+
+-- what is not there is nothing
+pub none-of : {A : Type 0} (o : Option A) (there : Bool) → there ≡ is_some o → there ≡ false → is_none o ≡ true
+none-of None there is out = refl
+none-of (Some a) there is out = absurd (false≢true (sym out ∙ is))
+
+pub some-of : {A : Type 0} (o : Option A) (there : Bool) → there ≡ is_some o → there ≡ true → is_none o ≡ false
+some-of None there is inside = absurd (false≢true (sym is ∙ inside))
+some-of (Some a) there is inside = refl
+
+-- ---- a path that a number names
+
+-- a system path with its descriptor
+abbrev with_desc_of : SysPath → Option Desc → Option OpenPath
+with_desc_of s d = option_map {U = OpenPath} (λ (desc : Desc). record { path = s; desc = desc }) d
+
+-- its system path and its descriptor
+pub opened-parts : (io : Io) (p n : ℕ) (opened : OpenPath) → open_path io p n ≡ Some opened → (slot_of io.paths p n ≡ Some opened.path) × (desc_of io.paths opened.path.0 ≡ Some opened.desc)
+opened-parts io p n opened is = by_slot (slot_of io.paths p n) refl is
+  where
+    by_desc : (s : SysPath) (d : Option Desc) → slot_of io.paths p n ≡ Some s → desc_of io.paths s.0 ≡ d → with_desc_of s d ≡ Some opened → (slot_of io.paths p n ≡ Some opened.path) × (desc_of io.paths opened.path.0 ≡ Some opened.desc)
+    by_desc s None slot_is desc_is e = absurd (none-some opened e)
+    by_desc s (Some d) slot_is desc_is e =
+        let whole : record { path = s; desc = d } ≡ opened = some-same (record { path = s; desc = d }) opened e in
+        let same_path : s ≡ opened.path = ap (λ (it : OpenPath). it.path) whole in
+        let same_desc : d ≡ opened.desc = ap (λ (it : OpenPath). it.desc) whole in
+        (slot_is ∙ ap (λ (it : SysPath). Some it) same_path, ap (λ (it : SysPath). desc_of io.paths it.0) (sym same_path) ∙ desc_is ∙ ap (λ (it : Desc). Some it) same_desc)
+
+    by_slot : (slot : Option SysPath) → slot_of io.paths p n ≡ slot → option_and_then (λ (s : SysPath). with_desc_of s (desc_of io.paths s.0)) slot ≡ Some opened → (slot_of io.paths p n ≡ Some opened.path) × (desc_of io.paths opened.path.0 ≡ Some opened.desc)
+    by_slot None slot_is e = absurd (none-some opened e)
+    by_slot (Some s) slot_is e = by_desc s (desc_of io.paths s.0) slot_is refl e
+
+-- ---- the call of an attempt
+
+-- a call that is kept is this one, which reads no terminal: nothing that is kept reads one
+pub no-read-on : (io : Io) (p : ℕ) (target : Target) (call : Kept) → ((n : ℕ) → target ≡ Term n → ⊥) → MayMove io p target call → ReadsNoTerminal io p
+no-read-on io p target call other move = by (kept_at io p) move.same
+  where
+    no_read : IsNoRead io call
+    no_read n on reads = other n (let e : Some target ≡ Some (Term n) = sym move.on ∙ on in cc)
+
+    by : (kept : Option Kept) → IfSome kept (λ kept. kept ≡ call) → IfSome kept (IsNoRead io)
+    by None same = tt
+    by (Some kept) same = subst (λ (k : Kept). IsNoRead io k) (sym same) no_read
+
+-- where no call may be kept none is
+pub kept-none : (kept : Option Kept) (Q P : Kept → Type 0) → IfSome kept Q → ((call : Kept) → Q call → ⊥) → IfSome kept P
+kept-none None Q P fact never = tt
+kept-none (Some call) Q P fact never = absurd (never call fact)
+
+-- ---- a read on an open path
+
+number-of : (kind : ReadKind) (regs : Regs) → path_number (read_call kind) regs ≡ regs.a
+number-of Bytes regs = refl
+number-of WholeLine regs = refl
+
+pub kept-count : (kind : ReadKind) (regs : Regs) (count : ℕ) → KeepsCount (read_call kind) regs count → count ≡ regs.y
+kept-count Bytes regs count is = is
+kept-count WholeLine regs count is = is
+
+kind-of : (kind : ReadKind) → read_kind_of (read_call kind) ≡ Some kind
+kind-of Bytes = refl
+kind-of WholeLine = refl
+
+code-of : (kind : ReadKind) → read_kind (read_code kind) ≡ Some kind
+code-of Bytes = refl
+code-of WholeLine = refl
+
+way-of : (kind : ReadKind) → direction_of (read_code kind) ≡ Some Way.Reading
+way-of Bytes = refl
+way-of WholeLine = refl
+
+-- what is known of the call of a read
+pub record IsReadCall (kind : ReadKind) (regs : Regs) (io : Io) (p : ℕ) (target : Target) (call : Kept) : Type 0 where
+  pub move : MayMove io p target call
+  pub kind_is : read_kind call.code ≡ Some kind
+  pub count : call.count ≡ regs.y
+
+pub read-call : (kind : ReadKind) (regs : Regs) (io : Io) (p : ℕ) (opened : OpenPath) (call : Kept) → IsIo io → IsAgain (read_call kind) regs io p → open_path io p regs.a ≡ Some opened → call ≡ unwrap_or (kept_at io p) (first_call (read_code kind) opened regs.y) → regs.y ≢ 0 → IsReadCall kind regs io p opened.desc.target call
+read-call kind regs io p opened call is again open_is call_is some = by (kept_at io p) refl again call_is
+  where
+    parts : (slot_of io.paths p regs.a ≡ Some opened.path) × (desc_of io.paths opened.path.0 ≡ Some opened.desc)
+    parts = opened-parts io p regs.a opened open_is
+
+    on : target_at io.paths opened.path.0 ≡ Some opened.desc.target
+    on = ap (λ (o : Option Desc). option_map (λ (desc : Desc). desc.target) o) parts.1
+
+    first : Kept
+    first = first_call (read_code kind) opened regs.y
+
+    begun : kept_at io p ≡ None → IsReadCall kind regs io p opened.desc.target first
+    begun none = record {
+      move = record {
+        may = record {
+          moves = ap (λ (o : Option Direction). is_some o) (way-of kind);
+          left = omega arith;
+          held = slot-held io.paths p regs.a opened.path parts.0;
+          reads = λ n at. way-of kind;
+        };
+        on = on;
+        same = subst (λ (o : Option Kept). IfSome o (λ kept. kept ≡ first)) (sym none) tt;
+      };
+      kind_is = code-of kind;
+      count = refl;
+    }
+
+    further : (kept : Kept) → kept_at io p ≡ Some kept → IsKept (read_call kind) regs io p kept → IsReadCall kind regs io p opened.desc.target kept
+    further kept at fact =
+        let slot : slot_of io.paths p regs.a ≡ Some kept.path = subst (λ (n : ℕ). slot_of io.paths p n ≡ Some kept.path) (number-of kind regs) fact.path in
+        let same_path : kept.path ≡ opened.path = some-same kept.path opened.path (sym slot ∙ parts.0) in
+        record {
+          move = record {
+            may = is.waits.calls p kept at;
+            on = ap (λ (s : SysPath). target_at io.paths s.0) same_path ∙ on;
+            same = subst (λ (o : Option Kept). IfSome o (λ it. it ≡ kept)) (sym at) refl;
+          };
+          kind_is = ap (λ (o : Option IoCall). option_and_then read_kind_of o) fact.code ∙ kind-of kind;
+          count = kept-count kind regs kept.count fact.count;
+        }
+
+    by : (kept : Option Kept) → kept_at io p ≡ kept → IfSome kept (IsKept (read_call kind) regs io p) → call ≡ unwrap_or kept first → IsReadCall kind regs io p opened.desc.target call
+    by None none fact same = subst (λ (k : Kept). IsReadCall kind regs io p opened.desc.target k) (sym same) (begun none)
+    by (Some kept) at fact same = subst (λ (k : Kept). IsReadCall kind regs io p opened.desc.target k) (sym same) (further kept at fact)

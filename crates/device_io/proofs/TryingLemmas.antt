@@ -1,0 +1,99 @@
+-- What an attempt comes to, by the tests that it passes.
+use Rattle.std.proofs.Common.{◌≡◌, ◌≢◌, ℕ, Bool, true, false, Option, Some, None, List, sym, refl, subst}
+use Rattle.std.specs.Prelude.{if◌then◌else◌}
+use Rattle.os9_base.specs.declared.call.CallEnd.{CallEnd}
+use Rattle.os9_base.specs.declared.call.CallEnd.TheVariants.{Done, Error, Wait, Ended, NoMemory}
+use Rattle.os9_base.specs.declared.registers.Regs.{Regs}
+use Rattle.os9_outer.specs.TerminalState.{TerminalState}
+use Rattle.call_rules.specs.CallResult.{CallResult}
+use Rattle.call_rules.specs.Inner.{Inner, regs_at, with_regs_of}
+use Rattle.io_rules.specs.Attempts.{caller_of, result_of, step_of}
+use Rattle.io_rules.specs.Io.{Io, with_call}
+use Rattle.io_rules.specs.Step.{IoEffect, IoStep, refused, comes, needs, refuses, done, leaves, fails, answers}
+use Rattle.io_rules.specs.declared.io_call.IoCall.{IoCall}
+use Rattle.io_state.specs.Attempt.{Attempts}
+use Rattle.device_io.specs.Leaving.{Leaves}
+use Rattle.proc_state.specs.Tie.{Comes, Represents}
+use Rattle.proc_state.specs.declared.state.ProcState.{ProcState}
+use Rattle.io_rules.specs.Memory.{WantsMemory}
+use Rattle.device_io.specs.Trying.{Takes, Tries}
+
+-- no call comes to want of memory
+pub never-wants : (m : Inner) (p : ℕ) (processes : ProcState) (result : CallResult) → Comes m p result NoMemory processes → ⊥
+never-wants m p processes (CallResult.done t) came = let e : NoMemory ≡ Done = came.0 in cc
+never-wants m p processes (CallResult.refused number) came = let e : NoMemory ≡ Error number = came.0 in cc
+never-wants m p processes (CallResult.waits t) came = let e : NoMemory ≡ Wait = came.0 in cc
+never-wants m p processes (CallResult.ends status) came = let e : NoMemory ≡ Ended = came.0 in cc
+
+module _ (m : Inner) (io : Io) (p : ℕ) (processes : ProcState) (new : Io) (terms : List TerminalState) where
+  -- it comes to an end
+  pub tries-takes : (step : IoStep) (end : CallEnd) (after : List TerminalState) → end ≢ NoMemory → Takes step m io p end processes new terms after → Tries step m io p end processes new terms after
+  tries-takes step Done after differ takes = takes
+  tries-takes step (Error number) after differ takes = takes
+  tries-takes step Wait after differ takes = takes
+  tries-takes step Ended after differ takes = takes
+  tries-takes step NoMemory after differ takes = absurd (differ refl)
+
+  -- it reaches no device
+  pub tries-comes : (effect : IoEffect) (end : CallEnd) → Leaves effect m p end processes new → Tries (comes effect) m io p end processes new terms terms
+  tries-comes effect Done it = record { effect = effect; does = (refl, refl); comes = it.0; state = it.1 }
+  tries-comes effect (Error number) it = record { effect = effect; does = (refl, refl); comes = it.0; state = it.1 }
+  tries-comes effect Wait it = record { effect = effect; does = (refl, refl); comes = it.0; state = it.1 }
+  tries-comes effect Ended it = record { effect = effect; does = (refl, refl); comes = it.0; state = it.1 }
+  tries-comes effect NoMemory it = absurd (never-wants m p processes (result_of m p effect) it.0)
+
+  -- it is refused
+  pub tries-refused : (number : ℕ) (end : CallEnd) → end ≡ Error number → Represents processes m → new ≡ with_call io p None → Tries (refused number) m io p end processes new terms terms
+  tries-refused number end is tied left =
+      subst (λ (e : CallEnd). Tries (refused number) m io p e processes new terms terms) (sym is) (record { effect = leaves (fails number) io; does = (refl, refl); comes = (refl, tied); state = left })
+
+  -- it is done at once
+  pub tries-done : (regs : Regs) (end : CallEnd) → regs ≡ regs_at m p → end ≡ Done → Represents processes (with_regs_of m p regs) → new ≡ with_call io p None → Tries (done (regs_at m p) io) m io p end processes new terms terms
+  tries-done regs end same is tied left =
+      tries-comes (leaves (answers (regs_at m p)) io) end ((is, subst (λ (r : Regs). Represents processes (with_regs_of m p r)) same tied), left)
+
+module _ (m : Inner) (io : Io) (p : ℕ) (end : CallEnd) (processes : ProcState) (new : Io) (before after : List TerminalState) where
+  -- ---- the tests of a step
+
+  pub tries-needs-none : {A : Type 0} (o : Option A) (number : ℕ) (next : A → IoStep) → o ≡ None → Tries (refused number) m io p end processes new before after → Tries (needs o number next) m io p end processes new before after
+  tries-needs-none {A} o number next is tries = subst (λ (o : Option A). Tries (needs o number next) m io p end processes new before after) (sym is) tries
+
+  pub tries-needs-some : {A : Type 0} (o : Option A) (a : A) (number : ℕ) (next : A → IoStep) → o ≡ Some a → Tries (next a) m io p end processes new before after → Tries (needs o number next) m io p end processes new before after
+  tries-needs-some {A} o a number next is tries = subst (λ (o : Option A). Tries (needs o number next) m io p end processes new before after) (sym is) tries
+
+  pub tries-refuses-true : (test : Bool) (number : ℕ) (next : IoStep) → test ≡ true → Tries (refused number) m io p end processes new before after → Tries (refuses test number next) m io p end processes new before after
+  tries-refuses-true test number next is tries = subst (λ (t : Bool). Tries (refuses t number next) m io p end processes new before after) (sym is) tries
+
+  pub tries-refuses-false : (test : Bool) (number : ℕ) (next : IoStep) → test ≡ false → Tries next m io p end processes new before after → Tries (refuses test number next) m io p end processes new before after
+  tries-refuses-false test number next is tries = subst (λ (t : Bool). Tries (refuses t number next) m io p end processes new before after) (sym is) tries
+
+  pub tries-if-true : (test : Bool) (one other : IoStep) → test ≡ true → Tries one m io p end processes new before after → Tries (if test then one else other) m io p end processes new before after
+  tries-if-true test one other is tries = subst (λ (t : Bool). Tries (if t then one else other) m io p end processes new before after) (sym is) tries
+
+  pub tries-if-false : (test : Bool) (one other : IoStep) → test ≡ false → Tries other m io p end processes new before after → Tries (if test then one else other) m io p end processes new before after
+  tries-if-false test one other is tries = subst (λ (t : Bool). Tries (if t then one else other) m io p end processes new before after) (sym is) tries
+
+-- what an attempt did is what its call does
+module _ (call : IoCall) (m : Inner) (io : Io) (drives p : ℕ) (processes : ProcState) (new : Io) (before after : List TerminalState) where
+  by-step : (end : CallEnd) → Takes (step_of call m p io drives before) m io p end processes new before after → Attempts call m io drives p end processes new before after
+  by-step end takes = record {
+    result = result_of m p takes.effect;
+    attempt = record { effect = takes.effect; does = takes.does; result_is = refl; state = takes.state };
+    comes = takes.comes;
+  }
+
+  pub attempts-of : (end : CallEnd) → end ≢ NoMemory → Tries (step_of call m p io drives before) m io p end processes new before after → Attempts call m io drives p end processes new before after
+  attempts-of Done differ tries = by-step Done tries
+  attempts-of (Error number) differ tries = by-step (Error number) tries
+  attempts-of Wait differ tries = by-step Wait tries
+  attempts-of Ended differ tries = by-step Ended tries
+  attempts-of NoMemory differ tries = absurd (differ refl)
+
+module _ (m : Inner) (io : Io) (p : ℕ) (end : CallEnd) (processes : ProcState) (new : Io) (before after : List TerminalState) where
+  -- a step that is another one
+  pub tries-same : (one other : IoStep) → one ≡ other → Tries one m io p end processes new before after → Tries other m io p end processes new before after
+  tries-same one other same tries = subst (λ (step : IoStep). Tries step m io p end processes new before after) same tries
+
+  -- memory is wanting
+  pub wants-of : (step : IoStep) → end ≡ NoMemory → Tries step m io p end processes new before after → WantsMemory step (caller_of m p) io before after
+  wants-of step is tries = subst (λ (e : CallEnd). Tries step m io p e processes new before after) is tries

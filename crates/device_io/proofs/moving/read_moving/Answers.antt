@@ -1,0 +1,19 @@
+use Rattle.std.proofs.Common.{◌∙◌, sym, arith}
+use Rattle.call_rules.specs.Inner.{cells_at}
+use Rattle.call_rules.specs.UserBytes.{user_bytes}
+use Rattle.device_io.proofs.LineLemmas.{user-length}
+use Rattle.device_io.proofs.ReadingLemmas.{read-window}
+use Rattle.device_io.proofs.moving.read_moving.Goals as goal
+
+pub returns-clause-read : goal.returns-clause-read
+returns-clause-read c m tied =
+    let cells = cells_at m c.args.p.0 in
+    let at = c.args.at in
+    let count = c.args.count in
+    read-window c.args.io.now c.args.p.0 c.args.number (user_bytes cells at count) count c.moved_before.result c.read_window.new.s.buffer.items
+    (sym (c.is_named.ensures.there m tied) ∙ c.if-not-is_named.false)
+    (λ bytes is. user-length cells at count bytes is)
+    (sym c.is_on_pipe.ensures ∙ c.if-not-is_on_pipe.false)
+    c.moved_before.ensures
+    (omega arith)
+    (c.read_window.ensures.window m tied)

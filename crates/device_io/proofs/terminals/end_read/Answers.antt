@@ -1,0 +1,19 @@
+use Rattle.std.proofs.Common.{take, refl, sym, subst}
+use Rattle.os9_base.specs.declared.call.CallEnd.{CallEnd}
+use Rattle.os9_base.specs.declared.registers.Regs.{Regs}
+use Rattle.proc_model.specs.MemoryChanges.{stored}
+use Rattle.call_rules.specs.Inner.{with_memory, with_regs_of}
+use Rattle.io_model.specs.declared.terminal.Progress.{Progress}
+use Rattle.io_rules.specs.Attempts.{caller_of}
+use Rattle.io_rules.specs.Terminals.{read_ends}
+use Rattle.io_state.specs.Terminals.{count_of}
+use Rattle.proc_state.specs.Tie.{Represents}
+use Rattle.device_io.specs.Trying.{EndsBy}
+use Rattle.device_io.proofs.terminals.end_read.Goals as goal
+
+pub returns-in-Done-clause-ends : goal.returns-in-Done-clause-ends
+returns-in-Done-clause-ends c m read tied same =
+    let p = c.args.p.0 in
+    let bytes = take c.in-Done.count c.args.bytes.now in
+    subst (λ (a : Progress). EndsBy (read_ends (caller_of m p) read a) c.args.regs.x (take (count_of a) c.args.bytes.now) m p CallEnd.Done c.set_regs.new.self) (sym c.in-Done.is)
+    (λ io. (refl, subst (λ (r : Regs). Represents c.set_regs.new.self (with_regs_of (with_memory m (stored m.memory p c.args.regs.x bytes)) p (record r { y = c.in-Done.count }))) same (c.set_regs.ensures.tied _ (c.store.ensures.tied m tied))))

@@ -1,0 +1,167 @@
+//! I$Write, I$WritLn and F$PErr (System Programmer's Manual, I$Write, I$WritLn and F$PErr).
+
+ghost use Rattle.std.specs.Prelude.{◌≡◌, ℕ, ◌<◌, IfSome, None, option_map, take, vec_len};
+ghost use Rattle.proc_rules.specs.Records.{IsLiving};
+ghost use Rattle.call_rules.specs.Inner.{Inner};
+ghost use Rattle.io_rules.specs.Attempts.{caller_of};
+ghost use Rattle.io_rules.specs.Io.{kept_at};
+ghost use Rattle.io_rules.specs.Write.{error_line as error_line_lem, line_bytes};
+ghost use Rattle.io_rules.specs.declared.io_call.IoCall.TheVariants as Call;
+ghost use Rattle.proc_state.specs.Tie.{IsSame, Represents};
+ghost use Rattle.device_io.specs.Moving.{MayAttempt};
+ghost use Rattle.device_io.specs.Reading.{IsRead};
+ghost use Rattle.device_io.specs.Streams.{streams};
+ghost use Rattle.device_io.specs.Trying.{AttemptsFrom, WantsMemoryFrom};
+
+use crate::moving::read_moving;
+use crate::sending::{WriteKind, send};
+use crate::stream_ends::{refuse, tell};
+use device_table::devices::Devices;
+use io_state::state::IoState;
+use os9_base::call::CallEnd;
+use os9_base::errors::E_BPADDR;
+use os9_base::registers::{Pid, Regs};
+use os9_outer::terminal::CharDriver;
+use proc_state::state::ProcState;
+
+/// I$Write: writes bytes (System Programmer's Manual, I$Write). Takes the path in A, the address of
+/// the bytes in X and their count in Y; returns the count in Y. A write of a terminal never waits;
+/// a write of a pipe waits while the pipe is full.
+///
+/// # Errors
+///
+/// E$BPAddr exactly if one of the bytes is in no named slot or past `FFFF`, else E$BPNum exactly if
+/// the number names no path, else E$BMode exactly if the path may not be written; then E$Write if a
+/// terminal failed, or if the pipe is full and no other process outside the same wait holds its
+/// path. Bytes that are out stay out, and the registers do not change.
+pub fn i_write(s: &mut ProcState, io: &mut IoState, devices: &mut Devices, p: Pid) -> CallEnd
+    requires lives { IsLiving s.old.table p.0 }
+    requires may { MayAttempt Call.Write s.old io.old p.0 (vec_len devices.old.terms) }
+    ensures call { (drives : ℕ) → AttemptsFrom Call.Write drives p.0 result s.old s.new
+        (streams ⟦<dyn CharDriver as CharDriver>⟧ io.old devices.old.terms.items)
+        (streams ⟦<dyn CharDriver as CharDriver>⟧ io.new devices.new.terms.items) }
+    ensures memory { (drives : ℕ) → WantsMemoryFrom Call.Write drives p.0 result s.old
+        (streams ⟦<dyn CharDriver as CharDriver>⟧ io.old devices.old.terms.items)
+        (streams ⟦<dyn CharDriver as CharDriver>⟧ io.new devices.new.terms.items) }
+    ensures lives { IsLiving s.new.table p.0 }
+    ensures drives { devices.new.drives ≡ devices.old.drives }
+    ensures count { vec_len devices.new.terms ≡ vec_len devices.old.terms }
+{
+    let regs = s.table.regs(p);
+    match read_moving(s, io, p, regs.a, regs.x, regs.y) {
+        None => refuse(io, p, E_BPADDR),
+        Some(y) => {
+            let bytes = &s.buffer[..y as usize];
+            let end = send(io, devices, p, regs, WriteKind::Bytes, bytes);
+            tell(s, p, end, regs);
+            end
+        }
+    }
+}
+
+/// I$WritLn: writes a line (System Programmer's Manual, I$WritLn). Takes the path in A, the address
+/// of the line in X and its maximum count of bytes in Y; returns the count in Y. The line ends with
+/// its first carriage return, after which a terminal puts a line feed. A write of a terminal never
+/// waits; a write of a pipe waits while the pipe is full.
+///
+/// # Errors
+///
+/// E$BPAddr exactly if a byte of the line is in no named slot or past `FFFF`, else E$BPNum exactly
+/// if the number names no path, else E$BMode exactly if the path may not be written; then E$Write
+/// if a terminal failed, or if the pipe is full and no other process outside the same wait holds
+/// its path. Bytes that are out stay out, and the registers do not change.
+pub fn i_writln(s: &mut ProcState, io: &mut IoState, devices: &mut Devices, p: Pid) -> CallEnd
+    requires lives { IsLiving s.old.table p.0 }
+    requires may { MayAttempt Call.WritLn s.old io.old p.0 (vec_len devices.old.terms) }
+    ensures call { (drives : ℕ) → AttemptsFrom Call.WritLn drives p.0 result s.old s.new
+        (streams ⟦<dyn CharDriver as CharDriver>⟧ io.old devices.old.terms.items)
+        (streams ⟦<dyn CharDriver as CharDriver>⟧ io.new devices.new.terms.items) }
+    ensures memory { (drives : ℕ) → WantsMemoryFrom Call.WritLn drives p.0 result s.old
+        (streams ⟦<dyn CharDriver as CharDriver>⟧ io.old devices.old.terms.items)
+        (streams ⟦<dyn CharDriver as CharDriver>⟧ io.new devices.new.terms.items) }
+    ensures lives { IsLiving s.new.table p.0 }
+    ensures drives { devices.new.drives ≡ devices.old.drives }
+    ensures count { vec_len devices.new.terms ≡ vec_len devices.old.terms }
+{
+    let regs = s.table.regs(p);
+    match read_line_now(s, io, p, regs) {
+        None => refuse(io, p, E_BPADDR),
+        Some(y) => {
+            let line = &s.buffer[..y as usize];
+            let end = send(io, devices, p, regs, WriteKind::Line, line);
+            tell(s, p, end, Regs { y, ..regs });
+            end
+        }
+    }
+}
+
+/// F$PErr: writes the number of an error as a line to standard error (System Programmer's Manual,
+/// F$PErr). Takes the number in B. It waits as I$WritLn does. The registers do not change.
+///
+/// # Errors
+///
+/// E$BPNum exactly if standard error names no path, else E$BMode exactly if it may not be written;
+/// then E$Write if a terminal failed, or if the pipe is full and no other process outside the same
+/// wait holds its path. Bytes that are out stay out.
+pub fn f_perr(s: &mut ProcState, io: &mut IoState, devices: &mut Devices, p: Pid) -> CallEnd
+    requires lives { IsLiving s.old.table p.0 }
+    requires may { MayAttempt Call.PErr s.old io.old p.0 (vec_len devices.old.terms) }
+    ensures call { (drives : ℕ) → AttemptsFrom Call.PErr drives p.0 result s.old s.new
+        (streams ⟦<dyn CharDriver as CharDriver>⟧ io.old devices.old.terms.items)
+        (streams ⟦<dyn CharDriver as CharDriver>⟧ io.new devices.new.terms.items) }
+    ensures memory { (drives : ℕ) → WantsMemoryFrom Call.PErr drives p.0 result s.old
+        (streams ⟦<dyn CharDriver as CharDriver>⟧ io.old devices.old.terms.items)
+        (streams ⟦<dyn CharDriver as CharDriver>⟧ io.new devices.new.terms.items) }
+    ensures lives { IsLiving s.new.table p.0 }
+    ensures drives { devices.new.drives ≡ devices.old.drives }
+    ensures count { vec_len devices.new.terms ≡ vec_len devices.old.terms }
+{
+    let regs = s.table.regs(p);
+    let line = error_line(regs.b);
+    let end = send(io, devices, p, regs, WriteKind::ErrorLine, &line);
+    tell(s, p, end, regs);
+    end
+}
+
+/// Reads the line that an I$WritLn moves into the front of the buffer, and returns its length. A
+/// later attempt moves the number of bytes that the first one found, and on a pipe reads only the
+/// bytes that it may move. None if one of them is in no named slot or past `FFFF`.
+fn read_line_now(s: &mut ProcState, io: &IoState, p: Pid, regs: Regs) -> Option<u16>
+    requires { p.0 < 33 }
+    ensures line { (m : Inner) → Represents s.old m → regs ≡ (caller_of m p.0).regs
+        → IsRead io.now p.0 regs.a (line_bytes (caller_of m p.0) (kept_at io.now p.0)) result
+        s.new.buffer.items }
+    ensures first { (m : Inner) → Represents s.old m → regs ≡ (caller_of m p.0).regs
+        → kept_at io.now p.0 ≡ None → line_bytes (caller_of m p.0) None
+        ≡ option_map (λ count. take count s.new.buffer.items) result }
+    ensures kept { IfSome result
+        (λ count. IfSome (kept_at io.now p.0) (λ kept. kept.count ≡ count)) }
+    ensures same { IsSame s.old s.new }
+{
+    match io.kept(p) {
+        None => match s.read_line(p, regs.x, regs.y) {
+            None => None,
+            Some(count) => Some(count as u16),
+        },
+        Some(kept) => read_moving(s, io, p, regs.a, regs.x, kept.count),
+    }
+}
+
+/// The line that F$PErr writes for an error number.
+fn error_line(number: u8) -> [u8; 11]
+    ensures { result ≡ error_line_lem number }
+{
+    [
+        b'E',
+        b'R',
+        b'R',
+        b'O',
+        b'R',
+        b' ',
+        b'#',
+        b'0' + number / 100,
+        b'0' + number / 10 % 10,
+        b'0' + number % 10,
+        0x0D,
+    ]
+}

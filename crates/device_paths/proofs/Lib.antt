@@ -1,0 +1,4 @@
+pub mod NamesLemmas
+pub mod StandingLemmas
+pub mod QuietLemmas
+pub mod OpenLemmas

@@ -1,0 +1,89 @@
+//! Calls on path numbers.
+
+ghost use Rattle.std.specs.Prelude.{◌≡◌, ℕ, None, List};
+ghost use Rattle.os9_outer.specs.TerminalState.{TerminalState};
+ghost use Rattle.proc_rules.specs.Records.{IsLiving};
+ghost use Rattle.call_rules.specs.Inner.{Inner};
+ghost use Rattle.io_rules.specs.Attempts.{caller_of};
+ghost use Rattle.io_rules.specs.Close.{i_close as i_close_lem};
+ghost use Rattle.io_rules.specs.Dup.{i_dup as i_dup_lem};
+ghost use Rattle.io_rules.specs.Io.{kept_at};
+ghost use Rattle.io_rules.specs.declared.io_call.IoCall.TheVariants as Call;
+ghost use Rattle.io_state.specs.Attempt.{Attempts};
+ghost use Rattle.device_paths.specs.Quiet.{Ends};
+ghost use Rattle.proc_state.specs.Tie.{Represents};
+
+use crate::ends::{answer, refuse};
+use io_model::path::PathsFull;
+use io_state::state::IoState;
+use os9_base::call::CallEnd;
+use os9_base::errors::{E_BPNUM, E_PTHFUL};
+use os9_base::registers::{Pid, Regs};
+use proc_state::state::ProcState;
+
+/// I$Dup: gives a path another number (System Programmer's Manual, I$Dup). Takes the number of the
+/// path in A; returns its new number, the least free one, in A.
+///
+/// # Errors
+///
+/// E$BPNum exactly if the number names no path, else E$PthFul exactly if the process's sixteen
+/// numbers are in use. A refused call changes nothing.
+pub fn i_dup(s: &mut ProcState, io: &mut IoState, p: Pid) -> CallEnd
+    requires lives { IsLiving s.old.table p.0 }
+    requires first { kept_at io.old p.0 ≡ None }
+    ensures call { (m : Inner) (drives : ℕ) (terms : List TerminalState) → Represents s.old m
+        → Attempts Call.Dup m io.old drives p.0 result s.new io.new terms terms }
+    ensures lives { IsLiving s.new.table p.0 }
+{
+    double(s, io, p)
+}
+
+/// Gives the path in A another number.
+fn double(s: &mut ProcState, io: &mut IoState, p: Pid) -> CallEnd
+    requires lives { IsLiving s.old.table p.0 }
+    requires first { kept_at io.old p.0 ≡ None }
+    ensures call { (m : Inner) → Represents s.old m
+        → Ends (i_dup_lem (caller_of m p.0) io.old) m io.old p.0 result s.new io.new }
+    ensures lives { IsLiving s.new.table p.0 }
+{
+    let regs = s.regs(p);
+    if io.slot(p, regs.a).is_none() {
+        return refuse(io, p, E_BPNUM);
+    }
+    match io.dup(p, regs.a) {
+        Err(PathsFull) => refuse(io, p, E_PTHFUL),
+        Ok(a) => answer(s, io, p, Regs { a, ..regs }),
+    }
+}
+
+/// I$Close: closes a path number (System Programmer's Manual, I$Close). Takes the number in A, and
+/// frees it. A path ends with its last number, and a pipe with its path.
+///
+/// # Errors
+///
+/// E$BPNum exactly if the number names no path. A refused call changes nothing.
+pub fn i_close(s: &mut ProcState, io: &mut IoState, p: Pid) -> CallEnd
+    requires lives { IsLiving s.old.table p.0 }
+    requires first { kept_at io.old p.0 ≡ None }
+    ensures call { (m : Inner) (drives : ℕ) (terms : List TerminalState) → Represents s.old m
+        → Attempts Call.Close m io.old drives p.0 result s.new io.new terms terms }
+    ensures lives { IsLiving s.new.table p.0 }
+{
+    close(s, io, p)
+}
+
+/// Closes the path number in A.
+fn close(s: &mut ProcState, io: &mut IoState, p: Pid) -> CallEnd
+    requires lives { IsLiving s.old.table p.0 }
+    requires first { kept_at io.old p.0 ≡ None }
+    ensures call { (m : Inner) → Represents s.old m
+        → Ends (i_close_lem (caller_of m p.0) io.old) m io.old p.0 result s.new io.new }
+    ensures lives { IsLiving s.new.table p.0 }
+{
+    let regs = s.regs(p);
+    if io.slot(p, regs.a).is_none() {
+        return refuse(io, p, E_BPNUM);
+    }
+    io.close(p, regs.a);
+    answer(s, io, p, regs)
+}

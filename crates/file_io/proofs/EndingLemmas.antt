@@ -1,0 +1,32 @@
+-- How attempts end on the file of a path.
+use Rattle.std.proofs.Common.{◌≡◌, ℕ, ◌+◌, Option, Some, None, IfSome, IsSome, is_some, List, length, ◌∙◌, ap, sym, subst}
+use Rattle.os9_base.specs.declared.call.CallEnd.{CallEnd}
+use Rattle.os9_base.specs.declared.registers.Regs.{Regs}
+use Rattle.call_rules.specs.Inner.{Inner}
+use Rattle.io_model.specs.Path.{desc_of, with_desc}
+use Rattle.io_model.specs.declared.path.Desc.{Desc}
+use Rattle.io_rules.specs.Io.{Io, with_call, with_paths}
+use Rattle.proc_state.specs.declared.state.ProcState.{ProcState}
+use Rattle.file_state.specs.declared.state.OpenFile.{OpenFile}
+use Rattle.file_io.specs.Ending.{GivesBytes, IsDone, with_bytes}
+use Rattle.file_io.specs.Opened.{IsPathOf, moved_to}
+
+module _ (io between : Io) (p : ℕ) (opened : OpenFile) (same : between ≡ with_call io p None) (path : IsPathOf io opened) where
+  -- the path is there still
+  pub still-there : IsSome (desc_of between.paths opened.path.0)
+  still-there = ap (λ (it : Io). is_some (desc_of it.paths opened.path.0)) same ∙ ap (λ (o : Option Desc). is_some o) path
+
+  -- and its position is another one
+  pub moved-on : (new : Io) (at : ℕ) → IfSome (desc_of between.paths opened.path.0) (λ desc. new ≡ with_paths between (with_desc between.paths opened.path.0 (Some (record desc { at = at })))) → new ≡ with_call (moved_to io opened at) p None
+  moved-on new at fact =
+      let here : IfSome (desc_of io.paths opened.path.0) (λ desc. new ≡ with_paths (with_call io p None) (with_desc io.paths opened.path.0 (Some (record desc { at = at })))) =
+      subst (λ (it : Io). IfSome (desc_of it.paths opened.path.0) (λ desc. new ≡ with_paths it (with_desc it.paths opened.path.0 (Some (record desc { at = at }))))) same fact in
+      subst (λ (o : Option Desc). IfSome o (λ desc. new ≡ with_paths (with_call io p None) (with_desc io.paths opened.path.0 (Some (record desc { at = at }))))) path here
+
+-- a process is given these bytes, which are so many
+module _ (bytes given : List ℕ) (n : ℕ) (regs : Regs) (opened : OpenFile) (m : Inner) (p : ℕ) (io : Io) (end : CallEnd) (processes : ProcState) (new : Io) where
+  abbrev Gives : List ℕ → ℕ → Type 0
+  Gives b k = IsDone (with_bytes m p regs.x b) p (record regs { y = k }) (moved_to io opened (opened.desc.at + k)) end processes new
+
+  pub gives-of : bytes ≡ given → length given ≡ n → Gives bytes n → GivesBytes given regs opened m p io end processes new
+  gives-of same long it = subst (λ (b : List ℕ). Gives b (length given)) same (subst (λ (k : ℕ). Gives bytes k) (sym long) it)

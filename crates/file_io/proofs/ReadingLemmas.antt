@@ -1,0 +1,188 @@
+-- What a read of the file of a path comes to, by what was answered to it.
+use Rattle.std.proofs.Common.{◌≡◌, ◌≢◌, ◌∙◌, ℕ, ◌+◌, ◌-◌, ◌<◌, ◌≤◌, ◌^◌, min, nat_le, Bool, true, false, Option, Some, None, IsSome, OnErr, IfOk, Result, Ok, Err, List, ◌++◌, length, take, drop, take-take, append_assoc, ⊎_elim, inl, sym, ap, refl, subst, arith, le-leb, leb-true, length-take, length-drop}
+use Rattle.std.proofs.lemmas.Bool.{cases_lt, false≢true}
+use Rattle.std.proofs.lemmas.List.{length-take-le, take_at}
+use Rattle.os9_base.specs.declared.call.CallEnd.{CallEnd}
+use Rattle.os9_base.specs.declared.errors.TheConstants.{E_EOF}
+use Rattle.os9_base.specs.declared.registers.TimePacket.{TimePacket}
+use Rattle.os9_outer.specs.TerminalState.{TerminalState}
+use Rattle.call_rules.specs.Inner.{Inner, regs_at}
+use Rattle.io_model.specs.declared.terminal.ReadKind.{ReadKind}
+use Rattle.io_rules.specs.Io.{Io, with_call}
+use Rattle.proc_state.specs.declared.state.ProcState.{ProcState}
+use Rattle.rbf_access.specs.Faults.{file_fault}
+use Rattle.rbf_access.specs.declared.faults.FileFault.{FileFault}
+use Rattle.rbf_access.specs.declared.faults.FileFault.TheVariants.{Device, NoCluster, TooManyRuns}
+use Rattle.rbf_access.specs.Reading.{IsRead, filled_buffer}
+use Rattle.rbf_change.specs.Contents.{bytes_from}
+use Rattle.rbf_model.specs.File.{DiskFile}
+use Rattle.rbf_model.specs.Volume.{DiskVolume}
+use Rattle.file_drives.specs.Drives.{DriveView, drive_states}
+use Rattle.file_rules.specs.Attempts.{asker_of}
+use Rattle.file_rules.specs.Files.{Asker, DriveState, Files, volume_at, with_drives, with_io, with_volume}
+use Rattle.file_rules.specs.Files as rules
+use Rattle.file_rules.specs.Read.{answers_bytes, bytes_here}
+use Rattle.file_rules.specs.Step.{FileEffect, FileStep, MayBeLeft, comes, deed_of, leaves_so, reaches, refuses, refuses_so, with_drives_after}
+use Rattle.file_state.proofs.EndLemmas.{breaks, goes-well}
+use Rattle.file_state.proofs.KeepLemmas.{MayKeepAll, keeps-read}
+use Rattle.file_state.proofs.ReachedLemmas.{same-volume}
+use Rattle.file_state.proofs.StateLemmas.{stands-with_io}
+use Rattle.file_state.specs.Counted.{CalledAtMost}
+use Rattle.file_state.specs.Ends.{Ends}
+use Rattle.file_state.specs.Media.{KeepsDrives}
+use Rattle.file_state.specs.Reached.{HasRead}
+use Rattle.file_state.specs.Tie.{StandsFor}
+use Rattle.file_state.specs.declared.state.FileState.{FileState}
+use Rattle.file_state.specs.declared.state.OpenFile.{OpenFile}
+use Rattle.file_io.proofs.TryingLemmas.{deed-goes, deed-refused}
+use Rattle.file_io.specs.Ending.{EndsFound, GivesBytes, IsRefused}
+use Rattle.file_io.specs.Opened.{found_on, moved_to}
+use Rattle.file_io.specs.Reading.{EndsRead, IsLoaded, part_of, read_file}
+
+not-le : (a b : ℕ) → b < a → nat_le a b ≡ false
+not-le a b less = by (nat_le a b) refl
+  where
+    by : (t : Bool) → nat_le a b ≡ t → nat_le a b ≡ false
+    by true is = absurd (omega (arith, leb-true a b is, less))
+    by false is = is
+
+-- how many bytes there are from a place on
+pub count-from : (contents : List ℕ) (at most : ℕ) → length (bytes_from contents at most) ≡ min most (length contents - at)
+count-from contents at most = length-take most (drop at contents) ∙ ap (λ n. min most n) (length-drop at contents)
+
+-- what was loaded is no more than was asked for
+pub loaded-few : (file : DiskFile) (at most : ℕ) (buffer : List ℕ) (loaded : Result ℕ FileFault) → IfOk loaded (IsLoaded file at most buffer) → IfOk loaded (λ count. count ≤ most)
+loaded-few file at most buffer (Ok count) it = omega (arith, it.count_is, count-from file.contents at most)
+loaded-few file at most buffer (Err fault) it = tt
+
+-- and 32 bits count its end
+pub loaded-fits : (file : DiskFile) (at most : ℕ) (buffer : List ℕ) (loaded : Result ℕ FileFault) → IfOk loaded (IsLoaded file at most buffer) → at < 2 ^ 32 → length file.contents < 2 ^ 32 → IfOk loaded (λ count. at + count < 2 ^ 32)
+loaded-fits file at most buffer (Ok count) it low size = ⊎_elim
+    (λ inside. omega (arith, it.count_is, count-from file.contents at most, inside, size))
+    (λ past. omega (arith, it.count_is, count-from file.contents at most, past, low))
+    (cases_lt at (length file.contents))
+loaded-fits file at most buffer (Err fault) it low size = tt
+
+-- bytes that were read into the front of a buffer
+pub loaded-of : (file : DiskFile) (at most : ℕ) (before new rest : List ℕ) (count : ℕ) → length before ≡ most → IsRead file at before new count → IsLoaded file at most (new ++ rest) count
+loaded-of file at most before new rest count long read =
+    let bytes = bytes_from file.contents at most in
+    let same : bytes_from file.contents at (length before) ≡ bytes = ap (λ n. bytes_from file.contents at n) long in
+    let count_is : count ≡ length bytes = read.count_is ∙ ap (λ (b : List ℕ). length b) same in
+    let whole : new ≡ bytes ++ drop (length bytes) before = read.buffer_is ∙ ap (λ (b : List ℕ). filled_buffer b before) same in
+    record {
+      count_is = count_is;
+      bytes_are =
+          ap (λ n. take n (new ++ rest)) count_is ∙ ap (λ (b : List ℕ). take (length bytes) (b ++ rest)) whole
+          ∙ ap (λ (b : List ℕ). take (length bytes) b) (append_assoc bytes (drop (length bytes) before) rest)
+          ∙ take_at bytes (drop (length bytes) before ++ rest) (length bytes) refl;
+    }
+
+-- the bytes at the front of a buffer that a read gives, and their count
+pub given-bytes : (kind : ReadKind) (buffer : List ℕ) (count n : ℕ) → n ≤ length (take count buffer) → take n (take count buffer) ≡ part_of kind (take count buffer) → (take n buffer ≡ part_of kind (take count buffer)) × (length (part_of kind (take count buffer)) ≡ n)
+given-bytes kind buffer count n within is =
+    let few : n ≤ count = omega (arith, within, length-take count buffer) in (
+      sym (take-take n count buffer few) ∙ is,
+      ap (λ (b : List ℕ). length b) (sym is) ∙ length-take-le n (take count buffer) within,
+    )
+
+module _ (kind : ReadKind) (m : Inner) (files : Files) (v : DiskVolume) (file : DiskFile) (now : TimePacket) (p : ℕ) (opened : OpenFile) (end : CallEnd) (processes : ProcState) (mid : FileState) (new : Io) (before after : List DriveView) (terms : List TerminalState) (most : ℕ) (called : CalledAtMost most before after) (is : volume_at files opened.place.drive ≡ Some v) (some : (regs_at m p).y ≢ 0) where
+  abbrev asker : Asker
+  asker = asker_of m p now
+
+  abbrev found : rules.OpenFile
+  found = found_on opened v file
+
+  abbrev drive : ℕ
+  drive = opened.place.drive
+
+  abbrev at : ℕ
+  at = opened.desc.at
+
+  abbrev drives : List DriveState
+  drives = drive_states after
+
+  -- the position is at or past the end
+  abbrev ended : Bool
+  ended = nat_le (length file.contents) at
+
+  abbrev given : FileEffect
+  given = answers_bytes asker files found (part_of kind (bytes_here asker found))
+
+  -- what is read behind the test for the end
+  abbrev behind : Bool → FileStep
+  behind test = refuses test E_EOF (comes (leaves_so given))
+
+  -- what is done
+  abbrev Done : Type 0
+  Done = Ends (read_file kind asker files found) most m files now p end processes (record mid { io = new }) before after terms
+
+  -- the drive was only read
+  keeps : (fault : Option ℕ) → HasRead fault drive files mid before after → KeepsDrives (reaches drive (behind ended)) asker files end before after
+  keeps fault read = keeps-read (reaches drive (behind ended)) asker files end drive before after (inl refl) (may ended) fault mid read
+    where
+      may : (test : Bool) → MayKeepAll (deed_of (behind test) files) end
+      may true = tt
+      may false = tt
+
+  -- a fault
+  broken : (number : ℕ) → HasRead (Some number) drive files mid before after → IsRefused number m p mid.io end processes new → Done
+  unfolding read_file
+  broken number read it = record {
+    effect = refuses_so number (with_drives (with_volume files drive v) drives);
+    does = breaks (reaches drive (behind ended)) asker files drive number v v drives terms refl is (stays ended) read.moved;
+    comes = (it.end_is, it.tied);
+    stands =
+        subst (λ (f : Files). StandsFor (record mid { io = new }) after (with_io (with_drives f drives) (with_call f.io p None))) (sym (same-volume files drive v is))
+        (stands-with_io mid after (with_drives files drives) (with_call files.io p None) new (ap (λ (io : Io). with_call io p None) read.stands.io ∙ sym it.io_is) read.stands);
+    calls = called;
+    drives = keeps (Some number) read;
+  }
+    where
+      stays : (test : Bool) → MayBeLeft (deed_of (behind test) files) asker v v
+      stays true = refl
+      stays false = refl
+
+  -- the end
+  at_end : length file.contents ≤ at → HasRead None drive files mid before after → IsRefused E_EOF m p mid.io end processes new → Done
+  unfolding read_file
+  at_end past read it = record {
+    effect = with_drives_after (refuses_so E_EOF files) drives;
+    does =
+        goes-well (reaches drive (behind ended)) asker files (refuses_so E_EOF files) drives terms
+        (deed-refused files ended E_EOF (comes (leaves_so given)) (le-leb (length file.contents) at past)) read.moved;
+    comes = (it.end_is, it.tied);
+    stands = stands-with_io mid after (with_drives files drives) (with_call files.io p None) new (ap (λ (io : Io). with_call io p None) read.stands.io ∙ sym it.io_is) read.stands;
+    calls = called;
+    drives = keeps None read;
+  }
+
+  -- bytes
+  gives : at < length file.contents → HasRead None drive files mid before after → GivesBytes (part_of kind (bytes_from file.contents at (regs_at m p).y)) (regs_at m p) opened m p mid.io end processes new → Done
+  unfolding read_file
+  gives inside read it = record {
+    effect = with_drives_after given drives;
+    does =
+        goes-well (reaches drive (behind ended)) asker files given drives terms
+        (deed-goes files ended E_EOF (leaves_so given) (not-le (length file.contents) at inside)) read.moved;
+    comes = (it.end_is, it.tied);
+    stands =
+        let moved : Io → Io = λ io. with_call (moved_to io opened (at + length (part_of kind (bytes_from file.contents at (regs_at m p).y)))) p None in
+        stands-with_io mid after (with_drives files drives) (moved files.io) new (ap moved read.stands.io ∙ sym it.io_is) read.stands;
+    calls = called;
+    drives = keeps None read;
+  }
+
+  pub read-ends : (loaded : Result ℕ FileFault) (buffer : List ℕ) → HasRead (file_fault loaded) drive files mid before after → OnErr loaded (IsSome (file_fault loaded)) → IfOk loaded (IsLoaded file at (regs_at m p).y buffer) → EndsRead loaded kind buffer (regs_at m p) opened m p mid.io end processes new → Done
+  read-ends (Ok count) buffer read device it ends =
+      let y = (regs_at m p).y in
+      let long = count-from file.contents at y in
+      let same : EndsFound (bytes_from file.contents at y) (part_of kind (bytes_from file.contents at y)) (regs_at m p) opened m p mid.io end processes new =
+      subst (λ (bytes : List ℕ). EndsFound bytes (part_of kind bytes) (regs_at m p) opened m p mid.io end processes new) it.bytes_are ends in
+      ⊎_elim
+      (λ inside. gives inside read (same.some (λ none. omega (arith, long, none, some, inside))))
+      (λ past. at_end past read (same.none (omega (arith, long, past))))
+      (cases_lt at (length file.contents))
+  read-ends (Err (Device number)) buffer read device it ends = broken number read ends
+  read-ends (Err NoCluster) buffer read device it ends = absurd (false≢true device)
+  read-ends (Err TooManyRuns) buffer read device it ends = absurd (false≢true device)

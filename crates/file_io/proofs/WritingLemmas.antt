@@ -1,0 +1,212 @@
+-- What a write to the file of a path comes to, by what was answered to it.
+use Rattle.std.proofs.Common.{◌≡◌, ◌∙◌, ℕ, ◌+◌, ◌<◌, ◌^◌, nat_lt, not, ◌||◌, Bool, true, false, Option, Some, None, IsOk, Result, Ok, Err, List, [], ◌∷◌, length, slice_set, ◌⊎◌, inl, inr, sym, ap, refl, subst, arith, eq-eqb}
+use Rattle.std.specs.Prelude.{if◌then◌else◌}
+use Rattle.std.proofs.lemmas.Bool.{false≢true}
+use Rattle.std.proofs.lemmas.List.{get_or-set_same}
+use Rattle.os9_base.specs.declared.call.CallEnd.{CallEnd}
+use Rattle.os9_base.specs.declared.errors.TheConstants.{E_FULL, E_SLF}
+use Rattle.os9_base.specs.declared.registers.Regs.{Regs}
+use Rattle.os9_base.specs.declared.registers.TimePacket.{TimePacket}
+use Rattle.os9_outer.specs.TerminalState.{TerminalState}
+use Rattle.call_rules.specs.Inner.{Inner}
+use Rattle.io_rules.specs.Io.{Io, with_call}
+use Rattle.io_rules.specs.Step.{answers}
+use Rattle.proc_state.specs.declared.state.ProcState.{ProcState}
+use Rattle.rbf_access.specs.declared.faults.FileFault.{FileFault}
+use Rattle.rbf_access.specs.declared.faults.FileFault.TheVariants.{Device, NoCluster, TooManyRuns}
+use Rattle.rbf_access.specs.declared.volume.Volume.{Volume}
+use Rattle.rbf_change.specs.Calls.{Changes, Writes, cluster_size, free_total}
+use Rattle.rbf_change.specs.Contents.{written}
+use Rattle.rbf_change.specs.Growth.{clusters_needed}
+use Rattle.rbf_model.specs.File.{DiskFile}
+use Rattle.rbf_model.specs.Volume.{DiskVolume}
+use Rattle.rbf_model.specs.Writes.{put_file}
+use Rattle.file_drives.proofs.MountedLemmas.{mounted-below}
+use Rattle.file_drives.specs.Calls.{writing_calls}
+use Rattle.file_drives.specs.Changed.{IsRefused as IsNotMade, LeavesVolume, file_answer, is_refused}
+use Rattle.file_drives.specs.Drives.{DriveView, drive_states}
+use Rattle.file_drives.specs.Mounted.{mounted_at}
+use Rattle.file_rules.specs.Attempts.{asker_of}
+use Rattle.file_rules.specs.Change.{writes}
+use Rattle.file_rules.specs.Files.{Asker, DriveState, Files, volume_at, with_drives, with_io, with_position, with_volume}
+use Rattle.file_rules.specs.Files as rules
+use Rattle.file_rules.specs.Step.{FileEffect, FileStep, MayBeLeft, VolumeChange, changes, comes, deed_of, leaves, reaches, refuses, refuses_so, with_drives_after, with_volume_after}
+use Rattle.file_rules.specs.Write.{writes_bytes}
+use Rattle.file_state.proofs.CountLemmas.{called-more}
+use Rattle.file_state.proofs.EndLemmas.{asked_of, breaks, goes-well, is-made, is-too-long}
+use Rattle.file_state.proofs.KeepLemmas.{error-keeps, keeps-broken, keeps-made, keeps-refused}
+use Rattle.file_state.proofs.ReachedLemmas.{same-volume}
+use Rattle.file_state.proofs.StateLemmas.{stands-with_io}
+use Rattle.file_state.specs.Counted.{CalledAtMost, HasChangedIn}
+use Rattle.file_state.specs.Ends.{Ends}
+use Rattle.file_state.specs.Media.{KeepsDrives}
+use Rattle.file_state.specs.Tie.{StandsFor}
+use Rattle.file_state.specs.declared.state.FileState.{FileState}
+use Rattle.file_state.specs.declared.state.OpenFile.{OpenFile}
+use Rattle.file_io.proofs.OpenedLemmas.{mounted-low}
+use Rattle.file_io.proofs.SizeLemmas.{end-within}
+use Rattle.file_io.proofs.CountLemmas.{writing-few}
+use Rattle.file_io.proofs.TryingLemmas.{deed-goes, deed-refused}
+use Rattle.file_io.specs.Calls.{writing_attempt_calls}
+use Rattle.file_io.specs.Ending.{EndsWrite, IsRefused}
+use Rattle.file_state.specs.Opened.{path_of}
+use Rattle.file_io.specs.Opened.{found_on, moved_to}
+use Rattle.file_io.specs.Writing.{write_file}
+
+-- ---- the end of what was written
+
+-- the file that was changed, where it is
+changed-there : (change : DiskFile → DiskFile → Type 0) (v w : DiskVolume) (n : ℕ) (it : Changes change v w n) → w.files n ≡ Some it.new
+changed-there change v w n it = ap (λ (u : DiskVolume). u.files n) it.volume ∙ put-there v.files n (Some it.new)
+  where
+    put-there : (files : ℕ → Option DiskFile) (n : ℕ) (file : Option DiskFile) → put_file files n file n ≡ file
+    put-there files n file = ap (λ t. if t then file else files n) (eq-eqb n n refl)
+
+-- 32 bits count it
+written-low : (v w : DiskVolume) (n at : ℕ) (bytes : List ℕ) (now : TimePacket) (it : Writes v w n at bytes now) → at < 2 ^ 32 → length it.new.contents < 2 ^ 32 → at + length bytes < 2 ^ 32
+written-low v w n at [] now it low size = omega arith
+written-low v w n at (byte ∷ bytes) now it low size =
+    let contents : it.new.contents ≡ written it.old.contents at (byte ∷ bytes) = ap (λ (f : DiskFile). f.contents) it.changed.file in
+    omega (arith, end-within it.old.contents (byte ∷ bytes) at (omega arith), ap (λ (b : List ℕ). length b) contents)
+
+pub write-fits : (number at : ℕ) (bytes : List ℕ) (user : ℕ) (now : TimePacket) (result : Result (Unit {0}) FileFault) (most : DiskVolume → ℕ) (v : DiskVolume) (file : DiskFile) (drive : ℕ) (volumes : List (Option DiskVolume)) (before : List DriveView) (new : List (Option Volume)) (after : List DriveView) → mounted_at volumes drive ≡ Some v → LeavesVolume (record { change = writes number at bytes; user = user; now = now }) (file_answer result) most v file drive volumes before new after → at < 2 ^ 32 → IsOk result → at + length bytes < 2 ^ 32
+write-fits number at bytes user now (Ok done) most v file drive volumes before new after is it low ok =
+    let there = get_or-set_same volumes drive (Some it.left) None (mounted-below volumes drive v is) in
+    let makes : Writes v it.left number at bytes now = it.answers.makes in
+    written-low v it.left number at bytes now makes low
+    (mounted-low new after (slice_set volumes drive (Some it.left)) drive it.left number makes.new it.mounted there (changed-there _ v it.left number makes))
+write-fits number at bytes user now (Err fault) most v file drive volumes before new after is it low ok = absurd (false≢true ok)
+
+-- a change of the volume, where the bytes are these
+pub changed-same : (number at : ℕ) (one other : List ℕ) (user : ℕ) (now : TimePacket) (result : Result (Unit {0}) FileFault) (v : DiskVolume) (file : DiskFile) (drive : ℕ) (files : Files) (mid : FileState) (before after : List DriveView) → one ≡ other → HasChangedIn (writing_calls number at (length one) result v file) (record { change = writes number at one; user = user; now = now }) (file_answer result) drive v file files mid before after → HasChangedIn (writing_calls number at (length other) result v file) (record { change = writes number at other; user = user; now = now }) (file_answer result) drive v file files mid before after
+changed-same number at one other user now result v file drive files mid before after same changed =
+    subst (λ (bytes : List ℕ). HasChangedIn (writing_calls number at (length bytes) result v file) (record { change = writes number at bytes; user = user; now = now }) (file_answer result) drive v file files mid before after) same changed
+
+-- ---- what it comes to
+
+module _ (m : Inner) (files : Files) (v : DiskVolume) (file : DiskFile) (now : TimePacket) (p : ℕ) (opened : OpenFile) (bytes : List ℕ) (regs : Regs) (end : CallEnd) (processes : ProcState) (mid : FileState) (new : Io) (before after : List DriveView) (terms : List TerminalState) (is : volume_at files opened.place.drive ≡ Some v) (there : v.files opened.place.number ≡ Some file) (drives_are : files.drives ≡ drive_states before) (count : ℕ) (long : length bytes ≡ count) where
+  abbrev asker : Asker
+  asker = asker_of m p now
+
+  abbrev found : rules.OpenFile
+  found = found_on opened v file
+
+  abbrev drive : ℕ
+  drive = opened.place.drive
+
+  abbrev at : ℕ
+  at = opened.desc.at
+
+  abbrev drives : List DriveState
+  drives = drive_states after
+
+  -- what is left beside the volume
+  abbrev beside : FileEffect
+  beside = leaves (answers regs) (with_position files (path_of opened) (at + length bytes))
+
+  abbrev change : VolumeChange
+  change = record { drive = drive; change = writes opened.place.number at bytes; effect = λ n. leaves (answers regs) (with_position files (path_of opened) (at + length bytes)) }
+
+  -- fewer clusters are free than it needs
+  abbrev full : Bool
+  full = nat_lt (free_total v) (clusters_needed (cluster_size v) file.segments (length (written file.contents at bytes)))
+
+  abbrev behind : Bool → FileStep
+  behind test = refuses test E_FULL (comes (changes change))
+
+  abbrev step : FileStep
+  step = reaches drive (behind full)
+
+  abbrev Changed : Result (Unit {0}) FileFault → Type 0
+  Changed result =
+      HasChangedIn (writing_calls opened.place.number at (length bytes) result v file) (asked_of change asker) (file_answer result) drive v file files mid before after
+
+  few : (result : Result (Unit {0}) FileFault) → Changed result → CalledAtMost (writing_attempt_calls count found) before after
+  few result it =
+      subst (λ (n : ℕ). CalledAtMost (writing_attempt_calls n found) before after) long
+      (called-more (writing_calls opened.place.number at (length bytes) result v file it.changed.left) (writing_attempt_calls (length bytes) found) before after (writing-few opened v file (length bytes) opened.place.number result it.changed.left) it.calls)
+
+  -- it is refused, and the volume is this
+  refused-on : (number : ℕ) (left : DiskVolume) → StandsFor mid after (with_drives (with_volume files drive left) drives) → IsRefused number m p mid.io end processes new → StandsFor (record mid { io = new }) after (with_io (with_drives (with_volume files drive left) drives) (with_call files.io p None))
+  refused-on number left stands it =
+      stands-with_io mid after (with_drives (with_volume files drive left) drives) (with_call files.io p None) new (ap (λ (io : Io). with_call io p None) stands.io ∙ sym it.io_is) stands
+
+  -- the volume is left as it was
+  refused-as-before : (number : ℕ) (left : DiskVolume) → left ≡ v → StandsFor mid after (with_drives (with_volume files drive left) drives) → IsRefused number m p mid.io end processes new → StandsFor (record mid { io = new }) after (with_io (with_drives files drives) (with_call files.io p None))
+  refused-as-before number left same stands it =
+      subst (λ (f : Files). StandsFor (record mid { io = new }) after (with_io (with_drives f drives) (with_call f.io p None))) (ap (λ (w : DiskVolume). with_volume files drive w) same ∙ same-volume files drive v is) (refused-on number left stands it)
+
+  -- ---- what it leaves of the drives
+
+  keeps-as : (made : CallEnd) → end ≡ made → KeepsDrives step asker files made before after → KeepsDrives step asker files end before after
+  keeps-as made end_is keeps = subst (λ e. KeepsDrives step asker files e before after) (sym end_is) keeps
+
+  -- it was refused, or was to be when the drive failed
+  keeps-all : (number : ℕ) (result : Result (Unit {0}) FileFault) → Changed result → IsNotMade (file_answer result) ⊎ (is_refused (asked_of change asker) v file ≡ true) → end ≡ CallEnd.Error number → KeepsDrives step asker files end before after
+  keeps-all number result it quiet end_is =
+      keeps-as (CallEnd.Error number) end_is
+      (keeps-refused step asker files (CallEnd.Error number) drive before after (inl refl) (error-keeps (deed_of step files) number) (asked_of change asker) (file_answer result) v file mid it.changed quiet)
+
+  keeps-done : (done : Unit {0}) → Changed (Ok done) → end ≡ CallEnd.Done → full ≡ false → KeepsDrives step asker files end before after
+  keeps-done done it end_is enough =
+      keeps-as CallEnd.Done end_is (keeps-made step asker files change v file mid before after refl (deed-goes files full E_FULL (changes change) enough) is there 0 it.changed)
+
+  keeps-failed : (number : ℕ) → Changed (Err (Device number)) → end ≡ CallEnd.Error number → (test : Bool) → full ≡ test → KeepsDrives step asker files end before after
+  keeps-failed number it end_is true e = keeps-all number (Err (Device number)) it (inr (ap (λ (t : Bool). not true || (t || false)) e)) end_is
+  keeps-failed number it end_is false e =
+      keeps-as (CallEnd.Error number) end_is (keeps-broken step asker files change v file mid before after refl (deed-goes files full E_FULL (changes change) e) is there number drives_are it.changed)
+
+  pub write-ends : (result : Result (Unit {0}) FileFault) → Changed result → EndsWrite result (length bytes) regs opened m p mid.io end processes new → Ends (write_file bytes regs asker files found) (writing_attempt_calls count found) m files now p end processes (record mid { io = new }) before after terms
+  unfolding write_file
+  write-ends (Ok done) it ends = record {
+    effect = with_drives_after (with_volume_after beside drive it.changed.left) drives;
+    does =
+        is-made step asker files change v it.changed.left file 0 drives terms (deed-goes files full E_FULL (changes change) it.changed.answers.enough) is it.changed.answers it.changed.moved;
+    comes = (ends.end_is, ends.tied);
+    stands =
+        let moved : Io → Io = λ io. with_call (moved_to io opened (at + length bytes)) p None in
+        stands-with_io mid after (with_drives (with_volume files drive it.changed.left) drives) (moved files.io) new (ap moved it.changed.stands.io ∙ sym ends.io_is) it.changed.stands;
+    calls = few (Ok done) it;
+    drives = keeps-done done it ends.end_is it.changed.answers.enough;
+  }
+  write-ends (Err (Device number)) it ends = record {
+    effect = refuses_so number (with_drives (with_volume files drive it.changed.left) drives);
+    does = breaks step asker files drive number v it.changed.left drives terms refl is (may full refl) it.changed.moved;
+    comes = (ends.end_is, ends.tied);
+    stands = refused-on number it.changed.left it.changed.stands ends;
+    calls = few (Err (Device number)) it;
+    drives = keeps-failed number it ends.end_is full refl;
+  }
+    where
+      may : (test : Bool) → full ≡ test → MayBeLeft (deed_of (behind test) files) asker v it.changed.left
+      may true e = it.changed.answers.refused (ap (λ (t : Bool). not true || (t || false)) e)
+      may false e = it.changed.answers.may_be
+  write-ends (Err NoCluster) it ends = record {
+    effect = with_drives_after (refuses_so E_FULL files) drives;
+    does = goes-well step asker files (refuses_so E_FULL files) drives terms (deed-refused files full E_FULL (comes (changes change)) it.changed.answers.few) it.changed.moved;
+    comes = (ends.end_is, ends.tied);
+    stands = refused-as-before E_FULL it.changed.left it.changed.answers.same it.changed.stands ends;
+    calls = few (Err NoCluster) it;
+    drives = keeps-all E_FULL (Err NoCluster) it (inl tt) ends.end_is;
+  }
+  write-ends (Err TooManyRuns) it ends = record {
+    effect = with_drives_after (refuses_so E_SLF files) drives;
+    does =
+        is-too-long step asker files change v it.changed.left file drives terms (deed-goes files full E_FULL (changes change) it.changed.answers.enough) is refl it.changed.answers it.changed.moved;
+    comes = (ends.end_is, ends.tied);
+    stands = refused-as-before E_SLF it.changed.left it.changed.answers.same it.changed.stands ends;
+    calls = few (Err TooManyRuns) it;
+    drives = keeps-all E_SLF (Err TooManyRuns) it (inl tt) ends.end_is;
+  }
+
+-- the same, where other registers are answered that are these
+pub ends-writes : (m : Inner) (files : Files) (now : TimePacket) (p : ℕ) (end : CallEnd) (processes : ProcState) {most : ℕ} (new : FileState) {before : List DriveView} (views : List DriveView) (terms : List TerminalState) (bytes : List ℕ) (regs other : Regs) (found : rules.OpenFile) → regs ≡ other → Ends (write_file bytes regs (asker_of m p now) files found) most m files now p end processes new before views terms → Ends (writes_bytes files found bytes other) most m files now p end processes new before views terms
+unfolding write_file
+ends-writes m files now p end processes {most} new {before} views terms bytes regs other found same ends =
+    subst (λ (r : Regs). Ends (writes_bytes files found bytes r) most m files now p end processes new before views terms) same ends
+
+-- the same, where the bytes are these too
+pub ends-write_file : (m : Inner) (files : Files) (now : TimePacket) (p : ℕ) (end : CallEnd) (processes : ProcState) {most : ℕ} (new : FileState) {before : List DriveView} (views : List DriveView) (terms : List TerminalState) (bytes line : List ℕ) (regs other : Regs) (found : rules.OpenFile) → bytes ≡ line → regs ≡ other → Ends (write_file bytes regs (asker_of m p now) files found) most m files now p end processes new before views terms → Ends (write_file line other (asker_of m p now) files found) most m files now p end processes new before views terms
+ends-write_file m files now p end processes {most} new {before} views terms bytes line regs other found is same ends =
+    subst (λ (r : Regs). Ends (write_file line r (asker_of m p now) files found) most m files now p end processes new before views terms) same
+    (subst (λ (b : List ℕ). Ends (write_file b regs (asker_of m p now) files found) most m files now p end processes new before views terms) is ends)

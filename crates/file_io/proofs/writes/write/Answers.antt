@@ -1,0 +1,62 @@
+use Rattle.std.proofs.Common.{◌≡◌, ◌∙◌, ℕ, Bool, Option, Some, None, List, take, ap, refl, subst, sym}
+use Rattle.std.specs.Option.{option_map_or}
+use Rattle.os9_base.specs.declared.errors.TheConstants.{E_BPADDR}
+use Rattle.os9_base.specs.declared.registers.Regs.{Regs}
+use Rattle.call_rules.specs.Inner.{cells_at, regs_at}
+use Rattle.call_rules.specs.UserBytes.{user_bytes}
+use Rattle.proc_state.specs.Tie.{bytes_read}
+use Rattle.file_rules.specs.Attempts.{asker_of}
+use Rattle.file_rules.specs.Files.{OpenFile, open_file}
+use Rattle.file_rules.specs.Step.{needs}
+use Rattle.file_rules.specs.Write.{sends_bytes}
+use Rattle.file_rules.specs.declared.path_call.PathCall.TheVariants as Call
+use Rattle.file_state.specs.declared.state.FileState.{FileState}
+use Rattle.file_io.proofs.CallLemmas.{known-a, write-step}
+use Rattle.file_io.proofs.OpenedLemmas.{may-be-written}
+use Rattle.file_io.proofs.TryingLemmas.{attempts-in, regs-tied, ends-needs-none, ends-needs-some, ends-refused}
+use Rattle.file_io.specs.Calls.{writing_attempt_calls}
+use Rattle.file_io.specs.Opened.{found_on}
+use Rattle.file_io.specs.Writing.{write_opened}
+use Rattle.file_io.proofs.writes.write.Goals as goal
+
+pub send-requires-clause-file : goal.send-requires-clause-file
+send-requires-clause-file g c = may-be-written c.args.files.now _ c.requires.sound c.args.p.0 _ c.args.opened.now c.requires.opened
+
+pub returns-then-not-read_bytes-clause-call : goal.returns-then-not-read_bytes-clause-call
+returns-then-not-read_bytes-clause-call g c terms m was tied stands kinds =
+    let p = c.args.p.0 in
+    let now = c.args.now in
+    let asker = asker_of m p now in
+    let it = known-a c.args.files.now _ was p c.args.opened.now stands kinds c.args.s.now m tied c.requires.opened in
+    let found = found_on c.args.opened.now it.volume it.file in
+    let s = c.read_bytes.new.self in
+    let new : FileState = record c.args.files.now { io = c.refuse.new.io } in
+    let same : c.regs-regs.result ≡ regs_at m p = c.regs-regs.ensures.regs ∙ regs-tied c.args.s.now m p tied in
+    let none : user_bytes (cells_at m p) c.regs-regs.result.x c.regs-regs.result.y ≡ None =
+    c.read_bytes.ensures.read m tied ∙ ap (λ (b : Bool). bytes_read b c.regs-regs.result.y s.buffer.items) c.if-not-read_bytes.true in
+    let absent : user_bytes (cells_at m p) (regs_at m p).x (regs_at m p).y ≡ None = subst (λ (r : Regs). user_bytes (cells_at m p) r.x r.y ≡ None) same none in
+    let step = needs (user_bytes (cells_at m p) (regs_at m p).x (regs_at m p).y) E_BPADDR (sends_bytes asker was found) in
+    attempts-in m was now p c.refuse.result _ _ terms Call.Write step (write-step asker was found it.found) _ _ refl
+    (ends-needs-none m was now p c.refuse.result s new _ terms (user_bytes (cells_at m p) (regs_at m p).x (regs_at m p).y) E_BPADDR (sends_bytes asker was found) absent
+    (ends-refused m was now p c.refuse.result s c.args.files.now new.io _ terms stands E_BPADDR (record { end_is = c.refuse.ensures.end; tied = c.read_bytes.ensures.same.represents m tied; io_is = c.refuse.ensures.io })))
+
+pub returns-clause-call : goal.returns-clause-call
+unfolding write_opened
+returns-clause-call g c terms m was tied stands kinds =
+    let p = c.args.p.0 in
+    let now = c.args.now in
+    let asker = asker_of m p now in
+    let it = known-a c.args.files.now _ was p c.args.opened.now stands kinds c.args.s.now m tied c.requires.opened in
+    let found = found_on c.args.opened.now it.volume it.file in
+    let s = c.read_bytes.new.self in
+    let bytes : List ℕ = take c.regs-regs.result.y s.buffer.items in
+    let same : c.regs-regs.result ≡ regs_at m p = c.regs-regs.ensures.regs ∙ regs-tied c.args.s.now m p tied in
+    let some : user_bytes (cells_at m p) c.regs-regs.result.x c.regs-regs.result.y ≡ Some bytes =
+    c.read_bytes.ensures.read m tied ∙ ap (λ (b : Bool). bytes_read b c.regs-regs.result.y s.buffer.items) c.if-not-read_bytes.false in
+    let present : user_bytes (cells_at m p) (regs_at m p).x (regs_at m p).y ≡ Some bytes = subst (λ (r : Regs). user_bytes (cells_at m p) r.x r.y ≡ Some bytes) same some in
+    let step = needs (user_bytes (cells_at m p) (regs_at m p).x (regs_at m p).y) E_BPADDR (sends_bytes asker was found) in
+    let few : option_map_or (writing_attempt_calls (regs_at m p).y) (open_file was p (regs_at m p).a) 0 ≡ writing_attempt_calls c.regs-regs.result.y found =
+    ap (λ (o : Option OpenFile). option_map_or (writing_attempt_calls (regs_at m p).y) o 0) it.found ∙ ap (λ (r : Regs). writing_attempt_calls r.y found) (sym same) in
+    attempts-in m was now p c.send.result _ _ terms Call.Write step (write-step asker was found it.found) (writing_attempt_calls c.regs-regs.result.y found) _ few
+    (ends-needs-some m was now p c.send.result c.send.new.s c.send.new.files _ terms (user_bytes (cells_at m p) (regs_at m p).x (regs_at m p).y) bytes E_BPADDR (sends_bytes asker was found) present
+    (c.send.ensures.call m was it.volume it.file terms (c.read_bytes.ensures.same.represents m tied) stands it.is it.there))

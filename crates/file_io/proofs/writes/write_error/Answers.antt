@@ -1,0 +1,53 @@
+use Rattle.std.proofs.Common.{◌≡◌, ◌∙◌, Bool, Option, not, sym, ap, refl}
+use Rattle.std.specs.Option.{option_map_or}
+use Rattle.os9_base.specs.declared.errors.TheConstants.{E_BMODE}
+use Rattle.os9_base.specs.declared.registers.Regs.{Regs}
+use Rattle.call_rules.specs.Inner.{regs_at}
+use Rattle.io_rules.specs.Modes.{can_write}
+use Rattle.io_rules.specs.Write.{error_line}
+use Rattle.io_rules.specs.declared.modes.TheConstants.{STANDARD_ERROR}
+use Rattle.file_rules.specs.Attempts.{asker_of}
+use Rattle.file_rules.specs.Files.{OpenFile}
+use Rattle.file_rules.specs.Step.{refuses}
+use Rattle.file_rules.specs.declared.path_call.PathCall.TheVariants as Call
+use Rattle.file_state.specs.declared.state.FileState.{FileState}
+use Rattle.file_io.proofs.CallLemmas.{error-step, known}
+use Rattle.file_io.proofs.OpenedLemmas.{may-be-written}
+use Rattle.file_io.proofs.TryingLemmas.{attempts-in, regs-tied, ends-refused, ends-refuses-false, ends-refuses-true}
+use Rattle.file_io.proofs.WritingLemmas.{ends-write_file}
+use Rattle.file_io.specs.Calls.{writing_attempt_calls}
+use Rattle.file_io.specs.Opened.{found_on}
+use Rattle.file_io.specs.Writing.{write_file}
+use Rattle.file_io.proofs.writes.write_error.Goals as goal
+
+pub write_file-requires-clause-file : goal.write_file-requires-clause-file
+write_file-requires-clause-file g c =
+    may-be-written c.args.files.now _ c.requires.sound c.args.p.0 STANDARD_ERROR c.args.opened.now c.requires.opened (sym c.can_write.ensures ∙ c.if-not-can_write.false)
+
+pub returns-then-not-can_write-clause-call : goal.returns-then-not-can_write-clause-call
+returns-then-not-can_write-clause-call g c terms m was tied stands kinds =
+    let p = c.args.p.0 in
+    let now = c.args.now in
+    let asker = asker_of m p now in
+    let it = known c.args.files.now _ was p c.args.opened.now stands kinds STANDARD_ERROR c.requires.opened in
+    let found = found_on c.args.opened.now it.volume it.file in
+    let new : FileState = record c.args.files.now { io = c.refuse.new.io } in
+    let next = write_file (error_line (regs_at m p).b) (regs_at m p) asker was found in
+    attempts-in m was now p c.refuse.result _ _ terms Call.PErr (refuses (not (can_write c.args.opened.now.desc.mode)) E_BMODE next) (error-step asker was found it.found) _ _ refl
+    (ends-refuses-true m was now p c.refuse.result c.args.s.now new _ terms (not (can_write c.args.opened.now.desc.mode)) E_BMODE next (ap (λ (b : Bool). not b) (sym c.can_write.ensures ∙ c.if-not-can_write.true))
+    (ends-refused m was now p c.refuse.result c.args.s.now c.args.files.now new.io _ terms stands E_BMODE (record { end_is = c.refuse.ensures.end; tied = tied; io_is = c.refuse.ensures.io })))
+
+pub returns-clause-call : goal.returns-clause-call
+returns-clause-call g c terms m was tied stands kinds =
+    let p = c.args.p.0 in
+    let now = c.args.now in
+    let asker = asker_of m p now in
+    let it = known c.args.files.now _ was p c.args.opened.now stands kinds STANDARD_ERROR c.requires.opened in
+    let found = found_on c.args.opened.now it.volume it.file in
+    let same : c.regs-regs.result ≡ regs_at m p = c.regs-regs.ensures.regs ∙ regs-tied c.args.s.now m p tied in
+    let next = write_file (error_line (regs_at m p).b) (regs_at m p) asker was found in
+    attempts-in m was now p c.write_file.result _ _ terms Call.PErr (refuses (not (can_write c.args.opened.now.desc.mode)) E_BMODE next) (error-step asker was found it.found) (writing_attempt_calls 11 found) _
+    (ap (λ (o : Option OpenFile). option_map_or (writing_attempt_calls 11) o 0) it.found)
+    (ends-refuses-false m was now p c.write_file.result c.write_file.new.s c.write_file.new.files _ terms (not (can_write c.args.opened.now.desc.mode)) E_BMODE next (ap (λ (b : Bool). not b) (sym c.can_write.ensures ∙ c.if-not-can_write.false))
+    (ends-write_file m was now p c.write_file.result c.write_file.new.s c.write_file.new.files _ terms _ (error_line (regs_at m p).b) c.regs-regs.result (regs_at m p) found (c.put_error_line.ensures.line ∙ ap (λ (r : Regs). error_line r.b) same) same
+    (c.write_file.ensures.call m was it.volume it.file terms (c.put_error_line.ensures.same.represents m tied) stands it.is it.there)))

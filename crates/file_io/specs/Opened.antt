@@ -1,0 +1,48 @@
+-- A path on a file or a directory, as the kernel has found it.
+use Rattle.std.specs.Prelude.{◌≡◌, ℕ, true, Option, Some, List}
+use Rattle.rbf_model.specs.File.{DiskFile}
+use Rattle.rbf_model.specs.Volume.{DiskVolume}
+use Rattle.io_model.specs.Path.{desc_of, with_desc}
+use Rattle.io_rules.specs.Io.{Io, with_paths}
+use Rattle.io_rules.specs.Modes.{can_write}
+pub use Rattle.device_io.specs.Leaving.{ReadsNoTerminal}
+use Rattle.rbf_access.specs.declared.volume.Volume.{Volume}
+use Rattle.file_drives.specs.Drives.{DriveView}
+use Rattle.file_drives.specs.Mounted.{HasDataFileAt, HasFileAt}
+use Rattle.file_rules.specs.Files as rules
+use Rattle.file_laws.specs.Kinds.{AreKinds}
+use Rattle.file_state.specs.Attempt.{Standing}
+use Rattle.file_state.specs.Opened.{IsFileOf, path_of}
+use Rattle.file_state.specs.Tie.{StandsFor}
+use Rattle.file_state.specs.declared.state.FileState.{FileState}
+use Rattle.file_state.specs.declared.state.OpenFile.{OpenFile}
+
+-- the descriptor is that of the system path
+abbrev pub IsPathOf : Io → OpenFile → Type 0
+IsPathOf io opened = desc_of io.paths opened.path.0 ≡ Some opened.desc
+
+-- and its file exists
+pub record IsOnFile (opened : OpenFile) (before : Standing) : Type 0 where
+  pub path : IsPathOf before.files.io opened
+  pub file : HasFileAt before.files.disks before.views opened.place
+
+-- a number of a process names the path, which is on the file at its place, for all files that the kernel's state stands
+-- for
+pub record IsOpened (state : FileState) (p n : ℕ) (opened : OpenFile) : Type 0 where
+  pub path : IsPathOf state.io opened
+  pub file : (views : List DriveView) (files : rules.Files) → StandsFor state views files → AreKinds files
+      → IsFileOf state views files p n opened
+
+-- the file, on a volume, in the terms of the rules of the calls
+abbrev pub found_on : OpenFile → DiskVolume → DiskFile → rules.OpenFile
+found_on opened v file =
+    record { opened = path_of opened; place = opened.place; volume = v; file = file }
+
+-- the state with another position of the path
+abbrev pub moved_to : Io → OpenFile → ℕ → Io
+moved_to io opened at =
+    with_paths io (with_desc io.paths opened.path.0 (Some (record opened.desc { at = at })))
+
+-- if its mode allows writing, the path is on a file that is not a directory
+abbrev pub MayBeWritten : OpenFile → List (Option Volume) → List DriveView → Type 0
+MayBeWritten opened disks views = can_write opened.desc.mode ≡ true → HasDataFileAt disks views opened.place

@@ -1,0 +1,28 @@
+-- What an attempt on the file of a path does.
+use Rattle.std.specs.Prelude.{◌≡◌, ℕ, Some, List}
+use Rattle.os9_base.specs.declared.call.CallEnd.{CallEnd}
+use Rattle.os9_base.specs.declared.registers.TimePacket.{TimePacket}
+use Rattle.os9_outer.specs.TerminalState.{TerminalState}
+use Rattle.call_rules.specs.Inner.{Inner}
+use Rattle.rbf_model.specs.File.{DiskFile}
+use Rattle.rbf_model.specs.Volume.{DiskVolume}
+use Rattle.proc_state.specs.Tie.{Represents}
+use Rattle.file_rules.specs.Attempts.{asker_of}
+use Rattle.file_rules.specs.Files as rules
+use Rattle.file_rules.specs.Files.{Asker, Files, volume_at}
+use Rattle.file_rules.specs.Step.{FileStep}
+use Rattle.file_state.specs.Attempt.{Standing}
+use Rattle.file_state.specs.Ends.{Ends}
+use Rattle.file_state.specs.Tie.{StandsFor}
+use Rattle.file_state.specs.declared.state.OpenFile.{OpenFile}
+use Rattle.file_io.specs.Opened.{found_on}
+
+-- an attempt on the file of a path does this, for every state that the kernel's state stands for
+abbrev pub Tries : (Asker → Files → rules.OpenFile → FileStep) → (Asker → rules.OpenFile → ℕ) → OpenFile → TimePacket
+    → ℕ → CallEnd → Standing → Standing → Type 0
+Tries step most opened now p end before after =
+    (m : Inner) (files : Files) (v : DiskVolume) (file : DiskFile) (terms : List TerminalState)
+    → Represents before.processes m → StandsFor before.files before.views files
+    → volume_at files opened.place.drive ≡ Some v → v.files opened.place.number ≡ Some file
+    → Ends (step (asker_of m p now) files (found_on opened v file)) (most (asker_of m p now) (found_on opened v file))
+    m files now p end after.processes after.files before.views after.views terms

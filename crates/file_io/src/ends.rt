@@ -1,0 +1,62 @@
+//! The ends of calls.
+
+ghost use Rattle.std.specs.Prelude.{◌≡◌, ◌<◌, None, Some};
+ghost use Rattle.call_rules.specs.Inner.{Inner, with_regs_of};
+ghost use Rattle.file_io.specs.Opened.{IsPathOf, ReadsNoTerminal, moved_to};
+ghost use Rattle.io_rules.specs.Io.{with_call};
+ghost use Rattle.proc_rules.specs.Records.{IsLiving};
+ghost use Rattle.proc_state.specs.Tie.{Represents};
+
+use file_state::state::OpenFile;
+use io_state::state::IoState;
+use os9_base::call::CallEnd;
+use os9_base::registers::{Pid, Regs};
+use proc_state::state::ProcState;
+
+/// Refuses the call with this number. Nothing is kept of the call.
+pub(crate) fn refuse(io: &mut IoState, p: Pid, number: u8) -> CallEnd
+    requires process { p.0 < 33 }
+    requires no_read { ReadsNoTerminal io.old p.0 }
+    ensures end { result ≡ CallEnd.Error number }
+    ensures io { io.new ≡ with_call io.old p.0 None }
+{
+    io.keep(p, None);
+    CallEnd::Error(number)
+}
+
+/// Ends the call as done, with these registers of its process. Nothing is kept of the call.
+pub(crate) fn answer(s: &mut ProcState, io: &mut IoState, p: Pid, regs: Regs) -> CallEnd
+    requires lives { IsLiving s.old.table p.0 }
+    requires no_read { ReadsNoTerminal io.old p.0 }
+    ensures end { result ≡ CallEnd.Done }
+    ensures tied { (m : Inner) → Represents s.old m → Represents s.new (with_regs_of m p.0 regs) }
+    ensures io { io.new ≡ with_call io.old p.0 None }
+    ensures lives { IsLiving s.new.table p.0 }
+{
+    s.set_regs(p, regs);
+    io.keep(p, None);
+    CallEnd::Done
+}
+
+/// Ends the call as done, with these registers of its process and this position of its path.
+/// Nothing is kept of the call.
+pub(crate) fn answer_at(
+    s: &mut ProcState,
+    io: &mut IoState,
+    p: Pid,
+    regs: Regs,
+    opened: &OpenFile,
+    at: u32,
+) -> CallEnd
+    requires lives { IsLiving s.old.table p.0 }
+    requires no_read { ReadsNoTerminal io.old p.0 }
+    requires path { IsPathOf io.old opened.now }
+    ensures end { result ≡ CallEnd.Done }
+    ensures tied { (m : Inner) → Represents s.old m → Represents s.new (with_regs_of m p.0 regs) }
+    ensures io { io.new ≡ with_call (moved_to io.old opened.now at) p.0 None }
+    ensures lives { IsLiving s.new.table p.0 }
+{
+    let end = answer(s, io, p, regs);
+    io.set_position(opened.path, at);
+    end
+}

@@ -1,0 +1,123 @@
+//! Bytes of files in the buffer, on their way to the memory of a process.
+
+ghost use Rattle.std.specs.Prelude.{◌≡◌, ℕ, ◌<◌, ◌≤◌, IfOk, IfSome, IsSome, OnErr, length, take};
+ghost use Rattle.call_rules.specs.Inner.{Inner, with_memory};
+ghost use Rattle.file_io.specs.Reading.{IsLoaded, part_of};
+ghost use Rattle.file_drives.specs.Drives.{drive_views};
+ghost use Rattle.file_drives.specs.Mounted.{HasFileAt, OnDisks, ReadsFile};
+ghost use Rattle.guest_memory.specs.Tie.{cells_of};
+ghost use Rattle.io_model.specs.Line.{line_length as line_length_lem, return_place};
+ghost use Rattle.os9_base.specs.Cells.{FitsIn};
+ghost use Rattle.proc_model.specs.MemoryChanges.{stored};
+ghost use Rattle.proc_state.specs.Tie.{IsSame, Represents};
+ghost use Rattle.rbf_access.specs.Faults.{file_fault};
+ghost use Rattle.rbf_access.specs.Reading.{read_calls};
+
+use device_table::devices::Devices;
+use file_drives::disks::Disks;
+use file_rules::places::FilePlace;
+use io_model::keys::RETURN;
+use io_model::terminal::ReadKind;
+use os9_base::registers::Pid;
+use os9_outer::drive::BlockDriver;
+use proc_state::state::ProcState;
+use rbf_access::FileFault;
+
+/// Reads at most `most` bytes of a file, from `at` on, into the front of the buffer, and returns
+/// their number: 0 at or past the end of the file.
+///
+/// # Errors
+///
+/// `Device` if a read of the drive fails; then the buffer may have changed.
+pub(crate) fn load(
+    s: &mut ProcState,
+    disks: &mut Disks,
+    devices: &mut Devices,
+    place: FilePlace,
+    at: u32,
+    most: u16,
+) -> Result<u16, FileFault>
+    requires file { HasFileAt disks.old
+        (drive_views ⟦<dyn BlockDriver as BlockDriver>⟧ devices.old.drives.items) place }
+    ensures ok { OnDisks disks.old
+        (drive_views ⟦<dyn BlockDriver as BlockDriver>⟧ devices.old.drives.items) place
+        (λ v file. IfOk result (IsLoaded file at most s.new.buffer.items)) }
+    ensures device { OnErr result (IsSome (file_fault result)) }
+    ensures drive { ReadsFile place (file_fault result) (λ v file. read_calls file at most)
+        disks.old (drive_views ⟦<dyn BlockDriver as BlockDriver>⟧ devices.old.drives.items)
+        disks.new (drive_views ⟦<dyn BlockDriver as BlockDriver>⟧ devices.new.drives.items) }
+    ensures same { IsSame s.old s.new }
+    ensures terms_kept { devices.new.terms ≡ devices.old.terms }
+{
+    load_front(disks, devices, place, at, most, &mut s.buffer)
+}
+
+/// The same into the front of the given buffer.
+fn load_front(
+    disks: &mut Disks,
+    devices: &mut Devices,
+    place: FilePlace,
+    at: u32,
+    most: u16,
+    into: &mut [u8],
+) -> Result<u16, FileFault>
+    requires file { HasFileAt disks.old
+        (drive_views ⟦<dyn BlockDriver as BlockDriver>⟧ devices.old.drives.items) place }
+    requires room { most ≤ length into.old }
+    ensures ok { OnDisks disks.old
+        (drive_views ⟦<dyn BlockDriver as BlockDriver>⟧ devices.old.drives.items) place
+        (λ v file. IfOk result (IsLoaded file at most into.new)) }
+    ensures device { OnErr result (IsSome (file_fault result)) }
+    ensures drive { ReadsFile place (file_fault result) (λ v file. read_calls file at most)
+        disks.old (drive_views ⟦<dyn BlockDriver as BlockDriver>⟧ devices.old.drives.items)
+        disks.new (drive_views ⟦<dyn BlockDriver as BlockDriver>⟧ devices.new.drives.items) }
+    ensures room { length into.new ≡ length into.old }
+    ensures terms_kept { devices.new.terms ≡ devices.old.terms }
+{
+    match disks.read_at(devices, place, at, &mut into[..most as usize]) {
+        Ok(count) => Ok(count as u16),
+        Err(fault) => Err(fault),
+    }
+}
+
+/// The number of these bytes that a read takes: all, or the first line with its carriage return.
+pub(crate) fn part_length(kind: ReadKind, bytes: &[u8]) -> usize
+    ensures part { take result bytes.now ≡ part_of kind bytes.now }
+    ensures within { result ≤ length bytes.now }
+{
+    match kind {
+        ReadKind::Bytes => bytes.len(),
+        ReadKind::WholeLine => line_length(bytes),
+    }
+}
+
+/// The number of bytes in the first line with its carriage return; all if there is none.
+fn line_length(bytes: &[u8]) -> usize
+    ensures length { result ≡ line_length_lem bytes.now }
+    ensures within { result ≤ length bytes.now }
+{
+    match place_of_return(bytes) {
+        Some(place) => place + 1,
+        None => bytes.len(),
+    }
+}
+
+/// The place of the first carriage return.
+fn place_of_return(bytes: &[u8]) -> Option<usize>
+    ensures place { result ≡ return_place bytes.now }
+    ensures within { IfSome result (λ place. place < length bytes.now) }
+{
+    bytes.iter().position(|byte| *byte == RETURN)
+}
+
+/// Stores `count` bytes from the front of the buffer in the memory of a process, from an address
+/// on, if they fit there.
+pub(crate) fn store_front(s: &mut ProcState, p: Pid, at: u16, count: u16)
+    requires process { p.0 < 33 }
+    requires fits { FitsIn (cells_of s.old.memory p.0) at count }
+    ensures tied { (m : Inner) → Represents s.old m → Represents s.new
+        (with_memory m (stored m.memory p.0 at (take count s.old.buffer.items))) }
+    ensures records { s.new.table ≡ s.old.table }
+{
+    s.memory.store(p, at, &s.buffer[..count as usize]);
+}

@@ -1,0 +1,67 @@
+//! I$Seek (System Programmer's Manual, I$Seek).
+
+ghost use Rattle.std.specs.Prelude.{◌≡◌, ℕ, List};
+ghost use Rattle.call_rules.specs.Inner.{Inner};
+ghost use Rattle.file_io.specs.Calls.{i_seek_calls};
+ghost use Rattle.file_io.specs.Opened.{IsOpened, ReadsNoTerminal};
+ghost use Rattle.file_drives.specs.Drives.{DriveView};
+ghost use Rattle.file_rules.specs.Seek.{long_of as long_of_lem, seeks_nothing};
+ghost use Rattle.file_rules.specs.declared.path_call.PathCall.TheVariants as Call;
+ghost use Rattle.file_state.specs.Counted.{AttemptsWithin};
+ghost use Rattle.io_rules.specs.Attempts.{caller_of};
+ghost use Rattle.os9_base.specs.declared.registers.TimePacket.{TimePacket};
+ghost use Rattle.os9_outer.specs.TerminalState.{TerminalState};
+ghost use Rattle.device_paths.specs.Quiet.{Ends};
+ghost use Rattle.proc_rules.specs.Records.{IsLiving, record_at};
+ghost use Rattle.proc_state.specs.Tie.{Represents};
+
+use crate::ends::{answer, answer_at, refuse};
+use file_state::state::{FileState, OpenFile};
+use io_state::state::IoState;
+use os9_base::call::CallEnd;
+use os9_base::errors::E_BPNUM;
+use os9_base::registers::{Pid, Regs};
+use proc_state::state::ProcState;
+
+/// I$Seek on a file or a directory, on the path that the number in A names (System Programmer's
+/// Manual, I$Seek): sets the position of the path, which may be past the end. Takes the position in
+/// X, its high half, and U. It reaches no drive and is never refused.
+pub fn seek(s: &mut ProcState, files: &mut FileState, p: Pid, opened: &OpenFile) -> CallEnd
+    requires lives { IsLiving s.old.table p.0 }
+    requires no_read { ReadsNoTerminal files.old.io p.0 }
+    requires opened { IsOpened files.old p.0 (record_at s.old.table p.0).regs.a opened.now }
+    ensures call { (now : TimePacket) (views : List DriveView) (terms : List TerminalState)
+        → AttemptsWithin i_seek_calls Call.Seek now p.0 result terms terms
+        (record { processes = s.old; files = files.old; views = views })
+        (record { processes = s.new; files = files.new; views = views }) }
+    ensures lives { IsLiving s.new.table p.0 }
+{
+    let regs = s.table.regs(p);
+    answer_at(s, &mut files.io, p, regs, opened, long_of(regs))
+}
+
+/// The number in X, its high half, and U.
+fn long_of(regs: Regs) -> u32
+    ensures { result ≡ long_of_lem regs }
+{
+    65_536 * u32::from(regs.x) + u32::from(regs.u)
+}
+
+/// I$Seek on a terminal or a pipe, which has no position: it does nothing.
+///
+/// # Errors
+///
+/// E$BPNum exactly if the number in A names no path.
+pub fn seek_nothing(s: &mut ProcState, io: &mut IoState, p: Pid) -> CallEnd
+    requires lives { IsLiving s.old.table p.0 }
+    requires no_read { ReadsNoTerminal io.old p.0 }
+    ensures call { (m : Inner) → Represents s.old m
+        → Ends (seeks_nothing (caller_of m p.0) io.old) m io.old p.0 result s.new io.new }
+    ensures lives { IsLiving s.new.table p.0 }
+{
+    let regs = s.table.regs(p);
+    if io.open_path(p, regs.a).is_none() {
+        return refuse(io, p, E_BPNUM);
+    }
+    answer(s, io, p, regs)
+}

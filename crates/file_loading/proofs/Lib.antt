@@ -1,4 +1,0 @@
-pub mod EnteringLemmas
-pub mod LoadedLemmas
-pub mod OutcomeLemmas
-pub mod SeenLemmas

@@ -1,0 +1,19 @@
+-- So far the walk has come to a directory, from where it goes on along the names that stand from an address on.
+use Rattle.std.proofs.Common.{◌≡◌, ◌-◌, ◌<◌, ℕ, List}
+use Rattle.guest_memory.specs.Tie.{IsSame, cells_of}
+use Rattle.file_drives.specs.Drives.{drive_views}
+use Rattle.device_paths.specs.Standing.{NamesStand}
+use Rattle.file_routes.proofs.WalkLemmas.{IsThere, IsWalkedTo}
+use Rattle.file_routes.proofs.walk.reach_last.Given as goal
+
+abbrev pub invariant-names : goal.invariant-names
+invariant-names g l = record {
+  walked : (names : List (List ℕ)) → NamesStand (cells_of l.initial.memory l.walker.process.0) l.first names → IsWalkedTo (cells_of l.initial.memory l.walker.process.0) l.walker l.fn.from names l.directory l.at l.initial.disks (drive_views (λ table. (g.dyn-1.0.entry table).1) l.initial.devices.drives.items) l.disks (drive_views (λ table. (g.dyn-1.0.entry table).1) l.devices.drives.items);
+  there : IsThere l.fn.from l.directory l.initial.disks (drive_views (λ table. (g.dyn-1.0.entry table).1) l.initial.devices.drives.items) l.disks (drive_views (λ table. (g.dyn-1.0.entry table).1) l.devices.drives.items);
+  within : l.at < 65536;
+  same : IsSame l.initial.memory l.memory;
+  terms : l.devices.terms ≡ l.initial.devices.terms;
+}
+
+abbrev pub decreases-names : goal.decreases-names
+decreases-names g l = 65536 - l.at

@@ -1,0 +1,30 @@
+use Rattle.std.proofs.Common.{◌≡◌, ◌∙◌, Ok, ℕ, Result, sym, ap, subst, vec_len}
+use Rattle.guest_memory.specs.Tie.{cells_of}
+use Rattle.os9_base.specs.Cells.{Cells}
+use Rattle.io_rules.specs.PathList.{path_list}
+use Rattle.file_rules.specs.Way.{list_of}
+use Rattle.file_routes.specs.Ways.{HasNames, RouteIs, StartsOn, leads, way_for}
+use Rattle.file_routes.specs.declared.way.Route.{Route}
+use Rattle.file_routes.proofs.WayLemmas.{unless-refused, read-list, route-read}
+use Rattle.file_routes.proofs.way.find_route.Goals as goal
+
+pub returns-in-Ok-clause-route : goal.returns-in-Ok-clause-route
+returns-in-Ok-clause-route g c asker files execute views asks =
+    let cells : Cells = cells_of c.args.memory.now c.args.query.process.0 in
+    let read = read-list (path_list cells c.args.query.at) c.in-Ok.list (sym c.in-Ok.ensures.list) in
+    let way = way_for c.args.query.purpose asker files (vec_len c.args.devices.now.terms) execute in
+    let listed : list_of asker ≡ Ok read.0 =
+    ap (λ (cells : Cells). path_list cells asker.caller.regs.x) asks.cells_are ∙ ap (path_list cells) asks.at_is ∙ read.1
+    in
+    subst (λ (route : Result Route ℕ). RouteIs cells asker (leads asker c.args.query.refusal way) route) (sym c.unless_refused-in-Ok.ensures)
+    (route-read cells asker way c.args.query.refusal read.0 c.route_of.result listed (c.route_of.ensures.way asker files execute cells views read.0 asks read.1 read.2))
+
+pub returns-in-Ok-clause-names : goal.returns-in-Ok-clause-names
+returns-in-Ok-clause-names g c =
+    let cells : Cells = cells_of c.args.memory.now c.args.query.process.0 in
+    let read = read-list (path_list cells c.args.query.at) c.in-Ok.list (sym c.in-Ok.ensures.list) in
+    unless-refused c.args.query.refusal c.route_of.result c.unless_refused-in-Ok.result (λ route. HasNames cells route.way) c.unless_refused-in-Ok.ensures (c.route_of.ensures.names cells read.0 read.1 read.2)
+
+pub returns-in-Ok-clause-start : goal.returns-in-Ok-clause-start
+returns-in-Ok-clause-start g c views volumes mounted there =
+    unless-refused c.args.query.refusal c.route_of.result c.unless_refused-in-Ok.result (λ route. StartsOn c.args.disks.now views route.way) c.unless_refused-in-Ok.ensures (c.route_of.ensures.start views volumes mounted there)

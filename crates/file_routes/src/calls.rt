@@ -1,0 +1,107 @@
+//! The path lists of calls of processes.
+
+ghost use Rattle.std.specs.Prelude.{◌≡◌, ◌<◌, ℕ, Bool, Ok, IfSome, Option, List, vec_len};
+ghost use Rattle.call_rules.specs.Inner.{Inner, cells_at};
+ghost use Rattle.guest_memory.specs.Tie.{cells_of};
+ghost use Rattle.os9_base.specs.declared.registers.TimePacket.{TimePacket};
+ghost use Rattle.proc_state.specs.Tie.{IsSame, Represents};
+ghost use Rattle.rbf_model.specs.Volume.{DiskVolume};
+ghost use Rattle.file_rules.specs.Attempts.{asker_of};
+ghost use Rattle.file_rules.specs.Files.{Files};
+ghost use Rattle.file_drives.specs.Drives.{DriveView, drive_views};
+ghost use Rattle.file_drives.specs.Mounted.{AreMounted, HasFileAt};
+ghost use Rattle.device_paths.specs.Standing.{NamesFrom, NamesStand};
+ghost use Rattle.file_routes.specs.Walks.{SomeFrom, SomeStand, Walks, WalksToLast};
+ghost use Rattle.file_routes.specs.Ways.{Asks, IsRouteFor, RouteHasNames, RouteStarts};
+
+use crate::walk::{LastName, Walker, walk, walk_to_last};
+use crate::way::{Query, Route, find_route};
+use device_table::devices::Devices;
+use file_drives::disks::Disks;
+use file_rules::places::FilePlace;
+use os9_outer::drive::BlockDriver;
+use proc_state::state::ProcState;
+use rbf_walk::DirError;
+
+/// The route of the path list of a process's call.
+///
+/// # Errors
+///
+/// As `find_route`.
+pub fn call_route(
+    s: &mut ProcState,
+    disks: &Disks,
+    devices: &Devices,
+    query: Query,
+) -> Result<Route, u8>
+    requires { query.process.0 < 33 }
+    ensures route { (m : Inner) (now : TimePacket) (files : Files) (execute : Bool)
+        (views : List DriveView) → Represents s.old m
+        → Asks query (cells_at m query.process.0) disks.now views (vec_len devices.now.drives)
+        (asker_of m query.process.0 now) files execute
+        → IsRouteFor query.purpose query.refusal (cells_at m query.process.0)
+        (asker_of m query.process.0 now) files (vec_len devices.now.terms) execute result }
+    ensures names { RouteHasNames (cells_of s.old.memory query.process.0) result }
+    ensures start { (views : List DriveView) (volumes : List (Option DiskVolume))
+        → AreMounted disks.now views volumes → IfSome query.directory (HasFileAt disks.now views)
+        → RouteStarts disks.now views result }
+    ensures same { IsSame s.old s.new }
+{
+    find_route(&mut s.memory, disks, devices, query)
+}
+
+/// Goes from a directory along the names of the path list of a process's call.
+///
+/// # Errors
+///
+/// As `walk`.
+pub fn call_walk(
+    s: &mut ProcState,
+    disks: &mut Disks,
+    devices: &mut Devices,
+    walker: Walker,
+    from: FilePlace,
+    first: Option<u16>,
+) -> Result<FilePlace, DirError>
+    requires process { walker.process.0 < 33 }
+    requires names { SomeFrom (cells_of s.old.memory walker.process.0) first }
+    requires file { HasFileAt disks.old
+        (drive_views ⟦<dyn BlockDriver as BlockDriver>⟧ devices.old.drives.items) from }
+    ensures walks { (m : Inner) (names : List (List ℕ)) → Represents s.old m
+        → NamesFrom (cells_at m walker.process.0) first names → Walks walker from names result
+        disks.old (drive_views ⟦<dyn BlockDriver as BlockDriver>⟧ devices.old.drives.items)
+        disks.new (drive_views ⟦<dyn BlockDriver as BlockDriver>⟧ devices.new.drives.items) }
+    ensures same { IsSame s.old s.new }
+    ensures terms_kept { devices.new.terms ≡ devices.old.terms }
+{
+    walk(&mut s.memory, disks, devices, walker, from, first)
+}
+
+/// Goes from a directory along all names of the path list of a process's call but the last. Returns
+/// the last name and the directory that is reached.
+///
+/// # Errors
+///
+/// As `walk`.
+pub fn call_walk_to_last(
+    s: &mut ProcState,
+    disks: &mut Disks,
+    devices: &mut Devices,
+    walker: Walker,
+    from: FilePlace,
+    first: u16,
+) -> Result<LastName, DirError>
+    requires process { walker.process.0 < 33 }
+    requires names { SomeStand (cells_of s.old.memory walker.process.0) first }
+    requires file { HasFileAt disks.old
+        (drive_views ⟦<dyn BlockDriver as BlockDriver>⟧ devices.old.drives.items) from }
+    ensures walks { (m : Inner) (names : List (List ℕ)) → Represents s.old m
+        → NamesStand (cells_at m walker.process.0) first names
+        → WalksToLast walker from names result
+        disks.old (drive_views ⟦<dyn BlockDriver as BlockDriver>⟧ devices.old.drives.items)
+        disks.new (drive_views ⟦<dyn BlockDriver as BlockDriver>⟧ devices.new.drives.items) }
+    ensures same { IsSame s.old s.new }
+    ensures terms_kept { devices.new.terms ≡ devices.old.terms }
+{
+    walk_to_last(&mut s.memory, disks, devices, walker, from, first)
+}

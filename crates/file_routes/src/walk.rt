@@ -1,0 +1,237 @@
+//! The walk along the names of a path list.
+
+ghost use Rattle.std.specs.Prelude.{◌≡◌, ◌<◌, ℕ, Ok, IfOk, List};
+ghost use Rattle.guest_memory.specs.Tie.{IsSame, cells_of};
+ghost use Rattle.file_drives.specs.Drives.{drive_views};
+ghost use Rattle.file_drives.specs.Mounted.{HasFileAt};
+ghost use Rattle.device_paths.specs.Standing.{NamesFrom, NamesStand};
+ghost use Rattle.file_routes.specs.Walks.{GoesUp, ReachesLast, SomeFrom, SomeStand, Steps, Walks, WalksBy, WalksToLast, stepped_to};
+
+use device_paths::named::read_name;
+use device_table::devices::Devices;
+use file_drives::disks::Disks;
+use file_rules::places::FilePlace;
+use guest_memory::memory::Memory;
+use os9_base::name::Name;
+use os9_base::registers::Pid;
+use os9_outer::drive::BlockDriver;
+use rbf_walk::DirError;
+
+/// Who walks along a path list, and for what.
+#[derive(Clone, Copy, Debug, PartialEq, Eq)]
+pub struct Walker {
+    /// The process in whose memory the path list is.
+    pub process: Pid,
+    pub user: u16,
+    /// The walk is in search of a file to execute.
+    pub execute: bool,
+}
+
+/// The last name of a path list, and the directory in which it has to be looked up.
+#[derive(Clone, Copy, Debug)]
+pub struct LastName {
+    pub directory: FilePlace,
+    pub name: Name,
+}
+
+/// The address of the last name of a path list, and the directory in which it has to be looked up.
+#[derive(Clone, Copy, Debug)]
+pub struct LastPlace {
+    pub directory: FilePlace,
+    pub at: u16,
+}
+
+/// The result of one name of a path list.
+#[derive(Clone, Copy, Debug)]
+pub enum Stepped {
+    /// It is the last name, and has not been looked up.
+    Last,
+    /// It names this file, and the next name is at this address.
+    Onward(FilePlace, u16),
+}
+
+/// Goes from a directory along the names of a path list, with the first name at `first`. Returns
+/// the file that is reached, or `from` itself if there are no names. Each searched directory must
+/// let the user read it, or execute it in search of a file to execute (OS-9 Technical Reference,
+/// I$Open).
+///
+/// # Errors
+///
+/// `NotAllowed` at the first name that is looked up in a file that is not a directory or may not be
+/// searched, `NotFound` at the first that is not there, `Device` if a read of the drive fails.
+pub fn walk(
+    memory: &mut Memory,
+    disks: &mut Disks,
+    devices: &mut Devices,
+    walker: Walker,
+    from: FilePlace,
+    first: Option<u16>,
+) -> Result<FilePlace, DirError>
+    requires process { walker.process.0 < 33 }
+    requires names { SomeFrom (cells_of memory.old walker.process.0) first }
+    requires file { HasFileAt disks.old
+        (drive_views ⟦<dyn BlockDriver as BlockDriver>⟧ devices.old.drives.items) from }
+    ensures walks { (names : List (List ℕ))
+        → NamesFrom (cells_of memory.old walker.process.0) first names
+        → Walks walker from names result
+        disks.old (drive_views ⟦<dyn BlockDriver as BlockDriver>⟧ devices.old.drives.items)
+        disks.new (drive_views ⟦<dyn BlockDriver as BlockDriver>⟧ devices.new.drives.items) }
+    ensures same { IsSame memory.old memory.new }
+    ensures terms_kept { devices.new.terms ≡ devices.old.terms }
+{
+    match first {
+        None => Ok(from),
+        Some(at) => match walk_to_last(memory, disks, devices, walker, from, at) {
+            Err(error) => Err(error),
+            Ok(last) => walk_by(disks, devices, walker, last.directory, &last.name),
+        },
+    }
+}
+
+/// Goes from a directory along all names of a path list but the last, with the first name at
+/// `first`. Returns the directory that is reached and the last name.
+///
+/// # Errors
+///
+/// As `walk`.
+pub fn walk_to_last(
+    memory: &mut Memory,
+    disks: &mut Disks,
+    devices: &mut Devices,
+    walker: Walker,
+    from: FilePlace,
+    first: u16,
+) -> Result<LastName, DirError>
+    requires process { walker.process.0 < 33 }
+    requires names { SomeStand (cells_of memory.old walker.process.0) first }
+    requires file { HasFileAt disks.old
+        (drive_views ⟦<dyn BlockDriver as BlockDriver>⟧ devices.old.drives.items) from }
+    ensures walks { (names : List (List ℕ))
+        → NamesStand (cells_of memory.old walker.process.0) first names
+        → WalksToLast walker from names result
+        disks.old (drive_views ⟦<dyn BlockDriver as BlockDriver>⟧ devices.old.drives.items)
+        disks.new (drive_views ⟦<dyn BlockDriver as BlockDriver>⟧ devices.new.drives.items) }
+    ensures same { IsSame memory.old memory.new }
+    ensures terms_kept { devices.new.terms ≡ devices.old.terms }
+{
+    match reach_last(memory, disks, devices, walker, from, first) {
+        Err(error) => Err(error),
+        Ok(last) => match read_name(memory, walker.process, last.at) {
+            Err(_) => unreachable!(),
+            Ok(named) => Ok(LastName {
+                directory: last.directory,
+                name: named.name,
+            }),
+        },
+    }
+}
+
+/// Goes from a directory along all names of a path list but the last. Returns the directory that is
+/// reached and the address of the last name.
+///
+/// # Errors
+///
+/// As `walk`.
+fn reach_last(
+    memory: &mut Memory,
+    disks: &mut Disks,
+    devices: &mut Devices,
+    walker: Walker,
+    from: FilePlace,
+    first: u16,
+) -> Result<LastPlace, DirError>
+    requires process { walker.process.0 < 33 }
+    requires names { SomeStand (cells_of memory.old walker.process.0) first }
+    requires file { HasFileAt disks.old
+        (drive_views ⟦<dyn BlockDriver as BlockDriver>⟧ devices.old.drives.items) from }
+    ensures reaches { (names : List (List ℕ))
+        → NamesStand (cells_of memory.old walker.process.0) first names
+        → ReachesLast (cells_of memory.old walker.process.0) walker from names result
+        disks.old (drive_views ⟦<dyn BlockDriver as BlockDriver>⟧ devices.old.drives.items)
+        disks.new (drive_views ⟦<dyn BlockDriver as BlockDriver>⟧ devices.new.drives.items) }
+    ensures same { IsSame memory.old memory.new }
+    ensures terms_kept { devices.new.terms ≡ devices.old.terms }
+{
+    let mut directory = from;
+    let mut at = first;
+    'names: loop {
+        match step(memory, disks, devices, walker, directory, at) {
+            Err(error) => return Err(error),
+            Ok(Stepped::Last) => return Ok(LastPlace { directory, at }),
+            Ok(Stepped::Onward(place, next)) => {
+                directory = place;
+                at = next;
+            }
+        }
+    }
+}
+
+/// Reads the name at an address, and goes from a directory by it if it is not the last.
+///
+/// # Errors
+///
+/// As `walk`.
+fn step(
+    memory: &mut Memory,
+    disks: &mut Disks,
+    devices: &mut Devices,
+    walker: Walker,
+    directory: FilePlace,
+    at: u16,
+) -> Result<Stepped, DirError>
+    requires process { walker.process.0 < 33 }
+    requires names { SomeStand (cells_of memory.old walker.process.0) at }
+    requires file { HasFileAt disks.old
+        (drive_views ⟦<dyn BlockDriver as BlockDriver>⟧ devices.old.drives.items) directory }
+    ensures steps { (names : List (List ℕ))
+        → NamesStand (cells_of memory.old walker.process.0) at names
+        → Steps (cells_of memory.old walker.process.0) walker directory names result
+        disks.old (drive_views ⟦<dyn BlockDriver as BlockDriver>⟧ devices.old.drives.items)
+        disks.new (drive_views ⟦<dyn BlockDriver as BlockDriver>⟧ devices.new.drives.items) }
+    ensures up { IfOk result (GoesUp at) }
+    ensures same { IsSame memory.old memory.new }
+    ensures terms_kept { devices.new.terms ≡ devices.old.terms }
+{
+    match read_name(memory, walker.process, at) {
+        Err(_) => unreachable!(),
+        Ok(named) => match named.next {
+            None => Ok(Stepped::Last),
+            Some(next) => onward(
+                walk_by(disks, devices, walker, directory, &named.name),
+                next,
+            ),
+        },
+    }
+}
+
+/// Goes by one name from a directory.
+///
+/// # Errors
+///
+/// As `walk`.
+fn walk_by(
+    disks: &mut Disks,
+    devices: &mut Devices,
+    walker: Walker,
+    directory: FilePlace,
+    name: &Name,
+) -> Result<FilePlace, DirError>
+    requires file { HasFileAt disks.old
+        (drive_views ⟦<dyn BlockDriver as BlockDriver>⟧ devices.old.drives.items) directory }
+    ensures walks { WalksBy walker directory name.now result
+        disks.old (drive_views ⟦<dyn BlockDriver as BlockDriver>⟧ devices.old.drives.items)
+        disks.new (drive_views ⟦<dyn BlockDriver as BlockDriver>⟧ devices.new.drives.items) }
+    ensures terms_kept { devices.new.terms ≡ devices.old.terms }
+{
+    disks.walk_to(devices, directory, name, walker.user, walker.execute)
+}
+
+/// The result of a name: the file at its end, if there is one, with the address of the next name.
+fn onward(arrived: Result<FilePlace, DirError>, next: u16) -> Result<Stepped, DirError>
+    ensures { result ≡ stepped_to next arrived }
+{
+    match arrived {
+        Err(error) => Err(error),
+        Ok(place) => Ok(Stepped::Onward(place, next)),
+    }
+}

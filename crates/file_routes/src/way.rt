@@ -1,0 +1,258 @@
+//! The starts of path lists, and their ways.
+
+ghost use Rattle.std.specs.Prelude.{◌≡◌, ◌||◌, ◌<◌, ℕ, Bool, Option, Some, Ok, Err, IfOk, IfSome, List, vec_len, if◌then◌else◌};
+ghost use Rattle.guest_memory.specs.Tie.{IsSame, cells_of};
+ghost use Rattle.os9_base.specs.Cells.{Cells};
+ghost use Rattle.io_rules.specs.PathList.{PathList, path_list};
+ghost use Rattle.rbf_model.specs.Volume.{DiskVolume};
+ghost use Rattle.file_rules.specs.Files.{Asker, Files};
+ghost use Rattle.file_rules.specs.Way.{way_of_device};
+ghost use Rattle.file_drives.specs.Drives.{DriveView};
+ghost use Rattle.file_drives.specs.Mounted.{AreMounted, HasFileAt};
+ghost use Rattle.device_paths.specs.Listed.{listed};
+ghost use Rattle.device_paths.specs.Standing.{NamesFrom};
+ghost use Rattle.file_routes.specs.Ways.{Asks, IsDevice, IsRouteFor, IsRouteOf, NamesOn, RouteHasNames, RouteStarts, StartsOn, along_from, makes_nothing as makes_nothing_lem, mode_refusal as mode_refusal_lem, unless_refused as unless_refused_lem, names_root, way_for, way_to};
+
+use device_paths::list::{Listed, read_path_list};
+use device_table::devices::{Dev, Devices};
+use file_drives::disks::Disks;
+use file_rules::places::FilePlace;
+use guest_memory::memory::Memory;
+use os9_base::errors::{E_BMODE, E_BPADDR, E_BPNAM, E_MNF, E_PNNF};
+use os9_base::registers::Pid;
+use user_names::name_fault::NameFault;
+
+/// The purpose of a call with a path list.
+#[derive(Clone, Copy, Debug, PartialEq, Eq)]
+pub enum Purpose {
+    /// To find what exists.
+    Existing,
+    /// To find a place for what the call makes.
+    New,
+}
+
+/// A call's query for the route of its path list.
+#[derive(Clone, Copy, Debug, PartialEq, Eq)]
+pub struct Query {
+    /// The process that calls.
+    pub process: Pid,
+    /// The address of its path list.
+    pub at: u16,
+    /// The directory of the process at which a list without a device starts.
+    pub directory: Option<FilePlace>,
+    pub purpose: Purpose,
+    /// The number with which the call is refused if no byte of its list is missing; None if it goes
+    /// on.
+    pub refusal: Option<u8>,
+}
+
+/// The way of a path list.
+#[derive(Clone, Copy, Debug, PartialEq, Eq)]
+pub enum Way {
+    /// From a file along names, with the first name at address `first`; no names if it is None.
+    Along { from: FilePlace, first: Option<u16> },
+    /// To a terminal or a pipe.
+    Device,
+}
+
+/// A path list that was read.
+#[derive(Clone, Copy, Debug, PartialEq, Eq)]
+pub struct Route {
+    pub way: Way,
+    /// The address just past it.
+    pub next: u32,
+}
+
+/// The route of the path list of a call (System Programmer's Manual, I$Open; Level Two manual,
+/// device descriptors): from the root of the drive that the list names, else from the directory of
+/// the process.
+///
+/// # Errors
+///
+/// The number of the refusal: E$BPAddr exactly if a byte of the list that has to be read is in no
+/// named slot or past `FFFF`; else that of the query, if it has one; else E$BPNam exactly if a
+/// required name is missing, if something is made at the root of a drive or with the name of a
+/// directory itself or of the one above it, or if a slash follows a terminal or a pipe; else E$PNNF
+/// exactly if the list names no device and the process has no directory, and E$MNF exactly if its
+/// device does not exist or is a drive without a volume.
+pub fn find_route(
+    memory: &mut Memory,
+    disks: &Disks,
+    devices: &Devices,
+    query: Query,
+) -> Result<Route, u8>
+    requires { query.process.0 < 33 }
+    ensures route { (asker : Asker) (files : Files) (execute : Bool) (views : List DriveView)
+        → Asks query (cells_of memory.old query.process.0) disks.now views
+        (vec_len devices.now.drives) asker files execute
+        → IsRouteFor query.purpose query.refusal (cells_of memory.old query.process.0)
+        asker files (vec_len devices.now.terms) execute result }
+    ensures names { RouteHasNames (cells_of memory.old query.process.0) result }
+    ensures start { (views : List DriveView) (volumes : List (Option DiskVolume))
+        → AreMounted disks.now views volumes → IfSome query.directory (HasFileAt disks.now views)
+        → RouteStarts disks.now views result }
+    ensures same { IsSame memory.old memory.new }
+{
+    match read_path_list(memory, query.process, query.at) {
+        Err(NameFault::Unreadable) => Err(E_BPADDR),
+        Err(NameFault::NoName) => unless_refused(query.refusal, Err(E_BPNAM)),
+        Ok(list) => unless_refused(query.refusal, route_of(disks, devices, query, &list)),
+    }
+}
+
+/// The refusal of a call by its mode (System Programmer's Manual, E$BMode): E$BMode, if the mode is
+/// not allowed.
+pub fn mode_refusal(allowed: bool) -> Option<u8>
+    ensures { result ≡ mode_refusal_lem allowed }
+{
+    if allowed { None } else { Some(E_BMODE) }
+}
+
+/// The route, if the call has no refusal.
+///
+/// # Errors
+///
+/// The number of the call's refusal if it has one, else that of the list's.
+fn unless_refused(refusal: Option<u8>, route: Result<Route, u8>) -> Result<Route, u8>
+    ensures { result ≡ unless_refused_lem refusal route }
+{
+    match refusal {
+        None => route,
+        Some(number) => Err(number),
+    }
+}
+
+/// The route of a path list that was read.
+///
+/// # Errors
+///
+/// As `find_route`.
+fn route_of(disks: &Disks, devices: &Devices, query: Query, list: &Listed) -> Result<Route, u8>
+    ensures way { (asker : Asker) (files : Files) (execute : Bool) (cells : Cells)
+        (views : List DriveView) (named : PathList)
+        → Asks query cells disks.now views (vec_len devices.now.drives) asker files execute
+        → path_list cells query.at ≡ Ok named → list.now ≡ listed named
+        → IsRouteOf cells named
+        (way_for query.purpose asker files (vec_len devices.now.terms) execute named) result }
+    ensures names { (cells : Cells) (named : PathList) → path_list cells query.at ≡ Ok named
+        → list.now ≡ listed named → RouteHasNames cells result }
+    ensures start { (views : List DriveView) (volumes : List (Option DiskVolume))
+        → AreMounted disks.now views volumes → IfSome query.directory (HasFileAt disks.now views)
+        → RouteStarts disks.now views result }
+{
+    match way_by(disks, devices, query, list) {
+        Err(number) => Err(number),
+        Ok(way) => Ok(Route {
+            way,
+            next: list.next,
+        }),
+    }
+}
+
+/// The way of a path list.
+///
+/// # Errors
+///
+/// As `find_route`.
+fn way_by(disks: &Disks, devices: &Devices, query: Query, list: &Listed) -> Result<Way, u8>
+    ensures way { (asker : Asker) (files : Files) (execute : Bool) (cells : Cells)
+        (views : List DriveView) (named : PathList)
+        → Asks query cells disks.now views (vec_len devices.now.drives) asker files execute
+        → list.now ≡ listed named → way_to result named.names
+        ≡ way_for query.purpose asker files (vec_len devices.now.terms) execute named }
+    ensures names { (cells : Cells) (named : PathList) → path_list cells query.at ≡ Ok named
+        → list.now ≡ listed named → IfOk result (λ way. NamesOn cells way named.names) }
+    ensures start { (views : List DriveView) (volumes : List (Option DiskVolume))
+        → AreMounted disks.now views volumes → IfSome query.directory (HasFileAt disks.now views)
+        → IfOk result (StartsOn disks.now views) }
+{
+    if makes_nothing(query.purpose, devices, list) {
+        return Err(E_BPNAM);
+    }
+    let first = list.first_name(query.at);
+    match &list.device {
+        None => along(query.directory, first, E_PNNF),
+        Some(name) => match devices.find(name) {
+            None => Err(E_MNF),
+            Some(device) => way_on(disks, device, list, first),
+        },
+    }
+}
+
+/// The way of a path list that starts at this device, with the first of its names at an address.
+///
+/// # Errors
+///
+/// E$MNF exactly if it is a drive without a volume, E$BPNam exactly if it is a terminal or a pipe
+/// followed by a slash.
+fn way_on(disks: &Disks, device: Dev, list: &Listed, first: Option<u16>) -> Result<Way, u8>
+    requires { IsDevice device }
+    ensures way { (files : Files) (views : List DriveView) (named : PathList)
+        → AreMounted disks.now views files.volumes → list.now ≡ listed named
+        → way_to result named.names ≡ way_of_device files named (Some device) }
+    ensures names { (cells : Cells) (names : List (List ℕ)) → NamesFrom cells first names
+        → IfOk result (λ way. NamesOn cells way names) }
+    ensures start { (views : List DriveView) (volumes : List (Option DiskVolume))
+        → AreMounted disks.now views volumes → IfOk result (StartsOn disks.now views) }
+{
+    match device {
+        Dev::Drive(n) => along(disks.root(n), first, E_MNF),
+        Dev::Term(_) | Dev::Pipe => unless_slash(list),
+    }
+}
+
+/// From a start along names, with the first name at an address.
+///
+/// # Errors
+///
+/// This number exactly if there is no start.
+fn along(start: Option<FilePlace>, first: Option<u16>, number: u8) -> Result<Way, u8>
+    ensures { result ≡ along_from start first number }
+{
+    match start {
+        None => Err(number),
+        Some(from) => Ok(Way::Along { from, first }),
+    }
+}
+
+/// The way to a terminal or a pipe.
+///
+/// # Errors
+///
+/// E$BPNam exactly if a slash follows it.
+fn unless_slash(list: &Listed) -> Result<Way, u8>
+    ensures { result
+        ≡ (if list.now.slash || list.now.has_names then Err E_BPNAM else Ok Way.Device) }
+{
+    if list.slash || list.has_names {
+        Err(E_BPNAM)
+    } else {
+        Ok(Way::Device)
+    }
+}
+
+/// Does this call make something where nothing may be made: at the root of a drive, or with the
+/// name of a directory itself or of the one above it?
+fn makes_nothing(purpose: Purpose, devices: &Devices, list: &Listed) -> bool
+    ensures { result ≡ makes_nothing_lem purpose (vec_len devices.now.drives)
+        (vec_len devices.now.terms) list.now }
+{
+    match purpose {
+        Purpose::Existing => false,
+        Purpose::New => list.dots || is_root(devices, list),
+    }
+}
+
+/// Is the list the root of a drive?
+fn is_root(devices: &Devices, list: &Listed) -> bool
+    ensures { result ≡ names_root (vec_len devices.now.drives) (vec_len devices.now.terms)
+        list.now }
+{
+    if list.has_names {
+        return false;
+    }
+    match &list.device {
+        None => false,
+        Some(name) => matches!(devices.find(name), Some(Dev::Drive(_))),
+    }
+}

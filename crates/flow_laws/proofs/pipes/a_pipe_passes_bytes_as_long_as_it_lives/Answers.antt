@@ -1,5 +1,0 @@
-use Rattle.flow_laws.proofs.PipeRuns.{begun-passes, first-passes, pass-then, steps-passes}
-use Rattle.flow_laws.proofs.pipes.a_pipe_passes_bytes_as_long_as_it_lives.Goals as goal
-
-pub returns : goal.returns
-returns c = record { rest = steps-passes; first = first-passes; begun = begun-passes; parts = pass-then }

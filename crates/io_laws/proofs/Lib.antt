@@ -1,6 +1,0 @@
-pub mod Codes
-pub mod EndsKept
-pub mod IoKept
-pub mod OthersLeft
-pub mod PathsKept
-pub mod StepWalk

@@ -1,8 +1,0 @@
-use Rattle.io_rules.specs.Attempts.{caller_of}
-use Rattle.io_rules.specs.declared.io_call.IoCall.TheVariants as Call
-use Rattle.path_calls.proofs.QuietLemmas.{attempts, close-quiet}
-use Rattle.path_calls.proofs.numbers.i_close.Goals as goal
-
-pub returns-clause-call : goal.returns-clause-call
-returns-clause-call c m drives terms tied =
-    attempts Call.Close m c.args.io.now c.close.new.io drives c.args.p.0 c.close.result c.close.new.s terms (close-quiet (caller_of m c.args.p.0) c.args.io.now) (c.close.ensures.call m tied)

@@ -1,5 +1,0 @@
-pub mod FirstLemmas
-pub mod FoundLemmas
-pub mod ReadingLemmas
-pub mod TieLemmas
-pub mod WayLemmas

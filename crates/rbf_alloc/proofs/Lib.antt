@@ -1,0 +1,16 @@
+pub mod Clear
+pub mod Chosen
+pub mod Gaining
+pub mod Marking
+pub mod Written
+pub mod Growing
+pub mod NoneGrown
+pub mod Stretches
+pub mod ClearedMarks
+pub mod OwnParts
+pub mod Releasing
+pub mod FileClusters
+pub mod MarkCalls
+pub mod Dropping
+pub mod Rests
+pub mod Released

@@ -1,0 +1,22 @@
+use Rattle.rbf_model.specs.Disk.{disk_of}
+use Rattle.std.proofs.Common.{arith, get_or}
+use Rattle.rbf_model.specs.Geometry.{sector}
+use Rattle.rbf_sector.specs.Ident.{geometry_of}
+use Rattle.rbf_reach.specs.Least.{IsLeast}
+use Rattle.rbf_check.specs.Keys.{IsBadlyNamedAt}
+use Rattle.rbf_reach.specs.Files.{found_numbers}
+use Rattle.rbf_reach.proofs.FoundFiles.{file_on, at_number, as_many}
+use Rattle.rbf_reach.proofs.Leasts.{least_next}
+use Rattle.rbf_check.proofs.Keyed.{least_badly}
+use Rattle.rbf_check.proofs.entries.least_badly_named.Goals as goal
+
+pub badly_named-requires : goal.badly_named-requires
+badly_named-requires c = file_on c.args.image.now c.args.files.now c.loop-file.file-index c.file-item.result c.requires.read (omega arith) c.file-item.is
+
+pub loop-file-preserved : goal.loop-file-preserved
+loop-file-preserved c =
+    least_next (λ k. IsBadlyNamedAt (disk_of (geometry_of c.args.image.now.ident) (sector c.args.image.now.bytes.now)) (get_or (found_numbers c.args.files.now) k 0)) c.loop-file.file-index c.loop-file.least c.in_ok-one.one c.least_of-least.result c.loop-file.invariant (at_number (λ n. IsLeast (IsBadlyNamedAt (disk_of (geometry_of c.args.image.now.ident) (sector c.args.image.now.bytes.now)) n) c.in_ok-one.one) c.args.files.now c.loop-file.file-index c.file-item.result (omega arith) c.file-item.is c.in_ok-one.ensures) c.least_of-least.ensures
+
+pub returns : goal.returns
+returns c =
+    least_badly (geometry_of c.args.image.now.ident) (sector c.args.image.now.bytes.now) (found_numbers c.args.files.now) c.loop-file.file-index c.loop-file.least c.requires.found (omega (arith, as_many c.args.files.now)) c.loop-file.invariant

@@ -1,0 +1,12 @@
+use Rattle.rbf_model.specs.Disk.{disk_of}
+use Rattle.std.proofs.Common.{get_or}
+use Rattle.rbf_model.specs.Geometry.{sector}
+use Rattle.rbf_sector.specs.Ident.{geometry_of}
+use Rattle.rbf_reach.specs.Files.{found_numbers}
+use Rattle.rbf_reach.specs.Least.{IsLeast, Before}
+use Rattle.rbf_check.specs.Keys.{IsBadlyNamedAt}
+use Rattle.rbf_check.proofs.entries.least_badly_named.Given as goal
+
+abbrev pub invariant-loop-file : goal.invariant-loop-file
+invariant-loop-file l =
+    IsLeast (Before (λ k. IsBadlyNamedAt (disk_of (geometry_of l.image.ident) (sector l.image.bytes.now)) (get_or (found_numbers l.files) k 0)) l.file-index) l.least

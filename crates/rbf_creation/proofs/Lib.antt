@@ -1,4 +1,0 @@
-pub mod NewOnes
-pub mod Entered
-pub mod Refused
-pub mod Stepped

@@ -1,7 +1,0 @@
--- So far the marks of those of the segments before this one have been cleared.
-use Rattle.std.proofs.Common.{◌&&◌, not}
-use Rattle.rbf_drop.specs.Own.{ClearsIn, in_front, in_own}
-use Rattle.rbf_cut.proofs.bits.clear_rest.Given as goal
-
-abbrev pub invariant-loop-i : goal.invariant-loop-i
-invariant-loop-i l = ClearsIn l.place l.fn.bytes l.bytes (λ c. in_front l.k l.cut.old l.i c && not (in_own l.k l.cut.kept c))

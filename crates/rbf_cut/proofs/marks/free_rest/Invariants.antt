@@ -1,7 +1,0 @@
--- So far the marks of those of the segments before this one have been cleared.
-use Rattle.std.proofs.Common.{◌&&◌, not}
-use Rattle.rbf_drop.specs.Own.{ClearsMarks, in_front, in_own, here}
-use Rattle.rbf_cut.proofs.marks.free_rest.Given as goal
-
-abbrev pub invariant-loop-i : goal.invariant-loop-i
-invariant-loop-i l = ClearsMarks l.fn.map l.map (here (λ c. in_front l.k l.cut.old l.i c && not (in_own l.k l.cut.kept c)) l.place)

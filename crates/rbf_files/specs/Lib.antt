@@ -1,3 +1,0 @@
-pub mod Changed
-pub mod Laid
-pub mod Sector

@@ -1,3 +1,0 @@
-pub mod Gained
-pub mod Marked
-pub mod Grown

@@ -1,5 +1,0 @@
-use Rattle.rbf_laws.proofs.Entries.{directory-leaves}
-use Rattle.rbf_laws.proofs.changes.a_new_directory_is_what_it_is_said_to_be.Goals as goal
-
-pub returns : goal.returns
-returns c = directory-leaves

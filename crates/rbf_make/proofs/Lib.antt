@@ -1,4 +1,0 @@
-pub mod EntryBytes
-pub mod NewEntries
-pub mod Placed
-pub mod Found

@@ -1,3 +1,0 @@
-pub mod Dotting
-pub mod Keyed
-pub mod Naming

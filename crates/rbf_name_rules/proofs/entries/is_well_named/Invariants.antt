@@ -1,6 +1,0 @@
-use Rattle.rbf_name_rules.specs.Keys.{AreNamed}
-use Rattle.rbf_reach.specs.Reading.{listed}
-use Rattle.rbf_name_rules.proofs.entries.is_well_named.Given as goal
-
-abbrev pub invariant-loop-i : goal.invariant-loop-i
-invariant-loop-i l = AreNamed (listed l.image l.dir.number) l.keys l.i

@@ -1,3 +1,0 @@
-pub mod Dots
-pub mod Keys
-pub mod Named

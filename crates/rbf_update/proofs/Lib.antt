@@ -1,4 +1,0 @@
-pub mod Stored
-pub mod Puts
-pub mod Attributed
-pub mod Deleting

@@ -1,0 +1,12 @@
+-- So far the sectors before this one have been laid over.
+use Rattle.std.proofs.Common.{◌/◌, min}
+use Rattle.rbf_access.specs.Drive.{drive_counts}
+use Rattle.rbf_access.specs.Mounted.{kept}
+use Rattle.rbf_write.proofs.Filling.{IsFillSoFar}
+use Rattle.rbf_write.proofs.data.fill.Given as goal
+
+abbrev pub invariant-loop-place : goal.invariant-loop-place
+invariant-loop-place g l =
+    IsFillSoFar l.segs l.size l.at l.from (min l.size l.at / 256) l.place (kept l.fn.volume) (kept l.volume)
+    ((goal.BlockDriver-dyn g l.fn.d.now).media l.fn.d.now.1) ((goal.BlockDriver-dyn g l.d.now).media l.d.now.1) l.volume.cache
+    (drive_counts (goal.BlockDriver-dyn g l.fn.d.now) l.fn.d.now.1) (drive_counts (goal.BlockDriver-dyn g l.d.now) l.d.now.1)

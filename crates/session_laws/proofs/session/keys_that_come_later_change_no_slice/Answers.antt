@@ -1,5 +1,0 @@
-use Rattle.session_laws.proofs.Loads.{begins-with, event-with, slice-with}
-use Rattle.session_laws.proofs.session.keys_that_come_later_change_no_slice.Goals as goal
-
-pub returns : goal.returns
-returns c = record { event = event-with; slice = slice-with; part = begins-with }

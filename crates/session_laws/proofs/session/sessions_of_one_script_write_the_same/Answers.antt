@@ -1,5 +1,0 @@
-use Rattle.session_laws.proofs.Same.{sessions-same}
-use Rattle.session_laws.proofs.session.sessions_of_one_script_write_the_same.Goals as goal
-
-pub returns : goal.returns
-returns c = record { sessions = sessions-same }

@@ -1,0 +1,44 @@
+-- Two states for which a kernel stands.
+use Rattle.std.proofs.Common.{◌≡◌, ◌∙◌, option_map, sym, ap}
+use Rattle.os9_base.specs.declared.registers.Pid.{Pid}
+use Rattle.proc_model.specs.Memory.{MemoryState}
+use Rattle.call_rules.specs.Inner.{Inner, with_memory}
+use Rattle.file_rules.specs.Files.{Files}
+use Rattle.machine_model.specs.State.{State}
+use Rattle.os9_kernel.specs.Outside.{Outside}
+use Rattle.os9_kernel.specs.Tie.{Represents}
+use Rattle.os9_kernel.specs.declared.kernel.Kernel.{Kernel}
+use Rattle.state_laws.specs.Numbers.{DifferInNumbersAlone}
+use Rattle.state_laws.proofs.Mounts.{files-one}
+use Rattle.state_laws.proofs.Objects.{memories-differ}
+
+module _ (kernel : Kernel) (devices : Outside) (s t : State) (stands : Represents kernel devices s) (stands_too : Represents kernel devices t) where
+  -- the state that the kernel stands for, by its processes and its files
+  abbrev state_of : Inner → Files → State
+  state_of inner files = record {
+    inner = inner;
+    files = files;
+    clock = kernel.clock;
+    chosen = option_map (λ (p : Pid). p.0) kernel.chosen;
+    terms = devices.terms;
+  }
+
+  abbrev memory : MemoryState
+  memory = t.inner.memory
+
+  same_files : t.files ≡ s.files
+  same_files = files-one kernel.files devices.drives t.files s.files stands_too.files stands.files
+
+  rest : t ≡ record s { inner = with_memory s.inner memory }
+  rest =
+      stands_too.is
+      ∙ ap (λ (files : Files). state_of t.inner files) same_files
+      ∙ ap (λ (inner : Inner). state_of inner s.files) stands_too.inner.is
+      ∙ sym (ap (λ (inner : Inner). state_of (with_memory inner memory) s.files) stands.inner.is)
+      ∙ sym (ap (λ (state : State). record state { inner = with_memory s.inner memory }) stands.is)
+
+  pub representation-is-unique : DifferInNumbersAlone s t
+  representation-is-unique = record {
+    memory = memories-differ kernel.processes.memory.pool kernel.processes.memory.maps.items kernel.processes.memory.dir kernel.processes.memory.sound s.inner.memory memory stands.inner.memory stands_too.inner.memory;
+    rest = rest;
+  }

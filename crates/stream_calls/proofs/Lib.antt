@@ -1,7 +1,0 @@
-pub mod DeviceLemmas
-pub mod LineLemmas
-pub mod MovingLemmas
-pub mod ReadingLemmas
-pub mod SendingLemmas
-pub mod StepLemmas
-pub mod TryingLemmas

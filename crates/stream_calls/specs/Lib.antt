@@ -1,5 +1,0 @@
-pub mod Moving
-pub mod Reading
-pub mod Sending
-pub mod Streams
-pub mod Trying

@@ -1,4 +1,0 @@
-//! Laws of the command `stress`: the boot file of every load starts a machine.
-#![tactic(auto)]
-
-pub mod laws;

@@ -1,5 +1,0 @@
-use Rattle.tool_laws.proofs.Lists.{one_repair}
-use Rattle.tool_laws.proofs.laws.a_repair_leaves_what_it_gives.Goals as goal
-
-pub returns : goal.returns
-returns c = one_repair
