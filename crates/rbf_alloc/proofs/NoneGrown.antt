@@ -1,5 +1,5 @@
 -- A file that gains no cluster.
-use Rattle.std.proofs.Common.{◌≡◌, ℕ, ◌≤◌, Bool, true, false, not, ◌&&◌, ◌||◌, Option, List, [], length, refl, subst}
+use Rattle.std.proofs.Common.{◌≡◌, ℕ, ◌≤◌, Bool, true, false, not, ◌&&◌, ◌||◌, Option, List, [], length, refl, sym, subst}
 use mathlib.Core.Path.{fun_ext}
 use Rattle.rbf_model.specs.Geometry.{sector}
 use Rattle.rbf_model.specs.Space.{is_marked}
@@ -16,9 +16,8 @@ and_kept : (b : Bool) → b ≡ (b && not false)
 and_kept true = refl
 and_kept false = refl
 
--- its volume is as it was
-pub none_grown : (v : DiskVolume) (media : Option (List ℕ)) → Represents media v → (segs : List (ℕ × ℕ)) → length segs ≤ 48 → IsGrown v 0 media media segs segs
-none_grown v media on segs few = record {
+grown_by_none : (v : DiskVolume) (media : Option (List ℕ)) → Represents media v → (segs : List (ℕ × ℕ)) → length segs ≤ 48 → IsGrown v 0 media media segs segs
+grown_by_none v media on segs few = record {
   image = on.image;
   now = on.image;
   was = on.is;
@@ -29,3 +28,7 @@ none_grown v media on segs few = record {
   vol = subst (λ (lost : ℕ → Bool). Vol on.image (with_lost v lost)) (fun_ext (λ c. or_none (v.lost c))) on.vol;
   changes = record { others = λ s apart. refl; end = λ c past. and_kept (is_marked (sector on.image) c) };
 }
+
+-- its volume is as it was
+pub none_grown : (v : DiskVolume) (media : Option (List ℕ)) → Represents media v → (n : ℕ) → n ≡ 0 → (segs : List (ℕ × ℕ)) → length segs ≤ 48 → IsGrown v n media media segs segs
+none_grown v media on n zero segs few = subst (λ k. IsGrown v k media media segs segs) (sym zero) (grown_by_none v media on segs few)

@@ -1,11 +1,12 @@
 -- One sector that is laid over, part by part.
-use Rattle.std.proofs.Common.{◌≡◌, ℕ, ◌+◌, ◌-◌, ◌<◌, ◌≤◌, min, List, length, get_or, sym, ap, ◌∙◌, inl, inr, ⊎_elim, arith, length-drop}
+use Rattle.std.proofs.Common.{◌≡◌, ℕ, ◌+◌, ◌-◌, ◌<◌, ◌≤◌, min, Option, List, length, get_or, slice_index, sym, ap, ◌∙◌, inl, inr, ⊎_elim, arith, length-drop}
 use Rattle.std.specs.Prelude.{take, drop}
 use Rattle.std.proofs.lemmas.Bool.{cases_lt}
-use Rattle.std.proofs.lemmas.List.{get_or-take, get_or-drop, length-take-le}
+use Rattle.std.proofs.lemmas.List.{get_or-take, get_or-drop, length-take-le, length-replicate}
+use Rattle.os9_outer.specs.Drive.{sector_at, with_sector}
 use Rattle.rbf_model.specs.Writes.{put_at}
 use Rattle.rbf_model.proofs.Pieces.{length-put_at}
-use Rattle.rbf_write.specs.Laid.{laid_byte}
+use Rattle.rbf_write.specs.Laid.{laid_byte, LaysSector}
 use Rattle.rbf_write.specs.Sector.{CoversSector, IsCleared, IsPartIn}
 use Rattle.rbf_write.proofs.LaidBytes.{laid_in, laid_after, laid_zero, laid_before, put_before, put_in, put_behind, zeros, zeros_are}
 
@@ -18,11 +19,20 @@ covered start at size from bytes covers q old low =
     covers.each q low ∙ ap (λ j. get_or from j 0) place ∙ sym (laid_in size at from (start + q) old (omega arith) (omega arith))
 
 -- a sector of zeros, whatever it had
-pub all_zeros : (start at size : ℕ) (from : List ℕ) → (size ≤ start) × (start + 256 ≤ at) → (q old : ℕ) → q < 256 → get_or (zeros 256) q 0 ≡ laid_byte size at from (start + q) old
+all_zeros : (start at size : ℕ) (from : List ℕ) → (size ≤ start) × (start + 256 ≤ at) → (q old : ℕ) → q < 256 → get_or (zeros 256) q 0 ≡ laid_byte size at from (start + q) old
 all_zeros start at size from within q old low =
     let begins = within.0 in
     let ends = within.1 in
     zeros_are 256 q ∙ sym (laid_zero size at from (start + q) old (omega arith) (omega arith))
+
+pub lays_zeros : (size at : ℕ) (from : List ℕ) (start lsn : ℕ) (old new : Option (List ℕ)) → (size ≤ start) × (start + 256 ≤ at)
+    → new ≡ with_sector old lsn (zeros 256) → LaysSector size at from start lsn old new
+lays_zeros size at from start lsn old new within media = record {
+  bytes = zeros 256;
+  whole = length-replicate {A = ℕ} 256 0;
+  each = λ q low. all_zeros start at size from within q (slice_index (sector_at old lsn) q) low;
+  media = media;
+}
 
 -- zeros put over a part of a sector
 pub cleared : (first end : ℕ) (old new zeros : List ℕ) → length old ≡ 256 → first ≤ 256 → end ≤ 256

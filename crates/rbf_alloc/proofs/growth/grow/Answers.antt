@@ -17,7 +17,7 @@ use Rattle.rbf_alloc.proofs.growth.grow.Goals as goal
 
 pub returns-then-count-eq0-clause-grows : goal.returns-then-count-eq0-clause-grows
 returns-then-count-eq0-clause-grows g c v on = record {
-  grown = subst (λ n. IsGrown v n _ _ c.args.segs.now c.args.segs.now) (sym c.if-count-eq0.true) (none_grown v _ on c.args.segs.now c.requires.few);
+  grown = none_grown v _ on c.args.count c.if-count-eq0.true c.args.segs.now c.requires.few;
   full = (λ is. cc, λ low. absurd (omega (arith, low, c.if-count-eq0.true)));
   runs = search rules;
   ends = search rules;

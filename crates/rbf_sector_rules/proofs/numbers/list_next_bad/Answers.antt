@@ -10,8 +10,8 @@ use Rattle.rbf_sector_rules.proofs.numbers.list_next_bad.Goals.{then-is_bad_posi
 
 pub loop-e-init : goal.loop-e-init
 loop-e-init c =
-    filled_from (IsBadPosition (disk_of (geometry_of c.args.image.now.ident) (sector c.args.image.now.bytes.now))) (8 * c.args.image.now.ident.total) c.in_ok-nexts.nexts.items c.end_of_bad.result
-    (c.in_ok-nexts.ensures.items_if_clones_equal (search rules)) c.end_of_bad.ensures.within c.end_of_bad.ensures.none
+    filled_from (IsBadPosition (disk_of (geometry_of c.args.image.now.ident) (sector c.args.image.now.bytes.now))) (8 * c.args.image.now.ident.total) c.in_ok-nexts.nexts.items c.end_of_bad-e.result
+    (c.in_ok-nexts.ensures.items_if_clones_equal (search rules)) c.end_of_bad-e.ensures.within c.end_of_bad-e.ensures.none
 
 pub loop-e-preserved : goal.loop-e-preserved
 loop-e-preserved c =

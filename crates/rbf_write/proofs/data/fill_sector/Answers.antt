@@ -1,23 +1,16 @@
 use Rattle.std.proofs.Common.{◌+◌, slice_index, refl, ap, ◌∙◌, arith}
-use Rattle.std.proofs.lemmas.List.{length-replicate}
+use Rattle.std.proofs.lemmas.Result.{on_ok_weaker}
 use Rattle.os9_outer.specs.Drive.{with_sector}
 use Rattle.rbf_write.specs.Laid.{laid_byte}
-use Rattle.rbf_write.proofs.LaidBytes.{zeros}
-use Rattle.rbf_write.proofs.LaidSector.{all_zeros, covered}
+use Rattle.rbf_write.proofs.LaidSector.{covered, lays_zeros}
 use Rattle.rbf_write.proofs.data.fill_sector.Goals as goal
 
 pub store-requires-clause-sound : goal.store-requires-clause-sound
 store-requires-clause-sound g c =
-    c.requires.sound _
-    (record {
-      bytes = zeros 256;
-      whole = length-replicate 256 0;
-      each = λ q low. all_zeros c.args.start c.args.at c.args.size c.args.from.now (c.is_zeros.ensures c.if-is_zeros.true) q _ low;
-      media = refl;
-    })
+    c.requires.sound _ (lays_zeros c.args.size c.args.at c.args.from.now c.args.start c.args.lsn _ _ (c.is_zeros.ensures c.if-is_zeros.true) refl)
 
-pub store-requires-2-clause-sound : goal.store-requires-2-clause-sound
-store-requires-2-clause-sound g c =
+pub store-requires-in-Some-clause-sound : goal.store-requires-in-Some-clause-sound
+store-requires-in-Some-clause-sound g c =
     c.requires.sound _
     (record {
       bytes = c.in-Some.whole;
@@ -26,8 +19,8 @@ store-requires-2-clause-sound g c =
       media = refl;
     })
 
-pub store-requires-3-clause-sound : goal.store-requires-3-clause-sound
-store-requires-3-clause-sound g c =
+pub store-requires-2-clause-sound : goal.store-requires-2-clause-sound
+store-requires-2-clause-sound g c =
     c.requires.sound _
     (record {
       bytes = c.lay.new.bytes;
@@ -35,3 +28,17 @@ store-requires-3-clause-sound g c =
       each = λ q low. c.lay.ensures q low ∙ ap (λ b. laid_byte c.args.size c.args.at c.args.from.now (c.args.start + q) (slice_index b q)) c.in_ok-bytes.ensures.bytes;
       media = ap (λ m. with_sector m c.args.lsn c.lay.new.bytes) c.in_ok-bytes.ensures.media_kept;
     })
+
+pub returns-then-is_zeros-clause-lays : goal.returns-then-is_zeros-clause-lays
+returns-then-is_zeros-clause-lays g c =
+    on_ok_weaker c.store.result
+    (λ written. lays_zeros c.args.size c.args.at c.args.from.now c.args.start c.args.lsn _ _ (c.is_zeros.ensures c.if-is_zeros.true) written)
+    c.store.ensures.written
+
+pub returns-clause-lays : goal.returns-clause-lays
+returns-clause-lays g c = record {
+  bytes = c.lay.new.bytes;
+  whole = omega arith;
+  each = λ q low. c.lay.ensures q low ∙ ap (λ b. laid_byte c.args.size c.args.at c.args.from.now (c.args.start + q) (slice_index b q)) c.in_ok-bytes.ensures.bytes;
+  media = c.in_ok-store.ensures.written ∙ ap (λ m. with_sector m c.args.lsn c.lay.new.bytes) c.in_ok-bytes.ensures.media_kept;
+}
