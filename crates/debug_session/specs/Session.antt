@@ -46,8 +46,8 @@ FailsToPrint machine commands before after =
 abbrev pub position_behind : Course → List Command → ℕ
 position_behind course commands = fold (position_after course) 0 commands
 
--- The machine starts, n commands are done, and a terminal fails in the next one, which leads back and shows nothing.
--- The output gained what those n show, if nothing else failed.
+-- The machine starts, some commands are done, and terminal n fails in the next one. If no terminal had bytes before and
+-- nothing else failed, that command leads back and shows nothing, and the output gained what those before it show.
 pub record StopsAtTerminal (n : ℕ) (machine : Machine) (commands : List Command) (before after : World) : Type 0 where
   pub starts : HasStart machine before.devices
   pub rose : TerminalRose n before.devices after.devices

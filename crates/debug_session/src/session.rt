@@ -34,8 +34,9 @@ fn write_out<H: Host>(host: &mut H, bytes: &[u8]) -> Result<(), HostFault>
 ///
 /// # Errors
 ///
-/// `TerminalFailed` only if the count of faults of the terminal of that number rose in a command
-/// that leads back; `OutputFailed` only if the commands show something.
+/// `TerminalFailed` only if the count of faults of the terminal of that number rose in a command,
+/// which leads back if no terminal had bytes before and nothing else failed; `OutputFailed` only if
+/// the commands show something.
 pub fn debug<H: Host>(
     alloc: Global,
     machine: &Machine,

@@ -1,5 +1,5 @@
-//! The commands of a debugger, in the form of a text; what each prints; and the lines of a
-//! disassembly.
+//! The texts of commands for a debugger, the positions of a run, what each command prints there,
+//! and its lines.
 #![tactic(auto)]
 
 pub use command::{Command, Span};

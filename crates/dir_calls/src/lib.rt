@@ -1,4 +1,4 @@
-//! The calls on names of files and directories.
+//! I$ChgDir, I$MakDir, I$Delete and I$DeletX.
 #![tactic(auto)]
 
 pub mod chgdir;

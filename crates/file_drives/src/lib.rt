@@ -1,5 +1,6 @@
-//! The volumes that are mounted on the drives of a machine, and the calls that read and change
-//! their files, each on the one drive that it reaches.
+//! The volumes mounted on the drives of a machine, and the calls that read and change their files,
+//! each on the drive of its file alone; and laws: a creation or a deletion on a volume leaves what
+//! the calls on files say.
 #![tactic(auto)]
 
 pub mod changes;

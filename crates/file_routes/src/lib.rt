@@ -1,4 +1,4 @@
-//! The ways of path lists to files: where they start, and the walk from there, name by name.
+//! The routes of path lists to files: where they start, and the walk from there, name by name.
 #![tactic(auto)]
 
 pub mod calls;

@@ -1,6 +1,5 @@
-//! The image that the command `stress` boots, with a boot file of modules, and its list of slices;
-//! the modules and their disk; and the source of a shell. The maker of modules is passed on from
-//! `module_maker`.
+//! The disk that the command `stress` boots, and its list of slices; the image of a disk with one
+//! boot file; and the source of a shell. `module` is that of `module_maker`.
 #![tactic(auto)]
 
 pub use image::boot_image;

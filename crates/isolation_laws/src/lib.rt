@@ -1,5 +1,5 @@
 //! What the events of a process leave unchanged of memory, of the other processes and of what they
-//! share.
+//! share, and what new objects hold.
 #![tactic(auto)]
 
 pub mod areas;

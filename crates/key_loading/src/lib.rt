@@ -1,4 +1,5 @@
-//! Loads the terminals of a machine with the keys of a script, and drops keys that lie in the past.
+//! Loads the terminals of a machine with the keys of a script, and takes from them all keys that
+//! are left.
 #![tactic(auto)]
 
 pub use keys::{KeysFault, drop_keys};

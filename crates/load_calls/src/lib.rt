@@ -1,5 +1,5 @@
-//! F$Load, and F$Fork and F$Chain of a program in a file, as calls of processes: the modules of a
-//! file, tried by all rules before one of them is entered into memory.
+//! F$Load, and F$Fork and F$Chain of a program in a file: the file is read whole, and its modules
+//! are tried by all rules before they are entered into memory as one group.
 #![tactic(auto)]
 
 pub mod chain;

@@ -1,4 +1,4 @@
-//! The top call: a command line, a host and devices in, a status out.
+//! The top call: a command line, a host and devices in, a status out; and the command `asm`.
 #![tactic(auto)]
 
 pub use command::do_asm;

@@ -1,5 +1,6 @@
-//! Laws of the runs of the machine: it never stops; without faults there is one run, unless
-//! clusters are taken; and a run whose keys are loaded while it goes is that of its script.
+//! Laws of the runs of the machine: there is one over every list of slices; two without faults are
+//! the same, unless clusters are taken; and a run whose keys are loaded while it goes on is that of
+//! its script.
 #![tactic(auto)]
 
 pub mod later;

@@ -1,4 +1,5 @@
-//! The command `stress`: a disk with programs that write and read files at once is made and booted.
+//! The command `stress`: a disk with programs that write and read files at once is made and booted;
+//! and laws: each of its boot files starts a machine.
 #![tactic(auto)]
 
 pub use stress::{StressEnd, run_stress};

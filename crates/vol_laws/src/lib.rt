@@ -1,5 +1,4 @@
-//! Laws of the tools for images, and of calls of the program for `vol` that follow one another on one
-//! image.
+//! Laws of lists of tools for volumes, and of calls of `vol` that follow one another on one image.
 #![tactic(auto)]
 
 pub mod commands;

@@ -1,5 +1,6 @@
-//! Tools for the images of disks: on a mounted volume they put, get, make, delete and list files by
-//! their paths; an image is repaired.
+//! Tools for volumes: files are put, got, deleted and listed and directories made by their paths,
+//! on a mounted volume or on the image in a drive; and the repair of an image, which frees its lost
+//! clusters.
 #![tactic(auto)]
 
 pub use fault::ToolFault;

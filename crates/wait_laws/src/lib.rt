@@ -1,5 +1,5 @@
-//! Laws of pending calls: the saved state of each belongs to the call its process is waiting in,
-//! and something is kept of each pending call on paths, in every state of a run.
+//! Laws of every state of a run: the saved state of a pending call belongs to the call its process
+//! is waiting in, and what paths refer to is there.
 #![tactic(auto)]
 
 pub mod kept;
