@@ -18,11 +18,12 @@ use Rattle.file_rules.specs.Memory.{LacksMemory}
 use Rattle.file_rules.specs.Step.{as_io, deed_of}
 use Rattle.file_rules.specs.declared.path_call.PathCall.{PathCall}
 use Rattle.file_state.specs.Attempt.{OnEach, Standing}
-use Rattle.file_state.specs.Counted.{AttemptsIn}
+use Rattle.file_state.specs.Counted.{AttemptsIn, AttemptsWithin}
 use Rattle.file_state.specs.Tie.{StandsFor}
 use Rattle.file_state.specs.declared.state.FileState.{FileState}
 use Rattle.touch_laws.specs.Devices.{device_call}
 use Rattle.file_dispatch.specs.Bounds.{attempt_calls}
+use Rattle.file_dispatch.specs.Dates.{IsTimeFor}
 
 -- ---- terminals and pipes
 
@@ -58,6 +59,18 @@ abbrev pub TriesFrom : PathCall → TimePacket → ℕ → CallEnd → List Term
     → Standing → Type 0
 TriesFrom call now p end terms terms_after before after =
     OnEach before (λ m was. Tries call m was now p end terms terms_after before after)
+
+-- a process tries a call in each such state, at each right time
+abbrev pub TriesAt : PathCall → TimePacket → ℕ → CallEnd → List TerminalState → List TerminalState → Standing
+    → Standing → Type 0
+TriesAt call now p end terms terms_after before after =
+    (time : TimePacket) → IsTimeFor call now time → TriesFrom call time p end terms terms_after before after
+
+-- a process attempts a call in each such state, at each right time, and leaves all terminals unchanged
+abbrev pub AttemptsAt : PathCall → TimePacket → ℕ → CallEnd → Standing → Standing → Type 0
+AttemptsAt call now p end before after =
+    (time : TimePacket) (terms : List TerminalState) → IsTimeFor call now time
+    → AttemptsWithin (attempt_calls call) call time p end terms terms before after
 
 -- a process tries each call that is this device call, at any time, on a machine with this number of drives
 abbrev pub TriesOnDevice : IoCall → ℕ → ℕ → CallEnd → List TerminalState → List TerminalState → Standing → Standing

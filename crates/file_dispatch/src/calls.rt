@@ -1,13 +1,12 @@
 //! The calls on paths, files and directories by their names.
 
 ghost use Rattle.std.specs.Prelude.{◌≡◌, vec_len};
-ghost use Rattle.file_dispatch.specs.Attempts.{MayAttempt, TriesFrom};
+ghost use Rattle.file_dispatch.specs.Attempts.{MayAttempt, TriesAt};
 ghost use Rattle.file_dispatch.specs.Calls.{kind_call};
-ghost use Rattle.file_dispatch.specs.Dates.{IsTimeFor, sets_date as sets_date_lem};
+ghost use Rattle.file_dispatch.specs.Dates.{sets_date as sets_date_lem};
 ghost use Rattle.file_drives.specs.Drives.{drive_views};
 ghost use Rattle.file_state.specs.Attempt.{standing};
 ghost use Rattle.file_state.specs.Tie.{IsSound};
-ghost use Rattle.os9_base.specs.declared.registers.TimePacket.{TimePacket};
 ghost use Rattle.os9_outer.specs.TerminalState.{terminal_states};
 ghost use Rattle.proc_rules.specs.Records.{IsLiving};
 
@@ -101,7 +100,7 @@ pub fn attempt(
     requires may { MayAttempt call s.old files.old p.0 (vec_len devices.old.terms) }
     requires sound { IsSound files.old
         (drive_views ⟦<dyn BlockDriver as BlockDriver>⟧ devices.old.drives.items) }
-    ensures call { (time : TimePacket) → IsTimeFor call now time → TriesFrom call time p.0 result
+    ensures call { TriesAt call now p.0 result
         (terminal_states ⟦<dyn CharDriver as CharDriver>⟧ devices.old.terms.items)
         (terminal_states ⟦<dyn CharDriver as CharDriver>⟧ devices.new.terms.items)
         (standing ⟦<dyn BlockDriver as BlockDriver>⟧ s.old files.old devices.old.drives.items)

@@ -1,13 +1,11 @@
 //! Calls on the number of a path.
 
 ghost use Rattle.std.specs.Prelude.{◌≡◌, vec_len};
-ghost use Rattle.file_dispatch.specs.Attempts.{MayAttempt, TriesFrom};
+ghost use Rattle.file_dispatch.specs.Attempts.{MayAttempt, TriesAt};
 ghost use Rattle.file_dispatch.specs.Numbers.{number_call};
-ghost use Rattle.file_dispatch.specs.Dates.{IsTimeFor};
 ghost use Rattle.file_drives.specs.Drives.{drive_views};
 ghost use Rattle.file_state.specs.Attempt.{standing};
 ghost use Rattle.file_state.specs.Tie.{IsSound};
-ghost use Rattle.os9_base.specs.declared.registers.TimePacket.{TimePacket};
 ghost use Rattle.os9_outer.specs.TerminalState.{terminal_states};
 ghost use Rattle.proc_rules.specs.Records.{IsLiving};
 
@@ -57,8 +55,7 @@ pub fn attempt_on_number(
     requires may { MayAttempt (number_call call) s.old files.old p.0 (vec_len devices.old.terms) }
     requires sound { IsSound files.old
         (drive_views ⟦<dyn BlockDriver as BlockDriver>⟧ devices.old.drives.items) }
-    ensures call { (time : TimePacket) → IsTimeFor (number_call call) now time
-        → TriesFrom (number_call call) time p.0 result
+    ensures call { TriesAt (number_call call) now p.0 result
         (terminal_states ⟦<dyn CharDriver as CharDriver>⟧ devices.old.terms.items)
         (terminal_states ⟦<dyn CharDriver as CharDriver>⟧ devices.new.terms.items)
         (standing ⟦<dyn BlockDriver as BlockDriver>⟧ s.old files.old devices.old.drives.items)

@@ -2,10 +2,9 @@
 
 ghost use Rattle.std.specs.Prelude.{◌≡◌, List, None, vec_len};
 ghost use Rattle.file_io.specs.Opened.{IsOpened};
-ghost use Rattle.file_dispatch.specs.Attempts.{TriesFrom};
+ghost use Rattle.file_dispatch.specs.Attempts.{AttemptsAt, TriesAt};
 ghost use Rattle.file_dispatch.specs.Bounds.{attempt_calls};
 ghost use Rattle.file_dispatch.specs.Uses.{call_of, device_of};
-ghost use Rattle.file_dispatch.specs.Dates.{IsTimeFor};
 ghost use Rattle.file_drives.specs.Drives.{DriveView, drive_views};
 ghost use Rattle.file_rules.specs.declared.path_call.PathCall.TheVariants as Call;
 ghost use Rattle.file_state.specs.Attempt.{standing};
@@ -54,8 +53,7 @@ pub fn use_path(
     requires may { MayAttempt (device_of call) s.old files.old.io p.0 (vec_len devices.old.terms) }
     requires sound { IsSound files.old
         (drive_views ⟦<dyn BlockDriver as BlockDriver>⟧ devices.old.drives.items) }
-    ensures call { (time : TimePacket) → IsTimeFor (call_of call) now time
-        → TriesFrom (call_of call) time p.0 result
+    ensures call { TriesAt (call_of call) now p.0 result
         (terminal_states ⟦<dyn CharDriver as CharDriver>⟧ devices.old.terms.items)
         (terminal_states ⟦<dyn CharDriver as CharDriver>⟧ devices.new.terms.items)
         (standing ⟦<dyn BlockDriver as BlockDriver>⟧ s.old files.old devices.old.drives.items)
@@ -87,9 +85,7 @@ fn use_file(
         (drive_views ⟦<dyn BlockDriver as BlockDriver>⟧ devices.old.drives.items) }
     requires opened { IsOpened files.old p.0
         (path_number (device_of call) (record_at s.old.table p.0).regs) opened.now }
-    ensures call { (time : TimePacket) (terms : List TerminalState)
-        → IsTimeFor (call_of call) now time
-        → AttemptsWithin (attempt_calls (call_of call)) (call_of call) time p.0 result terms terms
+    ensures call { AttemptsAt (call_of call) now p.0 result
         (standing ⟦<dyn BlockDriver as BlockDriver>⟧ s.old files.old devices.old.drives.items)
         (standing ⟦<dyn BlockDriver as BlockDriver>⟧ s.new files.new devices.new.drives.items) }
     ensures lives { IsLiving s.new.table p.0 }
