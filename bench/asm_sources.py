@@ -1,12 +1,12 @@
 """The sources of bench/asm.sh, each with its answer.
 
 The answer is the line and the number of the error if the source is refused. Otherwise it is the module that
-crates/proc_vectors/assemble.py makes of it, an assembler that shares nothing with os9."""
+crates/boot_vectors/assemble.py makes of it, an assembler that shares nothing with os9."""
 
 import os
 import sys
 
-sys.path.append(os.path.join(os.path.dirname(os.path.abspath(__file__)), "..", "crates", "proc_vectors"))
+sys.path.append(os.path.join(os.path.dirname(os.path.abspath(__file__)), "..", "crates", "boot_vectors"))
 
 from assemble import assemble
 

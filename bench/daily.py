@@ -11,7 +11,7 @@ import sys
 import tempfile
 
 TOP = os.path.dirname(os.path.dirname(os.path.abspath(__file__)))
-sys.path[:0] = [os.path.join(TOP, "bench"), os.path.join(TOP, "crates", "proc_vectors")]
+sys.path[:0] = [os.path.join(TOP, "bench"), os.path.join(TOP, "crates", "boot_vectors")]
 
 from assemble import assemble
 from disk_speed import descriptor, name_field

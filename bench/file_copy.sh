@@ -9,7 +9,7 @@ folder=$(mktemp -d) || exit 1
 trap 'rm -rf "$folder"' EXIT
 cd "$folder" || exit 1
 
-python3 "$top/crates/proc_vectors/assemble.py" "$top/bench/copy.asm" copy.mod || exit 1
+python3 "$top/crates/boot_vectors/assemble.py" "$top/bench/copy.asm" copy.mod || exit 1
 echo "# no key" >script
 echo "1000000*10" >slices
 

@@ -126,7 +126,7 @@ keys() {
 }
 
 assemble() {
-    python3 "$top/crates/proc_vectors/assemble.py" "$1" "$2" || exit 1
+    python3 "$top/crates/boot_vectors/assemble.py" "$1" "$2" || exit 1
 }
 
 # The host instructions of a run of a file of modules over these slices, with these words besides.

@@ -7,7 +7,7 @@ parity and the CRC are those of the OS-9 System Programmer's Manual, "Memory mod
 import pathlib
 import sys
 
-sys.path.insert(0, str(pathlib.Path(__file__).resolve().parent.parent / "crates" / "proc_vectors"))
+sys.path.insert(0, str(pathlib.Path(__file__).resolve().parent.parent / "crates" / "boot_vectors"))
 
 from assemble import crc  # noqa: E402
 

@@ -44,7 +44,7 @@ host_instructions() {
 
 printf '%-12s %24s %24s\n' processes 'a slice' 'an instruction'
 for guest in one all; do
-    python3 "$top/crates/proc_vectors/assemble.py" "$folder/$guest.asm" "$folder/$guest.mod" || exit 1
+    python3 "$top/crates/boot_vectors/assemble.py" "$folder/$guest.asm" "$folder/$guest.mod" || exit 1
     few=$(host_instructions $guest "1*1000") || exit 1
     many=$(host_instructions $guest "1*2000") || exit 1
     long=$(host_instructions $guest "1*999 1000000") || exit 1

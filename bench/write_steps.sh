@@ -63,7 +63,7 @@ next    inc     <8
         os9     $06
         emod
 END
-python3 "$top/crates/proc_vectors/assemble.py" guest.asm guest.mod || exit 1
+python3 "$top/crates/boot_vectors/assemble.py" guest.asm guest.mod || exit 1
 mkdir d old new newer
 python3 "$top/bench/make_image.py" old/0 512 guest.mod || exit 1
 for n in 1 2 3; do python3 "$top/bench/make_image.py" "old/$n" 512 || exit 1; done

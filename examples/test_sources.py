@@ -5,7 +5,7 @@ import sys
 import unittest
 
 FOLDER = os.path.dirname(os.path.abspath(__file__))
-sys.path.append(os.path.join(FOLDER, "..", "crates", "proc_vectors"))
+sys.path.append(os.path.join(FOLDER, "..", "crates", "boot_vectors"))
 
 from assemble import assemble
 

@@ -1,8 +1,9 @@
 #!/usr/bin/env python3
-"""choose_rows.py FILE COUNT NUMBER.. chooses so many of the rows of FILE, so that each answer of each call comes in
-some of them where it comes at all: the first 60 of the stdin of this crate, with the count 60; worked_rows.py makes
-those behind them, then come each fifth of another list, and last those of example_rows.py. The rows of these numbers, from 1, are among them: 1, 25 and 157, in which a process ends by a
-signal while it reads or writes, as no line tells.
+"""choose_rows.py FILE COUNT NUMBER.. chooses COUNT of the rows of FILE, so that each answer of each call that occurs
+in FILE occurs in one of them. The rows of these numbers, from 1, are among them. With the count 60 and the numbers 1,
+25 and 157, in which a process ends by a signal while it reads or writes, it made the first 60 rows of programs and
+trees of the stdin of this crate. worked_rows.py makes those behind them; then follow each fifth of another list, and
+last those of example_rows.py.
 
 src/row.rt has the fields of a row. Its programs write a line of 24 hexadecimal digits after most calls: a tag, the
 process, and then CC, A, B, DP, X, Y and U. In the program the tag stands before the call, as LDA #tag and STA <0,

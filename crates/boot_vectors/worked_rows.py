@@ -5,13 +5,9 @@ a worn volume, clusters of four sectors, a newer revision of a module, a floppy,
 The images are laid out here, sector by sector (docs/disk.md), and what is expected is said here too, by docs/calls.md:
 neither shares text with the program. src/row.rt has the fields of a row."""
 
-import sys
-from pathlib import Path
-
-sys.path.insert(0, str(Path(__file__).parents[1] / "proc_vectors"))
-from assemble import assemble, crc  # noqa: E402
-from routines import ANSWER  # noqa: E402
-from terminal_rows import EXIT, SHOW  # noqa: E402
+from assemble import assemble, crc
+from routines import ANSWER
+from terminal_rows import EXIT, SHOW
 
 SECTOR = 256
 ROOT = 2  # the descriptor of a root behind a map of one sector; its sectors are behind it

@@ -29,7 +29,7 @@ impl fmt::Display for Difference {
 
 /// The first run of a row that shows something else than the row says, if there is one.
 pub(crate) fn first_difference(alloc: Global, row: &Row) -> Result<Option<Difference>, AllocError> {
-    match &row.failing {
+    match &row.drives {
         Failing::Calls(calls) => {
             let shown = run(alloc, row, &Plan::Calls(calls))?;
             Ok(if shown.is_as(row) {

@@ -22,7 +22,7 @@ pub(crate) struct FailingCall {
     planned: PlannedFault,
 }
 
-/// What fails in the runs of a row.
+/// The failing calls of drives in the runs of a row.
 #[derive(Debug, Drop)]
 pub(crate) enum Failing {
     /// These calls of drives, in one run.
@@ -32,6 +32,11 @@ pub(crate) enum Failing {
 }
 
 impl Failing {
+    /// No call fails.
+    pub(crate) fn nothing(alloc: Global) -> Failing {
+        Failing::Calls(Vec::new(alloc))
+    }
+
     /// The meaning of a field such as `D1 1 244,D0 7 245`: the drive, the number of the call among
     /// the reads and writes of that drive, from 1, and the number of its fault; or such as
     /// `stops D0`.

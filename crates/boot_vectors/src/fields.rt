@@ -6,9 +6,16 @@ use thiserror::Error;
 /// The bytes of the longest image that a row may have: those of a volume of the most sectors.
 const MOST_BYTES: usize = 134_217_728;
 
+/// The greatest number of times that bytes are repeated in a field.
+const MOST_TIMES: usize = 1_000_001;
+
 /// Why a line is not a row.
 #[derive(Clone, Copy, Debug, PartialEq, Eq, Error)]
 pub(crate) enum RowError {
+    #[error("a heading is bad")]
+    BadHeading,
+    #[error("a row is above the first heading")]
+    NoHeading,
     #[error("a field is missing")]
     Missing,
     #[error("a field is left over")]
@@ -70,6 +77,11 @@ impl<'a> Fields<'a> {
         self.text()
     }
 
+    /// The same as a string.
+    pub(crate) fn string(&mut self, alloc: Global) -> Result<String, RowError> {
+        Ok(String::from_str(alloc, self.text()?)?)
+    }
+
     /// The next field as a decimal number below 256.
     pub(crate) fn byte(&mut self) -> Result<u8, RowError> {
         number(self.text()?.parse::<u8>().ok())
@@ -80,9 +92,41 @@ impl<'a> Fields<'a> {
         number(self.text()?.parse::<u16>().ok())
     }
 
-    /// The next field as bytes of two hexadecimal digits each.
+    /// The next field as bytes (`pieces`).
     pub(crate) fn bytes(&mut self, alloc: Global) -> Result<Vec<u8>, RowError> {
-        bytes(alloc, self.text()?)
+        pieces(alloc, self.text()?)
+    }
+
+    /// The same of a field that may be missing.
+    pub(crate) fn last_bytes(&mut self, alloc: Global) -> Result<Vec<u8>, RowError> {
+        pieces(alloc, self.last_text()?)
+    }
+
+    /// The next field as lines with `;` between them. Each gets a line feed at its end.
+    pub(crate) fn lines(&mut self, alloc: Global) -> Result<Vec<u8>, RowError> {
+        let field = self.text()?;
+        let mut all = Vec::new(alloc);
+        if field.is_empty() {
+            return Ok(all);
+        }
+        for byte in field.as_bytes() {
+            all.push(if *byte == b';' { b'\n' } else { *byte })?;
+        }
+        all.push(b'\n')?;
+        Ok(all)
+    }
+
+    /// The next field, which may be missing, as decimal numbers such as `5,2`.
+    pub(crate) fn last_numbers(&mut self, alloc: Global) -> Result<Vec<u64>, RowError> {
+        let field = self.last_text()?;
+        let mut numbers = Vec::new(alloc);
+        if field.is_empty() {
+            return Ok(numbers);
+        }
+        for word in field.split(',') {
+            numbers.push(number(word.parse::<u64>().ok())?)?;
+        }
+        Ok(numbers)
     }
 
     /// The next field as an image, if it is not empty.
@@ -106,6 +150,30 @@ impl<'a> Fields<'a> {
 /// The number, if there is one.
 fn number<T: Drop>(parsed: Option<T>) -> Result<T, RowError> {
     parsed.ok_or(RowError::BadNumber)
+}
+
+/// The bytes of a field. Its pieces are separated by commas; a piece `DIGITS*N` is its bytes N times.
+fn pieces(alloc: Global, field: &str) -> Result<Vec<u8>, RowError> {
+    let mut all = Vec::new(alloc);
+    for piece in field.split(',') {
+        let (digits, times) = match piece.split_once('*') {
+            Some((digits, times)) => (digits, number(times.parse::<usize>().ok())?),
+            None => (piece, 1),
+        };
+        push_times(&mut all, &bytes(alloc, digits)?, times)?;
+    }
+    Ok(all)
+}
+
+/// Appends bytes to others this number of times.
+fn push_times(all: &mut Vec<u8>, bytes: &[u8], times: usize) -> Result<(), RowError> {
+    if times > MOST_TIMES {
+        return Err(RowError::BadNumber);
+    }
+    for _ in 0..times {
+        all.extend_from_slice(bytes)?;
+    }
+    Ok(())
 }
 
 /// The bytes of hexadecimal digits.

@@ -1,6 +1,7 @@
-//! Runs guest programs whose end is known from elsewhere, with or without disk images, one a line,
-//! and prints the number of programs and the number of differences. A line that begins with `#`
-//! names the lines after it.
+//! Runs command lines whose end is known from elsewhere, one a line: guest programs, guest programs
+//! whose images are compared afterwards, and sessions of the debugger. A line such as
+//! `= sessions` is above the rows of its sort, and behind them the program prints their number and
+//! the number of differences. A line that begins with `#` names the lines after it.
 #![tactic(auto)]
 
 mod answering;
@@ -9,30 +10,39 @@ mod disk;
 mod failing;
 mod fields;
 mod row;
+mod section;
 mod shown;
 mod stop;
+mod terminals;
 mod tree;
 
 use anyhow::Result;
-use difference::first_difference;
-use row::Row;
+use fields::RowError;
+use section::{Section, Sort};
 use std::io::{BufRead, BufReader};
 
 fn main(rt: HostRuntime) -> Result<()> {
-    let mut rows: u64 = 0;
-    let mut differ: u64 = 0;
+    let mut now: Option<Section> = None;
     for line in BufReader::new(rt.alloc(), rt.reader())?.lines(rt.alloc()) {
         let line = line?;
         if line.as_str().starts_with('#') {
             continue;
         }
-        let row = Row::parse(rt.alloc(), line.as_str())?;
-        rows = rows.saturating_add(1);
-        if let Some(difference) = first_difference(rt.alloc(), &row)? {
-            differ = differ.saturating_add(1);
-            println!(rt; "differs: line {rows}{difference}")?;
+        if let Some(name) = line.as_str().strip_prefix("= ") {
+            if let Some(section) = now {
+                println!(rt; "{section}")?;
+            }
+            now = Some(Section::new(Sort::named(name)?));
+            continue;
         }
+        let mut section = now.ok_or(RowError::NoHeading)?;
+        if let Some(difference) = section.compare(rt.alloc(), line.as_str())? {
+            println!(rt; "differs: line {}{difference}", section.rows())?;
+        }
+        now = Some(section);
     }
-    println!(rt; "{rows} programs, {differ} differ")?;
+    if let Some(section) = now {
+        println!(rt; "{section}")?;
+    }
     Ok(())
 }

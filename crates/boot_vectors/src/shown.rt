@@ -1,8 +1,10 @@
 ghost use Rattle.boot_images.specs.Drives.{HaveRoom};
+ghost use Rattle.boot_images.specs.Ready.{AreFree};
+ghost use Rattle.os9_kernel.specs.Outside.{outside};
 ghost use Rattle.file_drives.specs.Drives.{drive_views};
-ghost use Rattle.key_loading.specs.Loaded.{AreUnloaded};
+ghost use Rattle.key_loading.specs.Loaded.{HasNoKeys};
 ghost use Rattle.os9_outer.specs.TerminalState.{terminal_states};
-ghost use Rattle.std.specs.Prelude.{◌≡◌, true, bytes_eq};
+ghost use Rattle.std.specs.Prelude.{◌≡◌, ◌+◌, true, All, OnOk, bytes_eq, length, []};
 ghost use Rattle.std.specs.Bool.{OnTrue};
 
 use crate::answering::are_answering;
@@ -10,12 +12,12 @@ use crate::disk::Disk;
 use crate::failing::Plan;
 use crate::row::Row;
 use crate::stop::is_stop_of;
+use crate::terminals::terminal;
 use device_table::devices::Devices;
 use os9_boot::{add_drive, os9_main};
 use os9_outer::drive::BlockDriver;
 use os9_outer::host_file::HostFile;
 use os9_outer::mem_host::MemHost;
-use os9_outer::sure_tty::SureTty;
 use os9_outer::terminal::CharDriver;
 use std::alloc::{AllocError, Global};
 
@@ -100,7 +102,8 @@ impl Shown {
 }
 
 /// Runs the words of a row over a host in memory that has its files, on four drives without an
-/// image, with these failing calls, and on four terminals.
+/// image, with these failing calls, and on four terminals. Calls of the terminals and of the host
+/// fail as the row says.
 pub(crate) fn run(alloc: Global, row: &Row, plan: &Plan<'_>) -> Result<Shown, AllocError> {
     let mut drives: Vec<Box<dyn BlockDriver>> = Vec::new(alloc);
     add_drive(&mut drives, Box::new(alloc, plan.drive(alloc, 0)?)?)?;
@@ -118,23 +121,39 @@ fn run_with(
 ) -> Result<Shown, AllocError>
     requires { HaveRoom 4 (drive_views ⟦<dyn BlockDriver as BlockDriver>⟧ drives.items) }
 {
-    let mut terms: Vec<Box<dyn CharDriver>> = Vec::new(alloc);
-    terms.push(Box::new(alloc, SureTty::new(alloc))?)?;
-    terms.push(Box::new(alloc, SureTty::new(alloc))?)?;
-    terms.push(Box::new(alloc, SureTty::new(alloc))?)?;
-    terms.push(Box::new(alloc, SureTty::new(alloc))?)?;
+    let calls = row.terminals.as_slice();
+    let mut terms = Vec::new(alloc);
+    add_terminal(&mut terms, Box::new(alloc, terminal(alloc, calls, 0)?)?)?;
+    add_terminal(&mut terms, Box::new(alloc, terminal(alloc, calls, 1)?)?)?;
+    add_terminal(&mut terms, Box::new(alloc, terminal(alloc, calls, 2)?)?)?;
+    add_terminal(&mut terms, Box::new(alloc, terminal(alloc, calls, 3)?)?)?;
     run_on(alloc, row, Devices { drives, terms })
+}
+
+/// Appends a terminal without keys.
+fn add_terminal(
+    terms: &mut Vec<Box<dyn CharDriver>>,
+    term: Box<dyn CharDriver>,
+) -> Result<(), AllocError>
+    requires keys { All HasNoKeys
+        (terminal_states ⟦<dyn CharDriver as CharDriver>⟧ terms.old.items) }
+    requires term { keys_left term ≡ [] }
+    ensures keys { OnOk result
+        (All HasNoKeys (terminal_states ⟦<dyn CharDriver as CharDriver>⟧ terms.new.items)) }
+    ensures count { OnOk result (length terms.new.items ≡ length terms.old.items + 1) }
+{
+    terms.push(term)?;
+    Ok(())
 }
 
 /// The same on these devices.
 fn run_on(alloc: Global, row: &Row, devices: Devices) -> Result<Shown, AllocError>
-    requires terminals { AreUnloaded
-        (terminal_states ⟦<dyn CharDriver as CharDriver>⟧ devices.terms.items) }
-    requires room { HaveRoom 4
-        (drive_views ⟦<dyn BlockDriver as BlockDriver>⟧ devices.drives.items) }
+    requires { AreFree 4 (outside ⟦<dyn BlockDriver as BlockDriver>⟧ devices.drives.items
+        ⟦<dyn CharDriver as CharDriver>⟧ devices.terms.items) }
 {
     let words = words(alloc, row)?;
-    let mut host = MemHost::new(alloc, files(alloc, row)?, Vec::new(alloc));
+    let failing = Vec::from_slice(alloc, row.host.as_slice())?;
+    let mut host = MemHost::new(alloc, files(alloc, row)?, failing);
     let mut devices = devices;
     let status = os9_main(alloc, words.as_slice(), &mut host, &mut devices);
     Ok(Shown {
@@ -158,14 +177,20 @@ fn words(alloc: Global, row: &Row) -> Result<Vec<String>, AllocError> {
 
 /// The files of a row, by the names that its words give them.
 fn files(alloc: Global, row: &Row) -> Result<Vec<HostFile>, AllocError> {
-    let mut files = Vec::new(alloc);
-    files.push(file(alloc, "modules", row.modules.as_slice())?)?;
-    files.push(file(alloc, "slices", row.slices.as_slice())?)?;
-    files.push(file(alloc, "script", row.script.as_slice())?)?;
+    let mut files = copies(alloc, row.files.as_slice())?;
     for disk in row.disks.as_slice() {
         files.push(file(alloc, disk.name.as_str(), disk.image.as_slice())?)?;
     }
     Ok(files)
+}
+
+/// The same files once more.
+fn copies(alloc: Global, files: &[HostFile]) -> Result<Vec<HostFile>, AllocError> {
+    let mut copies = Vec::new(alloc);
+    for it in files {
+        copies.push(file(alloc, it.name.as_str(), it.bytes.as_slice())?)?;
+    }
+    Ok(copies)
 }
 
 fn file(alloc: Global, name: &str, bytes: &[u8]) -> Result<HostFile, AllocError> {

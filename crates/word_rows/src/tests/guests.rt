@@ -45,7 +45,7 @@ fn first_slices(rt: HostRuntime) -> Result<(), Fail> {
 }
 
 /// The header and the name of the shell's module. With its CRC and its length they are those of
-/// `examples/shell.mod`, which `crates/proc_vectors/assemble.py` makes from the same text. That
+/// `examples/shell.mod`, which `crates/boot_vectors/assemble.py` makes from the same text. That
 /// assembler shares nothing with this one.
 const SHELL_HEAD: [u8; 18] = [
     0x87, 0xcd, 0x00, 0x6e, 0x00, 0x0d, 0x11, 0x81, 0x46, 0x00, 0x12, 0x00, 0xc8, 0x53, 0x79, 0x73,

@@ -7,6 +7,6 @@ pub os9_main-status-requires : goal.os9_main-status-requires
 os9_main-status-requires g c = record {
   devices = record {
     terminals = c.requires.terminals;
-    room = has-drives (map string_bytes c.as_slice.result.now) _ c.requires.room;
+    room = has-drives (map string_bytes c.as_slice-2.result.now) _ c.requires.room;
   };
 }

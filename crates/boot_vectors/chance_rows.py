@@ -1,6 +1,6 @@
 #!/usr/bin/env python3
 """chance_rows.py SEED COUNT makes so many rows, as terminal_rows.py does, of programs, keys and faults of terminals
-that are chosen by chance."""
+that are chosen by chance, below their heading."""
 
 import random
 import sys
@@ -49,6 +49,7 @@ def chance_keys(by):
 
 def main(seed, count):
     by = random.Random(seed)
+    print("= programs")
     for _ in range(count):
         chosen = [name for name in NAMES[:3] if by.random() < 0.6]
         failing = {name: sorted({by.randint(1, 45) for _ in range(by.randint(1, 4))}) for name in chosen}

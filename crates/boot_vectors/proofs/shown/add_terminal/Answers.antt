@@ -1,6 +1,6 @@
 use Rattle.key_loading.specs.Loaded.{HasNoKeys}
-use Rattle.debug_vectors.proofs.Devices.{one-more}
-use Rattle.debug_vectors.proofs.shown.add_terminal.Goals as goal
+use Rattle.boot_vectors.proofs.Devices.{one-more}
+use Rattle.boot_vectors.proofs.shown.add_terminal.Goals as goal
 
 pub returns-clause-keys : goal.returns-clause-keys
 returns-clause-keys g c =

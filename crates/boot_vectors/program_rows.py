@@ -1,6 +1,6 @@
 #!/usr/bin/env python3
-"""Makes the last rows of the stdin of this crate: the programs of examples/ that no other row runs, and a disk whose
-program leaves it as it was. What is expected is what examples/README.md says. src/row.rt has the fields of a row."""
+"""Makes the last rows of programs of the stdin of this crate: those of examples/ that no other row runs, and a disk
+whose program leaves it as it was. What is expected is what examples/README.md says. src/row.rt has the fields."""
 
 from pathlib import Path
 

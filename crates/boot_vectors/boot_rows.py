@@ -1,5 +1,5 @@
 #!/usr/bin/env python3
-"""Makes the first rows of the stdin of this crate: boot files, and what `run` answers to each.
+"""Makes the first rows of programs of the stdin of this crate: boot files, and what `run` answers to each.
 
 This is a reading of its own of the rules for boot files (docs/machine.md, "Modules" and "The
 start"): it shares no text with the program. src/row.rt has the fields of a row."""
