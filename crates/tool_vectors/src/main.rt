@@ -1,7 +1,11 @@
 //! Uses tools on disk images for which their answers and results are known from elsewhere, one list
-//! per line, and prints the number of commands and the number that differ.
+//! per line, and checks images for which the answer of a check is known, one on each line that
+//! begins with `check`. It prints the number of commands, the number of images, and of each the
+//! number that differ.
 #![tactic(auto)]
 
+mod change;
+mod checks;
 mod command;
 mod fields;
 mod files;
@@ -10,6 +14,7 @@ mod used;
 mod words;
 
 use anyhow::Result;
+use checks::{Checks, compare};
 use command::differs;
 use fields::RowError;
 use files::Files;
@@ -31,21 +36,32 @@ fn main(rt: HostRuntime) -> Result<()> {
         differ: 0,
         passed_over: 0,
     };
+    let mut checks = Checks {
+        images: 0,
+        differ: 0,
+    };
     for line in BufReader::new(rt.alloc(), rt.reader())?.lines(rt.alloc()) {
         let line = line?;
-        let before = counts.differ;
-        run_row(rt.alloc(), line.as_str(), &mut counts)?;
-        if counts.differ != before {
-            println!(rt;
-                "differs: row {}",
-                line.as_str().split('\t').next().unwrap_or("")
-            )?;
+        match line.as_str().strip_prefix("check\t") {
+            Some(row) => compare(&rt, row, &mut checks)?,
+            None => compare_list(&rt, line.as_str(), &mut counts)?,
         }
     }
     println!(rt;
         "{} commands, {} differ, {} passed over",
         counts.run, counts.differ, counts.passed_over
     )?;
+    println!(rt; "{} images, {} differ", checks.images, checks.differ)?;
+    Ok(())
+}
+
+// Runs the commands of a row, and prints its number if one of them differs.
+fn compare_list(rt: &HostRuntime, line: &str, counts: &mut Counts) -> Result<()> {
+    let before = counts.differ;
+    run_row(rt.alloc(), line, counts)?;
+    if counts.differ != before {
+        println!(rt; "differs: row {}", line.split('\t').next().unwrap_or(""))?;
+    }
     Ok(())
 }
 

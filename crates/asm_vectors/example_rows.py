@@ -26,7 +26,7 @@ def main():
         for name, module in zip(names, modules(file.read_bytes()), strict=True):
             assert stored.setdefault(name, module) == module
     for name, module in sorted(stored.items()):
-        print(name, module.hex(), (EXAMPLES / f"{name}.asm").read_bytes().hex(), sep="\t")
+        print("source", name, module.hex(), (EXAMPLES / f"{name}.asm").read_bytes().hex(), sep="\t")
 
 
 if __name__ == "__main__":

@@ -1,5 +1,5 @@
 ghost use Rattle.std.specs.Prelude.{◌≡◌, Some, None, OnOk, OnErr};
-ghost use Rattle.image_vectors.specs.Changes.{changed_image};
+ghost use Rattle.tool_vectors.specs.Changes.{changed_image};
 
 use thiserror::Error;
 

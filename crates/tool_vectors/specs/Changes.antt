@@ -1,7 +1,7 @@
 -- Images with one change (this project's own).
 use Rattle.std.specs.Prelude.{ℕ, nat_lt, nat_le, Option, Some, None, List, length, take, set, if◌then◌else◌}
-use Rattle.image_vectors.specs.declared.change.Change.{Change}
-use Rattle.image_vectors.specs.declared.change.Change.TheVariants.{Byte, Cut}
+use Rattle.tool_vectors.specs.declared.change.Change.{Change}
+use Rattle.tool_vectors.specs.declared.change.Change.TheVariants.{Byte, Cut}
 
 -- an image after a change, if it is long enough
 abbrev pub changed_image : Change → List ℕ → Option (List ℕ)
