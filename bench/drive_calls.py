@@ -11,7 +11,7 @@ from collections import Counter
 NAMES = {
     "SureDriveBlockDriver::read": "reads of a drive",
     "SureDriveBlockDriver::write": "writes of a drive",
-    "Volume::load": "sectors loaded, from the cache or the drive",
+    "Volume::bring": "sectors brought, from the cache or the drive",
     "Volume::store": "sectors stored, in the cache and the drive",
 }
 

@@ -34,7 +34,9 @@ cp "$folder/old" "$image"
     trap '' XFSZ
     boot "$image"
 )
-echo "under a limit: status $?"
+ended=$?
+echo "under a limit: status $ended"
+[ $ended = 3 ] || exit 1
 is_one_of "under a limit" "$image" old
 is_alone "under a limit"
 
@@ -93,4 +95,6 @@ rm "$image.os9-1" "$image"
 mkfifo "$image"
 cat "$folder/old" >"$image" &
 timeout 120 "$top/os9" boot "$image" --script "$top/examples/log.keys" --slices "$top/examples/log.slices" >/dev/null 2>&1
-echo "a FIFO: status $?"
+ended=$?
+echo "a FIFO: status $ended"
+[ $ended = 3 ] || exit 1

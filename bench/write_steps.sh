@@ -168,7 +168,9 @@ chmod a+rw "${images[0]}"
 as_other=()
 if [ "$(id -u)" = 0 ]; then as_other=(setpriv --reuid=65534 --clear-groups); fi
 "${as_other[@]}" "$program" boot "${images[@]}" --script script --slices slices >/dev/null 2>&1
-echo "a folder that may not be written: status $?"
+ended=$?
+echo "a folder that may not be written: status $ended"
+[ $ended = 3 ] || exit 1
 are_whole "a folder that may not be written" old
 chmod u+w d
 
@@ -176,5 +178,7 @@ lay_out 1
 long=d/$(printf 'n%.0s' $(seq 252))
 mv "${images[0]}" "$long"
 "$program" boot "$long" --script script --slices slices >/dev/null 2>&1
-echo "a name that is too long for a new file's: status $?"
+ended=$?
+echo "a name that is too long for a new file's: status $ended"
+[ $ended = 3 ] || exit 1
 cmp -s old/0 "$long" || { echo "a name that is too long: the image is not whole" && exit 1; }
