@@ -1,0 +1,275 @@
+-- A boot at whose machine a person types.
+use Rattle.std.proofs.Common.{◌≡◌, ◌⊎◌, ℕ, Bool, true, false, Option, Some, None, List, length, refl, sym, ap, subst, ◌∙◌, inl, inr, All}
+use Rattle.std.specs.Prelude.{IfSome}
+use Rattle.os9_outer.specs.Host.{Files, IfObserved}
+use Rattle.event_rules.specs.declared.ends.BootFault.{BootFault}
+use Rattle.event_rules.specs.declared.ends.BootFault.TheVariants.{OutOfMemory, BadModule as BadModuleFault, NoFirst as NoFirstFault, TooLarge as TooLargeFault}
+use Rattle.file_drives.specs.Drives.{drive_states}
+use Rattle.machine_model.specs.State.{State}
+use Rattle.os9_kernel.specs.Outside.{Outside}
+use Rattle.os9_words.specs.declared.command.RunWords.{RunWords}
+use Rattle.boot_images.specs.BootFile.{IsBootFile, IsFirstFault, IsVolume}
+use Rattle.boot_images.specs.Images.{WritesAll, WritesUpTo, images_of}
+use Rattle.boot_run.specs.Console.{IsObserved}
+use Rattle.boot_run.specs.Machine.{Setup}
+use Rattle.boot_run.specs.World.{World, HasNoFault}
+use Rattle.boot_run.specs.declared.machine.RunEnd.{RunEnd}
+use Rattle.boot_run.specs.declared.machine.RunEnd.TheVariants as Run
+use Rattle.command_files.proofs.ChangeLemmas.{same-changes}
+use Rattle.command_files.specs.End.{boot_end, run_file_name}
+use Rattle.command_files.specs.Fails.{FailsAsTold}
+use Rattle.command_files.specs.Stops.{StopsAtRead}
+use Rattle.command_files.specs.declared.status.End.{End}
+use Rattle.command_files.specs.declared.status.End.TheVariants.{Ended, Living, CannotRead, CannotWrite, CannotWriteImage, NoMemory, BadImage, BadText, BadBounds, CannotWriteFile, Refused, BadSource, TerminalFailed}
+use Rattle.os9_boot.specs.Boots.{MachineComesTo}
+use Rattle.os9_boot.specs.Images.{LackBootFile, RefusesImages}
+use Rattle.os9_boot.specs.BootLeft.{LeavesDevices}
+use Rattle.os9_boot.specs.Written.{EndsBoot, StopsAt, WritesBack}
+use Rattle.os9_boot.proofs.BootCallLemmas.{kept-counts, still-silent, still-undone}
+use Rattle.os9_boot.proofs.MachineLemmas.{EndsSo, IsOfMachine, RunFails, machine-ends}
+use Rattle.session_text.specs.Typed.{kept_keys, kept_slices}
+use Rattle.session_text.specs.declared.typed.Typed.{Typed}
+use Rattle.console_run.specs.Keyboard.{KeyboardState}
+use Rattle.console_run.specs.Session.{AsksKeyboard, HasSession, IsSessionTo, StopsSession}
+use Rattle.console_run.specs.TypedTurn.{TypedTurn}
+use Rattle.console_run.specs.declared.session.SessionEnd.TheVariants.{LineLost, OfRun}
+use Rattle.console_run.specs.declared.turns.Stop.{Stop}
+use Rattle.console_boot.specs.Call.{ConsoleCall, ConsoleComesTo, ConsoleMayEnd, EndsAsSession, EndsUnwritten, LeavesKeyboard, MachineIsSession, SetsUpSession, WasSession}
+use Rattle.console_boot.specs.Images.{LeavesSession, RunsConsole}
+
+-- ---- ends before a machine ran
+
+-- memory was out
+pub out-of-memory : (boot : RunWords) (typed : Typed) (from to : KeyboardState) (before after : World) → after ≡ before → ConsoleCall boot typed NoMemory from to before after
+out-of-memory boot typed from to before after same = record {
+  comes = by before.files;
+  may = tt;
+  keyboard = tt;
+  devices = tt;
+  host = kept-counts before after same;
+  files = same-changes boot.files before.files after.files (λ i. (same i).files);
+}
+  where
+    by : (files : Option Files) → IfSome files (λ files. ConsoleComesTo files boot typed from to before after NoMemory)
+    by None = tt
+    by (Some files) = inl (still-undone before after same)
+
+-- an image could not be read, or memory was out
+pub console-stopped : (boot : RunWords) (typed : Typed) (keyboard : KeyboardState) (before after : World) (end : End) → StopsAtRead (run_file_name boot) before after end → ConsoleCall boot typed end keyboard keyboard before after
+console-stopped boot typed keyboard before after (CannotRead input) (name, named, it) = record {
+  comes = by before.files;
+  may = tt;
+  keyboard = refl;
+  devices = record { out = it.out; devices = it.devices };
+  host = (name, named, it.failed);
+  files = it.files;
+}
+  where
+    by : (files : Option Files) → IfSome files (λ files. ConsoleComesTo files boot typed keyboard keyboard before after (CannotRead input))
+    by None = tt
+    by (Some files) = tt
+console-stopped boot typed keyboard before after NoMemory same = out-of-memory boot typed keyboard keyboard before after same
+console-stopped boot typed keyboard before after end stops = absurd stops
+
+-- what follows of the images that were read
+of-files : (told : Option Files) (boot : RunWords) (images : List (List ℕ)) (fact : Files → Type 0) → IfSome told (λ files. images ≡ images_of files boot.files) → ((files : Files) → images ≡ images_of files boot.files → fact files) → IfSome told fact
+of-files None boot images fact has follows = tt
+of-files (Some files) boot images fact has follows = follows files has
+
+-- the images were refused
+pub console-refused : (boot : RunWords) (typed : Typed) (keyboard : KeyboardState) (before after : World) (end : End) (images : List (List ℕ)) → after ≡ before → IfSome before.files (λ files. images ≡ images_of files boot.files) → RefusesImages images end → ConsoleCall boot typed end keyboard keyboard before after
+console-refused boot typed keyboard before after (BadImage number fault) images same has refused = record {
+  comes = of-files before.files boot images (λ files. ConsoleComesTo files boot typed keyboard keyboard before after (BadImage number fault)) has (λ files is. subst (λ images. IsFirstFault images number fault) is refused);
+  may = tt;
+  keyboard = refl;
+  devices = still-silent before after same;
+  host = kept-counts before after same;
+  files = λ i. (same i).files;
+}
+console-refused boot typed keyboard before after BadBounds images same has refused = record {
+  comes = of-files before.files boot images (λ files. ConsoleComesTo files boot typed keyboard keyboard before after BadBounds) has (λ files is. subst LackBootFile is refused);
+  may = tt;
+  keyboard = refl;
+  devices = still-silent before after same;
+  host = kept-counts before after same;
+  files = λ i. (same i).files;
+}
+console-refused boot typed keyboard before after NoMemory images same has refused = out-of-memory boot typed keyboard keyboard before after same
+console-refused boot typed keyboard before after end images same has refused = absurd refused
+
+-- ---- a machine ran
+
+fails-as : (boot : RunWords) (before after : World) (end : End) → RunFails boot.files end before after → FailsAsTold (run_file_name boot) end before after
+fails-as boot before after (CannotRead input) failed = absurd failed
+fails-as boot before after CannotWrite failed = failed
+fails-as boot before after (CannotWriteImage number) failed = failed
+fails-as boot before after CannotWriteFile failed = absurd failed
+fails-as boot before after end kept = kept
+
+may-end : (end : End) → IsOfMachine end → ConsoleMayEnd end
+may-end (BadText input line) of = absurd of
+may-end CannotWriteFile of = absurd of
+may-end (Refused number) of = absurd of
+may-end (BadSource line error) of = absurd of
+may-end (TerminalFailed n) of = absurd of
+may-end end of = tt
+
+-- what was written behind it is not part of the session
+leaves-then : (setup : Setup) (images : List (List ℕ)) (typed : Typed) (before mid after : World) (turns : List TypedTurn) (t : State) → after.out ≡ mid.out → after.devices ≡ mid.devices → LeavesSession setup images typed before mid turns t → LeavesSession setup images typed before after turns t
+leaves-then setup images typed before mid after turns t out devices it = record {
+  s = it.s;
+  starts = it.starts;
+  session = subst (λ (stream : Option (List ℕ)). HasSession turns it.s t typed before.out stream) (sym out) it.session;
+  terminals = ap (λ (devices : Outside). devices.terms) devices ∙ it.terminals;
+  drives = ap (λ (devices : Outside). drive_states devices.drives) devices ∙ it.drives;
+  volumes = it.volumes;
+}
+
+stops-then : (setup : Setup) (images : List (List ℕ)) (typed : Typed) (lives : Bool) (stop : Stop) (from to : KeyboardState) (before mid after : World) → after.out ≡ mid.out → after.devices ≡ mid.devices → StopsSession (LeavesSession setup images typed before mid) lives stop from to → StopsSession (LeavesSession setup images typed before after) lives stop from to
+stops-then setup images typed lives stop from to before mid after out devices it = record {
+  turns = it.turns;
+  t = it.t;
+  came = leaves-then setup images typed before mid after it.turns it.t out devices it.came;
+  living = it.living;
+  stops = it.stops;
+}
+
+module _ (setup : Setup) (typed : Typed) (names images : List (List ℕ)) (from to : KeyboardState) (before mid after : World) (answer : End) (still : mid.files ≡ before.files) where
+  none-refused : (fault : BootFault) → WasSession setup names typed from to before after (boot_end fault)
+  none-refused OutOfMemory = tt
+  none-refused (BadModuleFault at error) = tt
+  none-refused NoFirstFault = tt
+  none-refused TooLargeFault = tt
+
+  -- it ran to its end, and its images were written
+  ends-as : (lives : Bool) → (All IsObserved before.devices.terms → StopsSession (LeavesSession setup images typed before mid) lives Stop.Over from to) → after.out ≡ mid.out → after.devices ≡ mid.devices → IfObserved (WritesAll names images) mid.files after.files
+      → All IsObserved before.devices.terms → EndsAsSession setup names typed lives from to before after
+  ends-as lives it out devices wrote told = record {
+    images = images;
+    session = stops-then setup images typed lives Stop.Over from to before mid after out devices (it told);
+    files = subst (λ files. IfObserved (WritesAll names images) files after.files) still wrote;
+  }
+
+  -- or up to one
+  ends-part : (lives : Bool) → (All IsObserved before.devices.terms → StopsSession (LeavesSession setup images typed before mid) lives Stop.Over from to) → after.out ≡ mid.out → after.devices ≡ mid.devices → (number : ℕ) → IfObserved (WritesUpTo number names images) mid.files after.files
+      → All IsObserved before.devices.terms → EndsUnwritten setup names typed number from to before after
+  ends-part lives it out devices number wrote told = record {
+    lives = lives;
+    images = images;
+    session = stops-then setup images typed lives Stop.Over from to before mid after out devices (it told);
+    files = subst (λ files. IfObserved (WritesUpTo number names images) files after.files) still wrote;
+  }
+
+  was-written : (end : End) → (after.out ≡ mid.out → after.devices ≡ mid.devices → IfObserved (WritesAll names images) mid.files after.files → WasSession setup names typed from to before after end)
+      → (after.out ≡ mid.out → after.devices ≡ mid.devices → (number : ℕ) → IfObserved (WritesUpTo number names images) mid.files after.files → WasSession setup names typed from to before after (CannotWriteImage number))
+      → WritesBack names images end answer mid after → WasSession setup names typed from to before after answer
+  was-written end was part wrote = by wrote.files
+    where
+      by : ((answer ≡ end) × HasNoFault mid after × IfObserved (WritesAll names images) mid.files after.files) ⊎ ((number : ℕ) × StopsAt names images number answer mid after) → WasSession setup names typed from to before after answer
+      by (inl (is, kept, all)) = subst (WasSession setup names typed from to before after) (sym is) (was wrote.out_kept wrote.devices_kept all)
+      by (inr (number, (written, inl (is, failed)))) = subst (WasSession setup names typed from to before after) (sym is) (part wrote.out_kept wrote.devices_kept number written)
+      by (inr (number, (written, inr (is, kept)))) = subst (WasSession setup names typed from to before after) (sym is) tt
+
+  was-session : (end : RunEnd) → (All IsObserved before.devices.terms → IsSessionTo (LeavesSession setup images typed before mid) (OfRun end) from to) → EndsBoot names images end answer mid after → WasSession setup names typed from to before after answer
+  was-session (Run.Ended begun) it ends = was-written Ended (λ out devices wrote. ends-as false it out devices wrote) (λ out devices number wrote. ends-part false it out devices number wrote) ends
+  was-session (Run.Living begun) it ends = was-written Living (λ out devices wrote. ends-as true it out devices wrote) (λ out devices number wrote. ends-part true it out devices number wrote) ends
+  was-session (Run.Refused fault) it (is, same) = subst (WasSession setup names typed from to before after) (sym is) (none-refused fault)
+  was-session (Run.DriveFailed drive number) it (is, same) = subst (WasSession setup names typed from to before after) (sym is) tt
+  was-session Run.OutputFailed it (is, same) = subst (WasSession setup names typed from to before after) (sym is) tt
+  was-session Run.NoMemory it (is, same) = subst (WasSession setup names typed from to before after) (sym is) tt
+
+-- ---- the keyboard
+
+module _ (names images : List (List ℕ)) (from to : KeyboardState) (mid after : World) (answer : End) where
+  written-asked : (end : End) → LeavesKeyboard end from to → WritesBack names images end answer mid after → LeavesKeyboard answer from to
+  written-asked end asked wrote = by wrote.files
+    where
+      by : ((answer ≡ end) × HasNoFault mid after × IfObserved (WritesAll names images) mid.files after.files) ⊎ ((number : ℕ) × StopsAt names images number answer mid after) → LeavesKeyboard answer from to
+      by (inl (is, kept, all)) = subst (λ end. LeavesKeyboard end from to) (sym is) asked
+      by (inr (number, (written, inl (is, failed)))) = subst (λ end. LeavesKeyboard end from to) (sym is) tt
+      by (inr (number, (written, inr (is, kept)))) = subst (λ end. LeavesKeyboard end from to) (sym is) tt
+
+  fault-asked : (fault : BootFault) → to ≡ from → LeavesKeyboard (boot_end fault) from to
+  fault-asked OutOfMemory kept = tt
+  fault-asked (BadModuleFault at error) kept = kept
+  fault-asked NoFirstFault kept = kept
+  fault-asked TooLargeFault kept = kept
+
+  keyboard-left : (end : RunEnd) → AsksKeyboard (OfRun end) from to → EndsBoot names images end answer mid after → LeavesKeyboard answer from to
+  keyboard-left (Run.Ended begun) kept ends = written-asked Ended tt ends
+  keyboard-left (Run.Living begun) kept ends = written-asked Living tt ends
+  keyboard-left (Run.Refused fault) kept (is, same) = subst (λ end. LeavesKeyboard end from to) (sym is) (fault-asked fault kept)
+  keyboard-left (Run.DriveFailed drive number) kept (is, same) = subst (λ end. LeavesKeyboard end from to) (sym is) kept
+  keyboard-left Run.OutputFailed kept (is, same) = subst (λ end. LeavesKeyboard end from to) (sym is) tt
+  keyboard-left Run.NoMemory kept (is, same) = subst (λ end. LeavesKeyboard end from to) (sym is) tt
+
+-- by how it ended
+module _ (files : Files) (boot : RunWords) (typed : Typed) (setup : Setup) (from to : KeyboardState) (before after : World) (sets : SetsUpSession files boot typed setup) where
+  machine-is : (end : End) → MachineComesTo setup boot.files before after end → WasSession setup boot.files typed from to before after end → MachineIsSession files boot typed from to before after end
+  machine-is end comes was = record { setup = setup; sets = sets; comes = comes; session = was }
+
+  console-comes : (end : End) → IsOfMachine end → EndsSo setup boot.files before after end → WasSession setup boot.files typed from to before after end → ConsoleComesTo files boot typed from to before after end
+  console-comes (CannotRead input) of comes was = tt
+  console-comes (BadText input line) of comes was = absurd of
+  console-comes (BadImage number fault) of comes was = absurd of
+  console-comes BadBounds of comes was = absurd of
+  console-comes NoMemory of (inl undone) was = inl undone
+  console-comes NoMemory of (inr comes) was = inr (inl (machine-is NoMemory comes was))
+  console-comes end of comes was = machine-is end comes was
+
+-- the machine of these words with a boot file and images, driven by what is kept of a session
+abbrev pub boot_setup : RunWords → List ℕ → List (List ℕ) → Typed → Setup
+boot_setup boot file images typed = record {
+  file = file;
+  blocks = boot.blocks;
+  time = boot.start;
+  images = images;
+  keys = kept_keys typed;
+  slices = kept_slices typed;
+}
+
+sets-up : (files : Files) (boot : RunWords) (typed : Typed) (file : List ℕ) (images : List (List ℕ)) → All IsVolume images → IsBootFile images file → images ≡ images_of files boot.files → SetsUpSession files boot typed (boot_setup boot file images typed)
+sets-up files boot typed file images volumes whole is = record {
+  keys = refl;
+  slices = refl;
+  blocks = refl;
+  time = refl;
+  images = is;
+  volumes = volumes;
+  file = whole;
+}
+
+-- the machine was run with the images, and they were written if it came to its end
+pub console-ended : (boot : RunWords) (typed : Typed) (file : List ℕ) (images new : List (List ℕ)) (from to : KeyboardState) (before mid after : World) (end : RunEnd) (answer : End) → length images ≡ length boot.files → All IsVolume images
+    → IsBootFile images file → IfSome before.files (λ files. images ≡ images_of files boot.files) → RunsConsole (boot_setup boot file images typed) typed new (OfRun end) from to before mid → EndsBoot boot.files new end answer mid after → ConsoleCall boot typed answer from to before after
+console-ended boot typed file images new from to before mid after end answer many volumes whole has ran ends =
+    let setup : Setup = boot_setup boot file images typed in
+    let it = machine-ends setup boot.files new before mid after end answer ran.machine ends in
+    let was : WasSession setup boot.files typed from to before after answer = was-session setup typed boot.files new from to before mid after answer ran.machine.files_kept end ran.session ends in
+    record {
+      comes = of-files before.files boot images (λ files. ConsoleComesTo files boot typed from to before after answer) has (λ files is. console-comes files boot typed setup from to before after (sets-up files boot typed file images volumes whole is) answer it.kind it.comes was);
+      may = may-end answer it.kind;
+      keyboard = keyboard-left boot.files new from to mid after answer end ran.keyboard ends;
+      devices = subst (λ count. LeavesDevices count before after answer) many it.devices;
+      host = fails-as boot before after answer it.host;
+      files = it.files;
+    }
+
+-- or it came to a line for which memory was out
+pub console-lost : (boot : RunWords) (typed : Typed) (file : List ℕ) (images new : List (List ℕ)) (from to : KeyboardState) (before after : World) → All IsVolume images → IsBootFile images file
+    → IfSome before.files (λ files. images ≡ images_of files boot.files) → (end : RunEnd) → RunsConsole (boot_setup boot file images typed) typed new (LineLost end) from to before after → ConsoleCall boot typed NoMemory from to before after
+console-lost boot typed file images new from to before after volumes whole has end ran =
+    let setup : Setup = boot_setup boot file images typed in
+    record {
+      comes = of-files before.files boot images (λ files. ConsoleComesTo files boot typed from to before after NoMemory) has
+          (λ files is. inr (inr (record {
+            setup = setup;
+            sets = sets-up files boot typed file images volumes whole is;
+            session = λ told. record { images = new; session = ran.session told; files = ran.machine.files_kept };
+          })));
+      may = tt;
+      keyboard = tt;
+      devices = tt;
+      host = ran.machine.no_fault ran.at_line;
+      files = same-changes boot.files before.files after.files ran.machine.files_kept;
+    }

@@ -1,0 +1,7 @@
+pub mod CallLemmas
+pub mod NoteLemmas
+pub mod RecordLemmas
+pub mod RoomLemmas
+pub mod SessionLemmas
+pub mod TopLemmas
+pub mod WordLemmas

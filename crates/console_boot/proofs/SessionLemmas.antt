@@ -1,0 +1,81 @@
+-- A session with images in the drives.
+use Rattle.std.proofs.Common.{◌≡◌, Bool, true, false, List, ℕ, Some, length, slice_get, sym, subst, ap, ◌∙◌}
+use Rattle.rbf_model.specs.Volume.{Vol}
+use Rattle.os9_outer.specs.TerminalState.{TerminalState}
+use Rattle.key_loading.specs.Loaded.{loaded}
+use Rattle.file_rules.specs.Files.{DriveState}
+use Rattle.file_drives.specs.Drives.{drive_states}
+use Rattle.file_drives.proofs.DriveLemmas.{media-there}
+use Rattle.machine_model.specs.Start.{Starts}
+use Rattle.machine_model.specs.State.{State}
+use Rattle.run_laws.specs.Session.{with_keys}
+use Rattle.image_laws.proofs.Images.{written-back}
+use Rattle.image_laws.proofs.Runs.{run-keeps-ends}
+use Rattle.image_laws.proofs.Starts.{start-has-images}
+use Rattle.os9_kernel.specs.Outside.{Outside}
+use Rattle.boot_run.specs.Machine.{Setup, boot_of}
+use Rattle.boot_run.specs.World.{World}
+use Rattle.boot_run.specs.declared.machine.RunEnd.TheVariants.{Ended, Living}
+use Rattle.boot_images.specs.Drives.{TakesImages, holding}
+use Rattle.boot_images.specs.Outcome.{IsImageOf}
+use Rattle.boot_images.proofs.DriveLemmas.{counts-holding, counts-without}
+use Rattle.session_text.specs.Typed.{kept_keys, kept_slices}
+use Rattle.session_text.specs.declared.typed.Typed.{Typed}
+use Rattle.console_run.specs.Kept.{load_of}
+use Rattle.console_run.specs.Keyboard.{KeyboardState}
+use Rattle.console_run.specs.Session.{IsSessionTo, LeadsSession, StopsSession, untyped}
+use Rattle.console_run.specs.TypedTurn.{TypedTurn}
+use Rattle.console_run.specs.declared.session.SessionEnd.{SessionEnd}
+use Rattle.console_run.specs.declared.session.SessionEnd.TheVariants.{LineLost, OfRun}
+use Rattle.console_run.specs.declared.turns.Stop.{Stop}
+use Rattle.console_boot.specs.Images.{LeavesSession}
+
+-- the devices as they are before a call, with the images in the drives, and at the end
+module _ (setup : Setup) (typed : Typed) (before ran : World) (inside left : Outside) (new : List (List ℕ)) (as_many : length new ≡ length setup.images) (taken : TakesImages new ran.devices.drives left.drives) (put : inside.drives ≡ holding setup.images before.devices.drives) (terms_put : inside.terms ≡ before.devices.terms) (terms_left : left.terms ≡ ran.devices.terms) where
+  abbrev held : World
+  held = record before { devices = inside }
+
+  abbrev after : World
+  after = record ran { devices = left }
+
+  module _ (turns : List TypedTurn) (t : State) (it : LeadsSession setup typed held ran turns t) where
+    image-of : (drive : ℕ) (was now : List ℕ) → slice_get setup.images drive ≡ Some was → slice_get new drive ≡ Some now → IsImageOf t drive was now
+    image-of drive was now at there =
+        let (v, first, vol) = start-has-images _ it.s it.starts drive was at in
+        let (w, last, kept) = (run-keeps-ends (kept_slices typed) it.session.written (with_keys it.s (load_of (kept_keys typed))) t it.session.through it.session.run).kept drive v first in
+        let holds = it.drives.volumes drive w last in
+        let is : now ≡ holds.on.image = taken.each drive now holds.on.image there (media-there ran.devices.drives drive holds.view holds.is ∙ holds.on.is) in
+        record {
+          volume = w;
+          is = last;
+          back = written-back was now v w vol (subst (λ (image : List ℕ). Vol image w) (sym is) holds.on.vol) kept;
+        }
+
+    leaves : LeavesSession setup new typed before after turns t
+    leaves =
+        let same : drive_states inside.drives ≡ drive_states before.devices.drives = ap drive_states put ∙ counts-holding setup.images before.devices.drives in
+        record {
+          s = it.s;
+          starts =
+              subst (λ (drives : List DriveState). Starts (record (boot_of (untyped setup) before) { drives = drives }) it.s) same
+              (subst (λ (terms : List TerminalState). Starts (record (boot_of (untyped setup) held) { terms = loaded (untyped setup).keys terms }) it.s) terms_put it.starts);
+          session = it.session;
+          terminals = terms_left ∙ it.terminals;
+          drives = ap drive_states taken.left ∙ counts-without ran.devices.drives ∙ sym it.drives.counts;
+          volumes = record { as_many = as_many; each = image-of };
+        }
+
+  stopped : (lives : Bool) (stop : Stop) (from to : KeyboardState) → StopsSession (LeadsSession setup typed held ran) lives stop from to → StopsSession (LeavesSession setup new typed before after) lives stop from to
+  stopped lives stop from to it = record {
+    turns = it.turns;
+    t = it.t;
+    came = leaves it.turns it.t it.came;
+    living = it.living;
+    stops = it.stops;
+  }
+
+  pub session-between : (end : SessionEnd) (from to : KeyboardState) → IsSessionTo (LeadsSession setup typed held ran) end from to → IsSessionTo (LeavesSession setup new typed before after) end from to
+  session-between (OfRun (Ended begun)) from to it = stopped false Stop.Over from to it
+  session-between (OfRun (Living begun)) from to it = stopped true Stop.Over from to it
+  session-between (OfRun end) from to it = tt
+  session-between (LineLost end) from to it = stopped true Stop.LineLost from to it

@@ -1,0 +1,90 @@
+-- A call of the console.
+use Rattle.std.proofs.Common.{◌≡◌, ℕ, Option, Some, None, List, [], refl, sym, ap, ◌∙◌, subst, append_assoc, append-nil, inl, inr}
+use Rattle.std.proofs.lemmas.Bool.{false≢true}
+use Rattle.os9_words.specs.Lines.{no_memory_line, words_line}
+use Rattle.os9_words.specs.Notes.{Notes, having_read, having_written}
+use Rattle.boot_run.specs.World.{World}
+use Rattle.command_files.specs.End.{run_file_name, status_number}
+use Rattle.command_files.specs.Noted.{NotesFiles}
+use Rattle.command_files.specs.declared.status.End.{End}
+use Rattle.command_files.specs.declared.status.End.TheVariants.{NoMemory}
+use Rattle.os9_boot.specs.FileNames.{BootWrites}
+use Rattle.os9_boot.specs.TopCall.{Reports, words_status}
+use Rattle.session_text.specs.declared.typed.Typed.{Typed}
+use Rattle.console_run.specs.Keyboard.{KeyboardState}
+use Rattle.console_boot.specs.Call.{ConsoleCall}
+use Rattle.console_boot.proofs.CallLemmas.{out-of-memory}
+use Rattle.console_boot.specs.Record.{HasWrittenRecord, Records}
+use Rattle.console_boot.specs.TopCall.{ConsoleReport, NotesConsole, TopConsole, console_line, console_status}
+use Rattle.console_boot.specs.Words.{console_of}
+use Rattle.console_boot.specs.declared.record.Recording.{Recording}
+use Rattle.console_boot.specs.declared.record.Recording.TheVariants.{Unasked}
+use Rattle.console_boot.specs.declared.words.ConsoleWords.{ConsoleWords}
+
+-- the files of a session, and then those of its record
+notes-then : (words : ConsoleWords) (end : End) (recording : Recording) (noted half done : Notes) → NotesFiles (run_file_name words.boot) words.boot.files (BootWrites words.boot.files) end noted half → HasWrittenRecord words.boot recording half done → NotesConsole words.boot end recording noted done
+notes-then words end recording noted half done files (texts, records, wrote) =
+    let read : Notes = having_read files.read noted in
+    record {
+      read = files.read;
+      reads = files.reads;
+      images = files.written;
+      writes = files.writes;
+      texts = texts;
+      records = records;
+      noted = wrote.is ∙ ap (having_written texts) files.noted ∙ (λ i. record read { written = append_assoc read.written files.written texts i });
+    }
+
+-- a session ended and was recorded or not, and then only the error stream was written
+pub console-reported : (words : ConsoleWords) (typed : Typed) (from to : KeyboardState) (before mid between after : World) (noted half done notes : Notes) (end : End) (recording : Recording) (status : ℕ) → after ≡ between → status ≡ console_status end recording
+    → ConsoleCall words.boot typed end from to before mid → NotesFiles (run_file_name words.boot) words.boot.files (BootWrites words.boot.files) end noted half → Records words typed end recording mid between → HasWrittenRecord words.boot recording half done
+    → Reports (console_line words.boot end recording) done notes → ConsoleReport words from to before after noted notes status
+console-reported words typed from to before mid between after noted half done notes end recording status same is call files recorded wrote line = record {
+  typed = typed;
+  end = end;
+  mid = mid;
+  call = call;
+  recording = recording;
+  recorded = subst (λ (world : World). Records words typed end recording mid world) (sym same) recorded;
+  status_is = is;
+  done = done;
+  files = notes-then words end recording noted half done files wrote;
+  line = line;
+}
+
+module _ (words : List (List ℕ)) (from to : KeyboardState) (before after : World) (noted notes : Notes) where
+  -- the words are a command line
+  pub top-spelled : (read : ConsoleWords) (status : ℕ) → console_of words ≡ Some read → ConsoleReport read from to before after noted notes status → TopConsole words from to before after noted notes status
+  top-spelled read status spelled report = rw spelled report
+
+  -- they are not
+  pub top-unspelled : Reports words_line noted notes → console_of words ≡ None → after ≡ before → to ≡ from → TopConsole words from to before after noted notes words_status
+  top-unspelled line refused same kept = rw refused (record { words = record { undone = same; line = inl (refl, line) }; keyboard = kept })
+
+  -- memory was out before it was known
+  pub top-memory : (typed : Typed) → Reports no_memory_line noted notes → after ≡ before → to ≡ from → TopConsole words from to before after noted notes (status_number NoMemory)
+  top-memory typed line same kept = by (console_of words) refl
+    where
+      by : (found : Option ConsoleWords) → console_of words ≡ found → TopConsole words from to before after noted notes (status_number NoMemory)
+      by None is = rw is (record { words = record { undone = same; line = inr (refl, line) }; keyboard = kept })
+      by (Some read) is =
+          rw is (record {
+            typed = typed;
+            end = NoMemory;
+            mid = after;
+            call = out-of-memory read.boot typed from to before after same;
+            recording = Unasked;
+            recorded = record { unasked = λ none. (refl, refl); asked = λ never. absurd (false≢true never); out = refl; devices = refl };
+            status_is = refl;
+            done = noted;
+            files = record {
+              read = [];
+              reads = (read.boot.files, refl);
+              images = [];
+              writes = (read.boot.files, refl);
+              texts = [];
+              records = refl;
+              noted = λ i. record noted { read = sym (append-nil noted.read) i; written = sym (append-nil noted.written) i };
+            };
+            line = line;
+          })

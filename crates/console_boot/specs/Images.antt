@@ -1,0 +1,41 @@
+-- A session with images in the drives (this project's own).
+use Rattle.std.specs.Prelude.{◌≡◌, ℕ, List, All}
+use Rattle.file_drives.specs.Drives.{drive_states}
+use Rattle.machine_model.specs.State.{State}
+use Rattle.boot_images.specs.Outcome.{AreImagesOf, RunsImages, setup_of}
+use Rattle.boot_images.specs.declared.machine.Start.{Start}
+use Rattle.boot_run.specs.Console.{IsObserved}
+use Rattle.boot_run.specs.Machine.{Setup, StartsLoaded}
+use Rattle.boot_run.specs.World.{World}
+use Rattle.session_text.specs.Typed.{kept_keys, kept_slices}
+use Rattle.console_run.specs.Keyboard.{KeyboardState}
+use Rattle.console_run.specs.Session.{AsksKeyboard, EndsAtLine, HasSession, IsSessionTo, run_end, untyped}
+use Rattle.console_run.specs.TypedTurn.{TypedTurn}
+use Rattle.session_text.specs.declared.typed.Typed.{Typed}
+use Rattle.console_run.specs.declared.session.SessionEnd.{SessionEnd}
+
+-- the machine that is started so with these images, driven by what is kept of a session
+abbrev pub session_setup : Start → List (List ℕ) → Typed → Setup
+session_setup start images typed =
+    record (setup_of start images) { keys = kept_keys typed; slices = kept_slices typed }
+
+-- The machine that is set up so was started, and there was a session over these turns from its start to this state. Its
+-- terminals and the states of its drives are those that are there now, and these images hold its volumes.
+pub record LeavesSession (setup : Setup) (images : List (List ℕ)) (typed : Typed) (before after : World)
+    (turns : List TypedTurn) (t : State) : Type 0 where
+  pub s : State
+  pub starts : StartsLoaded (untyped setup) before s
+  pub session : HasSession turns s t typed before.out after.out
+  pub terminals : after.devices.terms ≡ t.terms
+  pub drives : drive_states after.devices.drives ≡ t.files.drives
+  pub volumes : AreImagesOf t setup.images images
+
+-- The machine that is set up so was run with its images in the drives, and these were taken out again; it was a
+-- session if the bytes of all terminals are observed.
+pub record RunsConsole (setup : Setup) (typed : Typed) (images : List (List ℕ)) (end : SessionEnd)
+    (from to : KeyboardState) (before after : World) : Type 0 where
+  pub machine : RunsImages setup images before after (run_end end)
+  pub at_line : EndsAtLine end
+  pub keyboard : AsksKeyboard end from to
+  pub session : All IsObserved before.devices.terms
+      → IsSessionTo (LeavesSession setup images typed before after) end from to

@@ -1,0 +1,5 @@
+pub mod Call
+pub mod Images
+pub mod Record
+pub mod TopCall
+pub mod Words

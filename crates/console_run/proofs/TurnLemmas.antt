@@ -1,0 +1,422 @@
+-- Turns, one after another, make a session and the run of what it keeps.
+use Rattle.std.proofs.Common.{◌≡◌, ◌≢◌, ◌⊎◌, ◌↔◌, ℕ, ◌+◌, true, Option, Some, List, [], ◌∷◌, ◌++◌, length, map, take, slice_get, refl, sym, ap, ◌∙◌, subst, All, append_assoc, append-nil, inl, inr, length-append}
+use Rattle.std.specs.Prelude.{IfOk, IsSome, OnErr, OnOk, Result, Ok, Err, replicate}
+use Rattle.std.specs.List.{flat_map}
+use Rattle.std.proofs.lemmas.List.{map-append, replicate_more}
+use Rattle.std.proofs.lemmas.List.Concat.{flat_map-append}
+use Rattle.os9_outer.specs.Stream.{stream_with}
+use Rattle.os9_outer.specs.TerminalState.{TerminalState}
+use Rattle.os9_outer.specs.declared.terminal.Key.{Key}
+use Rattle.key_loading.specs.Loaded.{keys_for}
+use Rattle.script_text.specs.declared.script.ScriptKey.{ScriptKey}
+use Rattle.device_table.proofs.StreamLemmas.{appended-twice, appended-nothing}
+use Rattle.file_drives.specs.Drives.{DriveView}
+use Rattle.call_rules.specs.Inner.{Inner}
+use Rattle.event_rules.specs.Console.{console_bytes, terminals_emptied}
+use Rattle.event_rules.specs.State.{living_count}
+use Rattle.event_rules.specs.declared.ends.SliceEnd.{SliceEnd}
+use Rattle.file_rules.specs.Attempts.{asker_of, file_step}
+use Rattle.machine_model.specs.Run.{BeginsSlice, Run, Slice}
+use Rattle.machine_model.specs.State.{State, has_living}
+use Rattle.run_laws.specs.Session.{AreLater, Keys, Turn, keys_loaded, keys_then, with_keys}
+use Rattle.run_laws.specs.SoFar.{ComesTo, each_with}
+use Rattle.run_laws.proofs.Loads.{begins-with, event-with, later-before, later-then, load-bytes, load-emptied, load-then, slice-with}
+use Rattle.run_laws.proofs.Onward.{comes-first, comes-on}
+use Rattle.os9_kernel.specs.Calls.{StopsSlice}
+use Rattle.os9_kernel.specs.Changes.{AsksToChange, BeginsAt, KeepsImages}
+use Rattle.os9_kernel.specs.Outside.{Outside}
+use Rattle.os9_kernel.specs.Tie.{Represents, ticks}
+use Rattle.os9_kernel.specs.declared.kernel.Kernel.{Kernel}
+use Rattle.boot_run.specs.Console.{IsObserved}
+use Rattle.boot_run.specs.Slices.{BreaksOutput, ComesInto, RunsPartly}
+use Rattle.boot_run.specs.World.{World, HasNoFault}
+use Rattle.boot_run.specs.declared.run.RunFault.{RunFault}
+use Rattle.boot_run.proofs.RunLemmas.{images-later, observed-emptied, observed-slice, run-append, run-slice, some-living}
+use Rattle.console_run.specs.Kept.{load_of}
+use Rattle.session_text.specs.Typed.{IsUntyped, kept_keys, kept_slices, keys_typed}
+use Rattle.console_run.specs.Keyboard.{KeyboardState, TakesLines, line_list}
+use Rattle.console_run.specs.Session.{at_start}
+use Rattle.console_run.specs.Turn.{PassesSlice, RunsTurn, StopsTurn, TypesLine}
+use Rattle.console_run.specs.TypedTurn.{KeepsTurns, TypedTurn, TypedTurns, last_end, lines_of, turn_keys, turn_of}
+use Rattle.console_run.specs.Waiting.{WaitsForLine}
+use Rattle.session_text.specs.declared.typed.TheConstants.{SLICE}
+use Rattle.session_text.specs.declared.typed.Typed.{Typed}
+use Rattle.console_run.proofs.KeyLemmas.{count-loaded, keys-more, line-typed, load-later, loaded-none, none-kept, then-then}
+use Rattle.console_run.proofs.LineLemmas.{takes-none, takes-then}
+use Rattle.console_run.proofs.LoadLemmas.{observed-loaded, represents-loaded}
+
+-- ---- images that no event asks to change
+
+-- an event asks for the same with keys behind
+asks-with : (drive : ℕ) (at : State) (keys : Keys) → AsksToChange drive at → AsksToChange drive (with_keys at keys)
+asks-with drive at keys it = record {
+  p = it.p;
+  chosen = it.chosen;
+  code = it.code;
+  act = it.act;
+  call = it.call;
+  serves = it.serves;
+  now = it.now;
+  is_now = it.is_now;
+  step = it.step;
+  step_is = it.step_is ∙ ap (λ (count : ℕ). file_step it.call (asker_of at.inner it.p it.now) at.files count) (sym (count-loaded at.terms keys));
+  reached = it.reached;
+  change = it.change;
+  deed = it.deed;
+}
+
+begins-at-with : (n : ℕ) (u at : State) (states : List State) (keys : Keys) → AreLater (u.inner.tick + 1) keys → BeginsAt (BeginsSlice n u) states at → BeginsAt (BeginsSlice n (with_keys u keys)) (each_with keys states) (with_keys at keys)
+begins-at-with n u at states keys later it = record {
+  first = each_with keys it.first;
+  there = begins-with n u at it.first keys later it.there;
+  next = with_keys it.next keys;
+  end = it.end;
+  event = event-with (u.inner.tick + 1) at it.next it.end keys later it.event;
+  later = each_with keys it.later;
+  all = ap (each_with keys) it.all ∙ map-append (λ (s : State). with_keys s keys) it.first (it.next ∷ it.later);
+}
+
+keeps-with : (n : ℕ) (u : State) (states : List State) (keys : Keys) (before after : List DriveView) → AreLater (u.inner.tick + 1) keys → KeepsImages (BeginsSlice n u) states before after → KeepsImages (BeginsSlice n (with_keys u keys)) (each_with keys states) before after
+keeps-with n u states keys before after later kept drive none =
+    kept drive (λ at it asks. none (with_keys at keys) (begins-at-with n u at states keys later it) (asks-with drive at keys asks))
+
+-- ---- how far a session has come
+
+-- the run of its keys and slices, where these keys and slices come behind them
+pub record GoesWith (start now : List DriveView) (keys : List Key) (ran : List ℕ) (s m : State) (written : List ℕ) (more : Keys) (extra : List ℕ) : Type 0 where
+  pub states : List State
+  pub run : Run ran (with_keys s (keys_then (keys ∷ []) more)) states written (with_keys m more)
+  pub images : KeepsImages (ComesInto (ran ++ extra) (with_keys s (keys_then (keys ∷ []) more))) states start now
+
+-- its turns at the keyboard
+pub record HasTurns (typed : Typed) (last : SliceEnd) (from to : KeyboardState) (s m : State) (written : List ℕ) : Type 0 where
+  pub turns : List TypedTurn
+  pub states : List State
+  pub comes : ComesTo (map turn_of turns) s states written m
+  pub types : TypedTurns at_start turns s states written m
+  pub kept : KeepsTurns typed turns
+  pub last_is : last_end at_start turns ≡ last
+  pub taken : TakesLines (lines_of turns) from to
+
+-- from s it has come to a state that is represented now, and the output gained what it wrote
+pub record HasCome (start : List DriveView) (first : Option (List ℕ)) (typed : Typed) (last : SliceEnd) (from to : KeyboardState) (s : State) (kernel : Kernel) (devices : Outside) (out : Option (List ℕ)) : Type 0 where
+  pub m : State
+  pub written : List ℕ
+  pub told : All IsObserved devices.terms
+  pub tied : Represents kernel devices m
+  pub gained : out ≡ stream_with first written
+  pub turns : HasTurns typed last from to s m written
+  pub goes : (more : Keys) (extra : List ℕ) → AreLater m.inner.tick more → GoesWith start devices.drives (keys_for 0 (kept_keys typed)) (kept_slices typed) s m written more extra
+
+-- nothing was typed or run yet
+goes-none : (start : List DriveView) (s : State) (more : Keys) (extra : List ℕ) → GoesWith start start [] [] s s [] more extra
+goes-none start s more extra = record { states = []; run = (refl, refl, sym (begun more)); images = λ drive none. refl }
+  where
+    begun : (more : Keys) → with_keys s (keys_then ([] ∷ []) more) ≡ with_keys s more
+    begun [] = ap (λ (terms : List TerminalState). record s { terms = terms }) (loaded-none s.terms)
+    begun (keys ∷ more) = refl
+
+pub comes-untyped : (first : Option (List ℕ)) (typed : Typed) (keyboard : KeyboardState) (s : State) (kernel : Kernel) (devices : Outside) → IsUntyped typed → All IsObserved devices.terms → Represents kernel devices s
+    → HasCome devices.drives first typed at_start keyboard keyboard s kernel devices first
+comes-untyped first typed keyboard s kernel devices untyped told tied =
+    let none : kept_keys typed ≡ [] = none-kept typed untyped.lines in
+    record {
+      m = s;
+      written = [];
+      told = told;
+      tied = tied;
+      gained = sym (appended-nothing first);
+      turns = record {
+        turns = [];
+        states = [];
+        comes = comes-first s;
+        types = (refl, refl, refl);
+        kept = record { keys = none; slices = untyped.slices };
+        last_is = refl;
+        taken = takes-none keyboard;
+      };
+      goes = λ more extra later.
+          subst (λ (count : ℕ). GoesWith devices.drives devices.drives (keys_for 0 (kept_keys typed)) (replicate count SLICE) s s [] more extra) (sym untyped.slices)
+          (subst (λ (keys : List ScriptKey). GoesWith devices.drives devices.drives (keys_for 0 keys) [] s s [] more extra) (sym none) (goes-none devices.drives s more extra));
+    }
+
+-- ---- one turn more
+
+pub tick-tied : (kernel : Kernel) (devices : Outside) (m : State) → Represents kernel devices m → m.inner.tick ≡ ticks kernel
+tick-tied kernel devices m tied = ap (λ (inner : Inner). inner.tick) tied.inner.is
+
+-- one turn
+types-one : (last : SliceEnd) (m t : State) (turn : TypedTurn) (first : List State) → has_living m ≡ true → turn.tick ≡ m.inner.tick + 1 → (IsSome turn.line ↔ WaitsForLine last m) → Slice SLICE (with_keys m (turn_of turn).load) first turn.end t
+    → TypedTurns last (turn ∷ []) m first (console_bytes t.terms) (record t { terms = terminals_emptied t.terms })
+types-one last m t turn first lives tick asked slice =
+    (lives, tick, asked, t, first, [], [], slice, sym (append-nil first), sym (append-nil (console_bytes t.terms)), (refl, refl, refl))
+
+-- turns with one more
+types-more : (last : SliceEnd) (turns : List TypedTurn) (s m t : State) (turn : TypedTurn) (states first : List State) (written : List ℕ) → TypedTurns last turns s states written m → has_living m ≡ true → turn.tick ≡ m.inner.tick + 1
+    → (IsSome turn.line ↔ WaitsForLine (last_end last turns) m) → Slice SLICE (with_keys m (turn_of turn).load) first turn.end t
+    → TypedTurns last (turns ++ turn ∷ []) s (states ++ first) (written ++ console_bytes t.terms) (record t { terms = terminals_emptied t.terms })
+types-more last [] s m t turn states first written (none, nothing, same) lives tick asked slice =
+    subst (λ (s : State). TypedTurns last (turn ∷ []) s (states ++ first) (written ++ console_bytes t.terms) (record t { terms = terminals_emptied t.terms })) same
+    (subst (λ (states : List State). TypedTurns last (turn ∷ []) m (states ++ first) (written ++ console_bytes t.terms) (record t { terms = terminals_emptied t.terms })) (sym none)
+    (subst (λ (written : List ℕ). TypedTurns last (turn ∷ []) m first (written ++ console_bytes t.terms) (record t { terms = terminals_emptied t.terms })) (sym nothing) (types-one last m t turn first lives tick asked slice)))
+types-more last (here ∷ turns) s m t turn states first written (alive, ticked, was_asked, next, passed, later, rest, ran, all, bytes, types) lives tick asked slice = (
+  alive,
+  ticked,
+  was_asked,
+  next,
+  passed,
+  later ++ first,
+  rest ++ console_bytes t.terms,
+  ran,
+  ap (λ (states : List State). states ++ first) all ∙ append_assoc passed later first,
+  ap (λ (written : List ℕ). written ++ console_bytes t.terms) bytes ∙ append_assoc (console_bytes next.terms) rest (console_bytes t.terms),
+  types-more here.end turns (record next { terms = terminals_emptied next.terms }) m t turn later first rest types lives tick asked slice,
+)
+
+last-more : (end : SliceEnd) (turns : List TypedTurn) (turn : TypedTurn) → last_end end (turns ++ turn ∷ []) ≡ turn.end
+last-more end [] turn = refl
+last-more end (first ∷ turns) turn = last-more first.end turns turn
+
+count-more : (turns : List TypedTurn) (turn : TypedTurn) → length (turns ++ turn ∷ []) ≡ length turns + 1
+count-more turns turn = length-append turns (turn ∷ [])
+
+keys-behind : (turns : List TypedTurn) (turn : TypedTurn) → flat_map turn_keys (turns ++ turn ∷ []) ≡ flat_map turn_keys turns ++ turn_keys turn
+keys-behind turns turn = flat_map-append turn_keys turns (turn ∷ []) ∙ ap (λ (rest : List ScriptKey). flat_map turn_keys turns ++ rest) (append-nil (turn_keys turn))
+
+lines-behind : (turns : List TypedTurn) (turn : TypedTurn) → lines_of (turns ++ turn ∷ []) ≡ lines_of turns ++ line_list turn.line
+lines-behind turns turn =
+    let lines : TypedTurn → List (List ℕ) = λ turn. line_list turn.line in
+    flat_map-append lines turns (turn ∷ []) ∙ ap (λ (rest : List (List ℕ)). lines_of turns ++ rest) (append-nil (lines turn))
+
+-- where some process lives
+abbrev pub SomeLives : Kernel → Outside → Type 0
+SomeLives kernel devices = (m : State) → Represents kernel devices m → living_count m.inner ≢ 0
+
+get-behind : (ran extra : List ℕ) (n : ℕ) → slice_get (ran ++ n ∷ extra) (length ran) ≡ Some n
+get-behind [] extra n = refl
+get-behind (first ∷ ran) extra n = get-behind ran extra n
+
+take-front : (ran extra : List ℕ) → take (length ran) (ran ++ extra) ≡ ran
+take-front [] extra = refl
+take-front (first ∷ ran) extra = ap (λ (rest : List ℕ). first ∷ rest) (take-front ran extra)
+
+module _ (start : List DriveView) (keys load : List Key) (ran : List ℕ) (s m : State) (written : List ℕ) (kernel after : Kernel) (before now : World) (tied : Represents kernel before.devices m) (alive : has_living m ≡ true) (goes : (more : Keys) (extra : List ℕ) → AreLater m.inner.tick more → GoesWith start before.devices.drives keys ran s m written more extra) (due : AreLater m.inner.tick (load ∷ [])) where
+  -- a slice was run from there, with the keys that were loaded
+  module _ (end : SliceEnd) (passes : PassesSlice (with_keys m (load ∷ [])) after before now end) (count : ticks after ≡ ticks kernel + 1) where
+    abbrev u : State
+    u = with_keys m (load ∷ [])
+
+    abbrev t : State
+    t = passes.t
+
+    abbrev emptied : State
+    emptied = record t { terms = terminals_emptied t.terms }
+
+    pub ticked : t.inner.tick ≡ m.inner.tick + 1
+    ticked = tick-tied after now.devices emptied passes.there ∙ count ∙ ap (λ (tick : ℕ). tick + 1) (sym (tick-tied kernel before.devices m tied))
+
+    pub goes-on : (more : Keys) (extra : List ℕ) → AreLater t.inner.tick more → GoesWith start now.devices.drives (keys ++ load) (ran ++ SLICE ∷ []) s emptied (written ++ console_bytes t.terms) more extra
+    goes-on more extra later =
+        let due_more : AreLater (m.inner.tick + 1) more = subst (λ (tick : ℕ). AreLater tick more) ticked later in
+        let behind : Keys = keys_then (load ∷ []) more in
+        let it : GoesWith start before.devices.drives keys ran s m written behind (SLICE ∷ extra) = goes behind (SLICE ∷ extra) (later-then m.inner.tick (load ∷ []) more due (later-before m.inner.tick more due_more)) in
+        let loaded : with_keys m behind ≡ with_keys u more = ap (λ (terms : List TerminalState). record m { terms = terms }) (load-then m.terms (load ∷ []) more) in
+        let slice : Slice SLICE (with_keys u more) (each_with more passes.states) end (with_keys t more) = slice-with SLICE u t passes.states end more due_more passes.slice in
+        let one : Run (SLICE ∷ []) (with_keys u more) (each_with more passes.states) (console_bytes (keys_loaded t.terms more)) (record (with_keys t more) { terms = terminals_emptied (keys_loaded t.terms more) }) = run-slice SLICE (with_keys u more) (with_keys t more) (each_with more passes.states) end alive slice in
+        let one_bytes : Run (SLICE ∷ []) (with_keys u more) (each_with more passes.states) (console_bytes t.terms) (record (with_keys t more) { terms = terminals_emptied (keys_loaded t.terms more) }) = subst (λ (bytes : List ℕ). Run (SLICE ∷ []) (with_keys u more) (each_with more passes.states) bytes (record (with_keys t more) { terms = terminals_emptied (keys_loaded t.terms more) })) (load-bytes t.terms more) one in
+        let one_to : Run (SLICE ∷ []) (with_keys u more) (each_with more passes.states) (console_bytes t.terms) (with_keys emptied more) = subst (λ (terms : List TerminalState). Run (SLICE ∷ []) (with_keys u more) (each_with more passes.states) (console_bytes t.terms) (record t { terms = terms })) (load-emptied t.terms more) one_bytes in
+        let from : State = with_keys s (keys_then (keys ∷ []) behind) in
+        let so_far : Run ran from it.states written (with_keys u more) = subst (λ (u : State). Run ran from it.states written u) loaded it.run in
+        let whole : Run (ran ++ SLICE ∷ []) from (it.states ++ each_with more passes.states) (written ++ console_bytes t.terms) (with_keys emptied more) = run-append ran (SLICE ∷ []) from (with_keys u more) (with_keys emptied more) it.states (each_with more passes.states) written (console_bytes t.terms) so_far one_to in
+        let front : Run (take (length ran) (ran ++ SLICE ∷ extra)) from it.states written (with_keys u more) = subst (λ (slices : List ℕ). Run slices from it.states written (with_keys u more)) (sym (take-front ran (SLICE ∷ extra))) so_far in
+        let kept : KeepsImages (ComesInto (ran ++ SLICE ∷ extra) from) (it.states ++ each_with more passes.states) start now.devices.drives = images-later (ran ++ SLICE ∷ extra) (length ran) SLICE from (with_keys u more) it.states (each_with more passes.states) written start before.devices.drives now.devices.drives (get-behind ran extra SLICE) alive front it.images (keeps-with SLICE u passes.states more before.devices.drives now.devices.drives due_more passes.images) in
+        let same : from ≡ with_keys s (keys_then ((keys ++ load) ∷ []) more) = ap (with_keys s) (then-then keys load more) in
+        record {
+          states = it.states ++ each_with more passes.states;
+          run = subst (λ (from : State). Run (ran ++ SLICE ∷ []) from (it.states ++ each_with more passes.states) (written ++ console_bytes t.terms) (with_keys emptied more)) same whole;
+          images =
+              subst (λ (from : State). KeepsImages (ComesInto ((ran ++ SLICE ∷ []) ++ extra) from) (it.states ++ each_with more passes.states) start now.devices.drives) same
+              (subst (λ (slices : List ℕ). KeepsImages (ComesInto slices from) (it.states ++ each_with more passes.states) start now.devices.drives) (sym (append_assoc ran (SLICE ∷ []) extra)) kept);
+        }
+
+  -- or it was not run to its end
+  pub comes-partly : (origin : World) (first : Option (List ℕ)) → origin.out ≡ first → before.out ≡ stream_with first written → HasNoFault origin before → StopsTurn (with_keys m (load ∷ [])) before now → RunsPartly (ran ++ SLICE ∷ []) (with_keys s ((keys ++ load) ∷ [])) origin now
+  comes-partly origin first out gained_first none stops =
+      let it : GoesWith start before.devices.drives keys ran s m written (load ∷ []) (SLICE ∷ []) = goes (load ∷ []) (SLICE ∷ []) due in
+      record {
+        count = length ran;
+        states = it.states;
+        written = written;
+        reached = with_keys m (load ∷ []);
+        run = subst (λ (slices : List ℕ). Run slices (with_keys s ((keys ++ load) ∷ [])) it.states written (with_keys m (load ∷ []))) (sym (take-front ran (SLICE ∷ []))) it.run;
+        n = SLICE;
+        next = get-behind ran [] SLICE;
+        lives = alive;
+        stopped = by stops;
+      }
+    where
+      gained : before.out ≡ stream_with origin.out written
+      gained = gained_first ∙ ap (λ (stream : Option (List ℕ)). stream_with stream written) (sym out)
+
+      by : StopsTurn (with_keys m (load ∷ [])) before now → (StopsSlice SLICE (with_keys m (load ∷ [])) now.devices × (now.out ≡ stream_with origin.out written) × HasNoFault origin now) ⊎ BreaksOutput SLICE (with_keys m (load ∷ [])) (stream_with origin.out written) now
+      by (inl (slice, same, kept)) = inl (slice, same ∙ gained, (kept.0 ∙ none.0, kept.1 ∙ none.1, kept.2 ∙ none.2))
+      by (inr breaks) = inr (subst (λ (stream : Option (List ℕ)). BreaksOutput SLICE (with_keys m (load ∷ [])) stream now) gained breaks)
+
+-- ---- a turn at a keyboard
+
+-- a line was typed or none, a slice was run behind it, and the answer is how that ended
+pub record TakesTurn (old new : Typed) (last : SliceEnd) (kernel after : Kernel) (answer : Result SliceEnd RunFault) (from to : KeyboardState) (before now : World) : Type 0 where
+  pub line : Option (List ℕ)
+  pub asked : (s : State) → Represents kernel before.devices s → IsSome line ↔ WaitsForLine last s
+  pub taken : TakesLines (line_list line) from to
+  pub kept : kept_keys new ≡ kept_keys old ++ keys_typed (ticks kernel + 1) line
+  pub slices : new.slices ≡ old.slices + 1
+  pub ran : IfOk answer (λ end. (s : State) → Represents kernel before.devices s → PassesSlice (with_keys s (load_of (keys_typed (ticks kernel + 1) line))) after before now end)
+  pub stopped : OnErr answer ((s : State) → All IsObserved before.devices.terms → Represents kernel before.devices s → StopsTurn (with_keys s (load_of (keys_typed (ticks kernel + 1) line))) before now)
+  pub count : OnOk answer (ticks after ≡ ticks kernel + 1)
+
+-- the world before, with other devices
+abbrev pub with_devices : World → Outside → World
+with_devices world devices = record world { devices = devices }
+
+-- what was typed, and the slice behind it
+module _ (old mid new : Typed) (last : SliceEnd) (kernel after : Kernel) (from to : KeyboardState) (before now : World) (loaded : Outside) (typed : TypesLine last kernel old mid from to before.devices loaded) (same : kept_keys new ≡ kept_keys mid) (slices : new.slices ≡ mid.slices + 1) where
+  abbrev load : Keys
+  load = load_of (keys_typed (ticks kernel + 1) typed.line)
+
+  here : (s : State) → Represents kernel before.devices s → Represents kernel loaded (with_keys s load)
+  here s tied = represents-loaded kernel before.devices loaded s load typed.drives typed.loaded.terms tied
+
+  told-loaded : All IsObserved before.devices.terms → All IsObserved loaded.terms
+  told-loaded told =
+      subst (λ (terms : List TerminalState). All IsObserved terms) (sym typed.loaded.terms) (observed-loaded before.devices.terms load told)
+
+  pub turn-taken : (end : SliceEnd) → RunsTurn kernel after (Ok end) (with_devices before loaded) now → TakesTurn old new last kernel after (Ok end) from to before now
+  turn-taken end turn = record {
+    line = typed.line;
+    asked = typed.asked;
+    taken = typed.taken;
+    kept = same ∙ typed.loaded.kept;
+    slices = slices ∙ ap (λ (count : ℕ). count + 1) typed.loaded.slices;
+    ran = λ s tied.
+        let it = turn.ran (with_keys s load) (here s tied) in
+        record {
+          states = it.states;
+          t = it.t;
+          slice = it.slice;
+          there = it.there;
+          output = λ told. it.output (told-loaded told);
+          images = subst (λ (views : List DriveView). KeepsImages (BeginsSlice SLICE (with_keys s load)) it.states views now.devices.drives) typed.drives it.images;
+        };
+    stopped = tt;
+    count = turn.count;
+  }
+
+  pub turn-stopped : (fault : RunFault) → RunsTurn kernel after (Err fault) (with_devices before loaded) now → TakesTurn old new last kernel after (Err fault) from to before now
+  turn-stopped fault turn = record {
+    line = typed.line;
+    asked = typed.asked;
+    taken = typed.taken;
+    kept = same ∙ typed.loaded.kept;
+    slices = slices ∙ ap (λ (count : ℕ). count + 1) typed.loaded.slices;
+    ran = tt;
+    stopped = λ s told tied. turn.stopped (with_keys s load) (told-loaded told) (here s tied);
+    count = tt;
+  }
+
+-- ---- what is kept
+
+-- the slices with one more
+slices-more : (old new : Typed) → new.slices ≡ old.slices + 1 → kept_slices old ++ SLICE ∷ [] ≡ kept_slices new
+slices-more old new more = replicate_more old.slices SLICE ∙ ap (λ (count : ℕ). replicate count SLICE) (sym more)
+
+-- the keys with those that were loaded
+all-keys : (old new : Typed) (load : List ScriptKey) → kept_keys new ≡ kept_keys old ++ load → keys_for 0 (kept_keys old) ++ keys_for 0 load ≡ keys_for 0 (kept_keys new)
+all-keys old new load kept = sym (keys-more (kept_keys old) load) ∙ ap (keys_for 0) (sym kept)
+
+module _ (start : List DriveView) (first : Option (List ℕ)) (old new : Typed) (last : SliceEnd) (from mid to : KeyboardState) (s : State) (kernel after : Kernel) (before now : World) (here : HasCome start first old last from mid s kernel before.devices before.out) (lives : SomeLives kernel before.devices) where
+  abbrev m : State
+  m = here.m
+
+  alive : has_living m ≡ true
+  alive = some-living m (lives m here.tied)
+
+  tick-here : m.inner.tick ≡ ticks kernel
+  tick-here = tick-tied kernel before.devices m here.tied
+
+  -- a turn was made
+  module _ (end : SliceEnd) (made : TakesTurn old new last kernel after (Ok end) mid to before now) where
+    abbrev turn : TypedTurn
+    turn = record { tick = m.inner.tick + 1; line = made.line; end = end }
+
+    due : AreLater m.inner.tick (load_of (turn_keys turn))
+    due = load-later m.inner.tick (turn_keys turn) (line-typed (m.inner.tick + 1) made.line)
+
+    passes : PassesSlice (with_keys m (load_of (turn_keys turn))) after before now end
+    passes =
+        subst (λ (tick : ℕ). PassesSlice (with_keys m (load_of (keys_typed (tick + 1) made.line))) after before now end) (sym tick-here) (made.ran m here.tied)
+
+    kept : kept_keys new ≡ kept_keys old ++ turn_keys turn
+    kept = made.kept ∙ ap (λ (tick : ℕ). kept_keys old ++ keys_typed (tick + 1) made.line) (sym tick-here)
+
+    abbrev over : State
+    over = passes.t
+
+    abbrev bare : State
+    bare = record over { terms = terminals_emptied over.terms }
+
+    ticked-then : over.inner.tick ≡ m.inner.tick + 1
+    ticked-then = ticked start (keys_for 0 (kept_keys old)) (keys_for 0 (turn_keys turn)) (kept_slices old) s m here.written kernel after before now here.tied alive here.goes due end passes made.count
+
+    turns-on : HasTurns new end from to s bare (here.written ++ console_bytes over.terms)
+    turns-on =
+        let it : HasTurns old last from mid s m here.written = here.turns in
+        record {
+          turns = it.turns ++ turn ∷ [];
+          states = it.states ++ passes.states;
+          comes =
+              subst (λ (turns : List Turn). ComesTo turns s (it.states ++ passes.states) (here.written ++ console_bytes over.terms) bare) (sym (map-append turn_of it.turns (turn ∷ [])))
+              (comes-on (map turn_of it.turns) (turn_of turn) s m over it.states passes.states here.written end it.comes alive due ticked-then passes.slice);
+          types =
+              types-more at_start it.turns s m over turn it.states passes.states here.written it.types alive refl
+              (subst (λ (end : SliceEnd). IsSome made.line ↔ WaitsForLine end m) (sym it.last_is) (made.asked m here.tied)) passes.slice;
+          kept = record {
+            keys = kept ∙ ap (λ (keys : List ScriptKey). keys ++ turn_keys turn) it.kept.keys ∙ sym (keys-behind it.turns turn);
+            slices = made.slices ∙ ap (λ (count : ℕ). count + 1) it.kept.slices ∙ sym (count-more it.turns turn);
+          };
+          last_is = last-more at_start it.turns turn;
+          taken =
+              subst (λ (lines : List (List ℕ)). TakesLines lines from to) (sym (lines-behind it.turns turn))
+              (takes-then (lines_of it.turns) (line_list made.line) from mid to it.taken made.taken);
+        }
+
+    goes-then : (more : Keys) (extra : List ℕ) → AreLater over.inner.tick more → GoesWith start now.devices.drives (keys_for 0 (kept_keys new)) (kept_slices new) s bare (here.written ++ console_bytes over.terms) more extra
+    goes-then more extra later =
+        let gone : GoesWith start now.devices.drives (keys_for 0 (kept_keys old) ++ keys_for 0 (turn_keys turn)) (kept_slices old ++ SLICE ∷ []) s bare (here.written ++ console_bytes over.terms) more extra = goes-on start (keys_for 0 (kept_keys old)) (keys_for 0 (turn_keys turn)) (kept_slices old) s m here.written kernel after before now here.tied alive here.goes due end passes made.count more extra later in
+        subst (λ (slices : List ℕ). GoesWith start now.devices.drives (keys_for 0 (kept_keys new)) slices s bare (here.written ++ console_bytes over.terms) more extra) (slices-more old new made.slices)
+        (subst (λ (keys : List Key). GoesWith start now.devices.drives keys (kept_slices old ++ SLICE ∷ []) s bare (here.written ++ console_bytes over.terms) more extra) (all-keys old new (turn_keys turn) kept) gone)
+
+    pub comes-typed : HasCome start first new end from to s after now.devices now.out
+    comes-typed =
+        let was : m.terms ≡ before.devices.terms = ap (λ (s : State). s.terms) here.tied.is in
+        let told_m : All IsObserved (with_keys m (load_of (turn_keys turn))).terms = observed-loaded m.terms (load_of (turn_keys turn)) (subst (λ (terms : List TerminalState). All IsObserved terms) (sym was) here.told) in
+        let told_t : All IsObserved over.terms = observed-slice SLICE (with_keys m (load_of (turn_keys turn))) passes.states end over passes.slice told_m in
+        let is : bare.terms ≡ now.devices.terms = ap (λ (s : State). s.terms) passes.there.is in
+        record {
+          m = bare;
+          written = here.written ++ console_bytes over.terms;
+          told = subst (λ (terms : List TerminalState). All IsObserved terms) is (observed-emptied over.terms told_t);
+          tied = passes.there;
+          gained = passes.output here.told ∙ ap (λ (stream : Option (List ℕ)). stream_with stream (console_bytes over.terms)) here.gained ∙ appended-twice first here.written (console_bytes over.terms);
+          turns = turns-on;
+          goes = goes-then;
+        }
+
+  -- or it stopped
+  pub partly-typed : (fault : RunFault) (origin : World) → origin.out ≡ first → HasNoFault origin before → TakesTurn old new last kernel after (Err fault) mid to before now → RunsPartly (kept_slices new) (with_keys s (load_of (kept_keys new))) origin now
+  partly-typed fault origin out none made =
+      let load : List ScriptKey = keys_typed (ticks kernel + 1) made.line in
+      let due : AreLater m.inner.tick (load_of load) = subst (λ (tick : ℕ). AreLater tick (load_of load)) (sym tick-here) (load-later (ticks kernel) load (line-typed (ticks kernel + 1) made.line)) in
+      let part : RunsPartly (kept_slices old ++ SLICE ∷ []) (with_keys s ((keys_for 0 (kept_keys old) ++ keys_for 0 load) ∷ [])) origin now = comes-partly start (keys_for 0 (kept_keys old)) (keys_for 0 load) (kept_slices old) s m here.written kernel after before now here.tied alive here.goes due origin first out here.gained none (made.stopped m here.told here.tied) in
+      subst (λ (slices : List ℕ). RunsPartly slices (with_keys s (load_of (kept_keys new))) origin now) (slices-more old new made.slices)
+      (subst (λ (keys : List Key). RunsPartly (kept_slices old ++ SLICE ∷ []) (with_keys s (keys ∷ [])) origin now) (all-keys old new load made.kept) part)

@@ -1,0 +1,222 @@
+use Rattle.std.proofs.Common.{◌≡◌, ◌+◌, ℕ, List, All, length, ap, refl, sym, subst, ◌∙◌, arith, inl, inr}
+use Rattle.std.specs.Prelude.{Err}
+use Rattle.std.specs.Vec.{vec_len}
+use Rattle.std.proofs.lemmas.List.{length-map}
+use Rattle.std.proofs.lemmas.List.Elements.{All-append, All-nil}
+use Rattle.os9_outer.specs.TerminalState.{terminal_states}
+use Rattle.script_text.specs.declared.script.ScriptKey.{ScriptKey}
+use Rattle.os9_kernel.specs.Outside.{outside}
+use Rattle.os9_kernel.specs.Tie.{ticks}
+use Rattle.boot_run.specs.World.{world_of}
+use Rattle.boot_run.proofs.RunLemmas.{none-living, some-living}
+use Rattle.session_text.specs.Typed.{kept_keys, keys_typed}
+use Rattle.console_run.specs.Kept.{load_of}
+use Rattle.console_run.specs.Keyboard.{keyboard_state}
+use Rattle.console_run.specs.declared.turns.Stop.{Stop}
+use Rattle.console_run.proofs.EndLemmas.{ComesFrom, comes-still, fails-then, kept-then, of-term-still, runs-all, runs-part, session-all, stops-lost, stops-over, waits-there}
+use Rattle.console_run.proofs.KeyLemmas.{IsOfTerm, line-typed, none-kept, of-term}
+use Rattle.console_run.proofs.LineLemmas.{takes-none}
+use Rattle.console_run.proofs.LoadLemmas.{stands-loaded}
+use Rattle.console_run.proofs.TurnLemmas.{comes-typed, comes-untyped, partly-typed, tick-tied, turn-stopped, turn-taken}
+use Rattle.console_run.proofs.turns.run_turns.Goals as goal
+
+pub loop-init : goal.loop-init
+loop-init g c = record {
+  begun = sym c.ticks-counter.ensures.count;
+  within = omega (arith, c.ticks-counter.ensures.count, c.requires.begins);
+  slices = c.requires.untyped.slices ∙ sym (c.ticks-counter.ensures.count ∙ c.requires.begins);
+  stands = c.requires.stands;
+  of_term = subst (λ (keys : List ScriptKey). All IsOfTerm keys) (sym (none-kept c.args.console.now.typed c.requires.untyped.lines)) (All-nil IsOfTerm);
+  comes = λ s told tied. comes-untyped _ c.args.console.now.typed _ s c.args.kernel.now _ c.requires.untyped told tied;
+  count = (refl, refl, refl);
+  files = refl;
+  notes = refl;
+  terminals = refl;
+  drives = refl;
+}
+
+pub loop-preserved : goal.loop-preserved
+loop-preserved g c =
+    let so_far = c.loop.invariant in
+    let typed = c.in-GoesOn.ensures.asked in
+    let ran = c.in-Ok.ensures in
+    let before = world_of g.H.Host c.args.host.now (outside (λ table. (g.dyn-1.0.entry table).1) c.args.devices.now.drives.items (λ table. (g.dyn-2.0.entry table).1) c.args.devices.now.terms.items) in
+    let mid = world_of g.H.Host c.loop.host (outside (λ table. (g.dyn-1.0.entry table).1) c.loop.devices.drives.items (λ table. (g.dyn-2.0.entry table).1) c.loop.devices.terms.items) in
+    let loaded = outside (λ table. (g.dyn-1.0.entry table).1) c.type_line.new.devices.drives.items (λ table. (g.dyn-2.0.entry table).1) c.type_line.new.devices.terms.items in
+    let now = world_of g.H.Host c.run_turn.new.host (outside (λ table. (g.dyn-1.0.entry table).1) c.run_turn.new.devices.drives.items (λ table. (g.dyn-2.0.entry table).1) c.run_turn.new.devices.terms.items) in
+    let from = keyboard_state g.K.Keyboard c.args.console.now.keyboard in
+    let was = keyboard_state g.K.Keyboard c.loop.console.keyboard in
+    let to = keyboard_state g.K.Keyboard c.type_line.new.console.keyboard in
+    let new = record c.type_line.new.console.typed { slices = c.type_line.new.console.typed.slices + 1 } in
+    record {
+      within = omega arith;
+      begun = ran.turn.count ∙ ap (λ (count : ℕ). count + 1) so_far.begun;
+      slices = ap (λ (count : ℕ). count + 1) (typed.loaded.slices ∙ so_far.slices);
+      stands = ran.turn.stands;
+      of_term =
+          subst (λ (keys : List ScriptKey). All IsOfTerm keys) (sym typed.loaded.kept)
+          (All-append IsOfTerm (kept_keys c.loop.console.typed) (keys_typed (ticks c.loop.kernel + 1) typed.line) so_far.of_term (of-term _ (keys_typed (ticks c.loop.kernel + 1) typed.line) (line-typed _ typed.line)));
+      comes = λ s told tied.
+          comes-typed _ _ c.loop.console.typed new c.loop.last from was to s c.loop.kernel c.run_turn.new.kernel mid now (so_far.comes s told tied) (λ m tied none. c.if-living-eq0.false (c.living.ensures _ m tied ∙ none)) c.in-Ok.end
+          (turn-taken c.loop.console.typed c.type_line.new.console.typed new c.loop.last c.loop.kernel c.run_turn.new.kernel was to mid now loaded typed refl refl c.in-Ok.end ran.turn);
+      count = (ran.turn.no_fault.0 ∙ so_far.count.0, ran.turn.no_fault.1 ∙ so_far.count.1, ran.turn.no_fault.2 ∙ so_far.count.2);
+      files = ran.turn.files_kept ∙ so_far.files;
+      notes = ran.notes_kept ∙ so_far.notes;
+      terminals = ran.places.terms ∙ c.type_line.ensures.places.terms ∙ so_far.terminals;
+      drives = ran.places.drives ∙ c.type_line.ensures.places.drives ∙ so_far.drives;
+    }
+
+-- ---- a line may be typed, and a slice run
+
+pub type_line-requires-clause-early : goal.type_line-requires-clause-early
+type_line-requires-clause-early g c = omega (arith, c.loop.invariant.begun)
+
+pub type_line-requires-clause-some : goal.type_line-requires-clause-some
+type_line-requires-clause-some g c =
+    let terms = c.args.devices.now.terms in
+    let long : length (terminal_states (λ table. (g.dyn-2.0.entry table).1) terms.items) ≡ vec_len terms = simp length-map (sym terms.ok.0) in
+    omega (arith, long, c.requires.unloaded.some, c.loop.invariant.terminals)
+
+pub type_line-requires-clause-stands : goal.type_line-requires-clause-stands
+type_line-requires-clause-stands g c = c.loop.invariant.stands
+
+pub run_turn-requires-clause-early : goal.run_turn-requires-clause-early
+run_turn-requires-clause-early g c = omega (arith, c.loop.invariant.begun)
+
+pub run_turn-requires-clause-stands : goal.run_turn-requires-clause-stands
+run_turn-requires-clause-stands g c =
+    let typed = c.in-GoesOn.ensures.asked in
+    stands-loaded c.loop.kernel _ _ (load_of (keys_typed (ticks c.loop.kernel + 1) typed.line)) typed.drives typed.loaded.terms c.loop.invariant.stands
+
+-- ---- no process lives
+
+pub returns-then-living-eq0-clause-ran : goal.returns-then-living-eq0-clause-ran
+returns-then-living-eq0-clause-ran g c =
+    let so_far = c.loop.invariant in
+    let before = world_of g.H.Host c.args.host.now (outside (λ table. (g.dyn-1.0.entry table).1) c.args.devices.now.drives.items (λ table. (g.dyn-2.0.entry table).1) c.args.devices.now.terms.items) in
+    let now = world_of g.H.Host c.loop.host (outside (λ table. (g.dyn-1.0.entry table).1) c.loop.devices.drives.items (λ table. (g.dyn-2.0.entry table).1) c.loop.devices.terms.items) in
+    let from = keyboard_state g.K.Keyboard c.args.console.now.keyboard in
+    let to = keyboard_state g.K.Keyboard c.loop.console.keyboard in
+    record {
+      ran = record {
+        run = λ s told tied. runs-all c.loop.console.typed c.loop.last from to c.args.kernel.now c.loop.kernel before now so_far.of_term c.requires.unloaded.unloaded s told tied so_far.comes;
+        partial = tt;
+        output_fault = tt;
+        no_fault = so_far.count;
+        files_kept = so_far.files;
+      };
+      session = λ s told tied.
+          let come = so_far.comes s told tied in
+          session-all Stop.Over c.loop.console.typed c.loop.last from to to s c.loop.kernel before now come
+          (stops-over come.turns.turns c.loop.last come.m from to to come.turns.last_is (inl (none-living come.m (sym (c.living.ensures _ come.m come.tied) ∙ c.if-living-eq0.true))) (takes-none to));
+    }
+
+-- ---- the input is at its end
+
+pub returns-in-AtEnd-clause-ran : goal.returns-in-AtEnd-clause-ran
+returns-in-AtEnd-clause-ran g c =
+    let so_far = c.loop.invariant in
+    let (none, end, taken) = c.in-AtEnd.ensures.asked in
+    let before = world_of g.H.Host c.args.host.now (outside (λ table. (g.dyn-1.0.entry table).1) c.args.devices.now.drives.items (λ table. (g.dyn-2.0.entry table).1) c.args.devices.now.terms.items) in
+    let mid = world_of g.H.Host c.loop.host (outside (λ table. (g.dyn-1.0.entry table).1) c.loop.devices.drives.items (λ table. (g.dyn-2.0.entry table).1) c.loop.devices.terms.items) in
+    let now = world_of g.H.Host c.loop.host (outside (λ table. (g.dyn-1.0.entry table).1) c.type_line.new.devices.drives.items (λ table. (g.dyn-2.0.entry table).1) c.type_line.new.devices.terms.items) in
+    let from = keyboard_state g.K.Keyboard c.args.console.now.keyboard in
+    let was = keyboard_state g.K.Keyboard c.loop.console.keyboard in
+    let to = keyboard_state g.K.Keyboard c.type_line.new.console.keyboard in
+    let comes : ComesFrom c.type_line.new.console.typed c.loop.last from was c.args.kernel.now c.loop.kernel before now = comes-still c.loop.console.typed c.type_line.new.console.typed c.loop.last from was c.args.kernel.now c.loop.kernel before mid _ none.typed none.devices so_far.comes in
+    record {
+      ran = record {
+        run = λ s told tied.
+            runs-all c.type_line.new.console.typed c.loop.last from was c.args.kernel.now c.loop.kernel before now (of-term-still c.loop.console.typed c.type_line.new.console.typed none.typed so_far.of_term) c.requires.unloaded.unloaded s told tied comes;
+        partial = tt;
+        output_fault = tt;
+        no_fault = so_far.count;
+        files_kept = so_far.files;
+      };
+      session = λ s told tied.
+          let come = comes s told tied in
+          session-all Stop.Over c.type_line.new.console.typed c.loop.last from was to s c.loop.kernel before now come
+          (stops-over come.turns.turns c.loop.last come.m from was to come.turns.last_is (inr (inl (waits-there c.loop.last c.loop.kernel _ _ none come.m come.tied, end))) taken);
+    }
+
+-- ---- memory is out for the line
+
+pub returns-in-NoMemory-clause-ran : goal.returns-in-NoMemory-clause-ran
+returns-in-NoMemory-clause-ran g c =
+    let so_far = c.loop.invariant in
+    let (none, lost) = c.in-NoMemory.ensures.asked in
+    let before = world_of g.H.Host c.args.host.now (outside (λ table. (g.dyn-1.0.entry table).1) c.args.devices.now.drives.items (λ table. (g.dyn-2.0.entry table).1) c.args.devices.now.terms.items) in
+    let mid = world_of g.H.Host c.loop.host (outside (λ table. (g.dyn-1.0.entry table).1) c.loop.devices.drives.items (λ table. (g.dyn-2.0.entry table).1) c.loop.devices.terms.items) in
+    let now = world_of g.H.Host c.loop.host (outside (λ table. (g.dyn-1.0.entry table).1) c.type_line.new.devices.drives.items (λ table. (g.dyn-2.0.entry table).1) c.type_line.new.devices.terms.items) in
+    let from = keyboard_state g.K.Keyboard c.args.console.now.keyboard in
+    let was = keyboard_state g.K.Keyboard c.loop.console.keyboard in
+    let to = keyboard_state g.K.Keyboard c.type_line.new.console.keyboard in
+    let comes : ComesFrom c.type_line.new.console.typed c.loop.last from was c.args.kernel.now c.loop.kernel before now = comes-still c.loop.console.typed c.type_line.new.console.typed c.loop.last from was c.args.kernel.now c.loop.kernel before mid _ none.typed none.devices so_far.comes in
+    record {
+      ran = record {
+        run = λ s told tied.
+            runs-all c.type_line.new.console.typed c.loop.last from was c.args.kernel.now c.loop.kernel before now (of-term-still c.loop.console.typed c.type_line.new.console.typed none.typed so_far.of_term) c.requires.unloaded.unloaded s told tied comes;
+        partial = tt;
+        output_fault = tt;
+        no_fault = so_far.count;
+        files_kept = so_far.files;
+      };
+      session = λ s told tied.
+          let come = comes s told tied in
+          session-all Stop.LineLost c.type_line.new.console.typed c.loop.last from was to s c.loop.kernel before now come
+          (stops-lost come.turns.turns c.loop.last come.m from was to come.turns.last_is (waits-there c.loop.last c.loop.kernel _ _ none come.m come.tied) (some-living come.m (λ none_lives. c.if-living-eq0.false (c.living.ensures _ come.m come.tied ∙ none_lives))) lost);
+    }
+
+-- ---- a turn stopped
+
+pub returns-in-Err-clause-ran : goal.returns-in-Err-clause-ran
+returns-in-Err-clause-ran g c =
+    let so_far = c.loop.invariant in
+    let typed = c.in-GoesOn.ensures.asked in
+    let turn = c.in-Err.ensures.turn in
+    let before = world_of g.H.Host c.args.host.now (outside (λ table. (g.dyn-1.0.entry table).1) c.args.devices.now.drives.items (λ table. (g.dyn-2.0.entry table).1) c.args.devices.now.terms.items) in
+    let mid = world_of g.H.Host c.loop.host (outside (λ table. (g.dyn-1.0.entry table).1) c.loop.devices.drives.items (λ table. (g.dyn-2.0.entry table).1) c.loop.devices.terms.items) in
+    let loaded = outside (λ table. (g.dyn-1.0.entry table).1) c.type_line.new.devices.drives.items (λ table. (g.dyn-2.0.entry table).1) c.type_line.new.devices.terms.items in
+    let now = world_of g.H.Host c.run_turn.new.host (outside (λ table. (g.dyn-1.0.entry table).1) c.run_turn.new.devices.drives.items (λ table. (g.dyn-2.0.entry table).1) c.run_turn.new.devices.terms.items) in
+    let from = keyboard_state g.K.Keyboard c.args.console.now.keyboard in
+    let was = keyboard_state g.K.Keyboard c.loop.console.keyboard in
+    let to = keyboard_state g.K.Keyboard c.type_line.new.console.keyboard in
+    let new = record c.type_line.new.console.typed { slices = c.type_line.new.console.typed.slices + 1 } in
+    let of_term : All IsOfTerm (kept_keys new) =
+    subst (λ (keys : List ScriptKey). All IsOfTerm keys) (sym typed.loaded.kept)
+    (All-append IsOfTerm (kept_keys c.loop.console.typed) (keys_typed (ticks c.loop.kernel + 1) typed.line) so_far.of_term (of-term _ (keys_typed (ticks c.loop.kernel + 1) typed.line) (line-typed _ typed.line))) in
+    record {
+      ran = record {
+        run = tt;
+        partial = λ s told tied.
+            runs-part new c.loop.last from to c.args.kernel.now c.run_turn.new.kernel before now of_term c.requires.unloaded.unloaded s told tied
+            (λ s told tied. partly-typed _ _ c.loop.console.typed new c.loop.last from was to s c.loop.kernel c.run_turn.new.kernel mid now (so_far.comes s told tied) (λ m tied none. c.if-living-eq0.false (c.living.ensures _ m tied ∙ none)) c.in-Err.fault before refl so_far.count (turn-stopped c.loop.console.typed c.type_line.new.console.typed new c.loop.last c.loop.kernel c.run_turn.new.kernel was to mid now loaded typed refl refl c.in-Err.fault turn));
+        output_fault = fails-then {Value = Unit {0}} (Err c.in-Err.fault) before mid now so_far.count turn.output_fault;
+        no_fault = kept-then {Value = Unit {0}} (Err c.in-Err.fault) before mid now so_far.count turn.no_fault;
+        files_kept = turn.files_kept ∙ so_far.files;
+      };
+      session = tt;
+    }
+
+-- ---- the last tick would come
+
+pub returns-clause-ran : goal.returns-clause-ran
+returns-clause-ran g c =
+    let so_far = c.loop.invariant in
+    let before = world_of g.H.Host c.args.host.now (outside (λ table. (g.dyn-1.0.entry table).1) c.args.devices.now.drives.items (λ table. (g.dyn-2.0.entry table).1) c.args.devices.now.terms.items) in
+    let now = world_of g.H.Host c.loop.host (outside (λ table. (g.dyn-1.0.entry table).1) c.loop.devices.drives.items (λ table. (g.dyn-2.0.entry table).1) c.loop.devices.terms.items) in
+    let from = keyboard_state g.K.Keyboard c.args.console.now.keyboard in
+    let to = keyboard_state g.K.Keyboard c.loop.console.keyboard in
+    record {
+      ran = record {
+        run = λ s told tied. runs-all c.loop.console.typed c.loop.last from to c.args.kernel.now c.loop.kernel before now so_far.of_term c.requires.unloaded.unloaded s told tied so_far.comes;
+        partial = tt;
+        output_fault = tt;
+        no_fault = so_far.count;
+        files_kept = so_far.files;
+      };
+      session = λ s told tied.
+          let come = so_far.comes s told tied in
+          session-all Stop.Over c.loop.console.typed c.loop.last from to to s c.loop.kernel before now come
+          (stops-over come.turns.turns c.loop.last come.m from to to come.turns.last_is (inr (inr (omega (arith, so_far.begun, so_far.within, tick-tied c.loop.kernel _ come.m come.tied)))) (takes-none to));
+    }

@@ -1,0 +1,136 @@
+-- A session of a machine at whose terminal a person types.
+use Rattle.std.specs.Prelude.{◌≡◌, ◌≢◌, ◌++◌, ℕ, ⊤, Bool, true, false, Option, Result, List, [], map, IfOk, All}
+use Rattle.os9_outer.specs.Stream.{stream_with}
+use Rattle.file_start.specs.Start.{HaveImages}
+use Rattle.event_rules.specs.declared.ends.SliceEnd.{SliceEnd}
+use Rattle.machine_model.specs.Run.{Run}
+use Rattle.machine_model.specs.State.{State, has_living}
+use Rattle.run_laws.specs.Session.{Session, with_keys}
+use Rattle.os9_kernel.specs.Tie.{Represents}
+use Rattle.os9_kernel.specs.Volumes.{HoldsVolumes}
+use Rattle.os9_kernel.specs.declared.kernel.Kernel.{Kernel}
+use Rattle.os9_kernel.specs.declared.new.Config.{Config}
+use Rattle.boot_run.specs.Console.{IsObserved}
+use Rattle.boot_run.specs.Machine.{MachineCall, Setup, StartsLoaded, setup_with}
+use Rattle.boot_run.specs.Slices.{RunsSlices}
+use Rattle.boot_run.specs.World.{World}
+use Rattle.boot_run.specs.declared.machine.RunEnd.{RunEnd}
+use Rattle.boot_run.specs.declared.machine.RunEnd.TheVariants.{Ended, Living, Refused, DriveFailed}
+use Rattle.boot_run.specs.declared.run.RunFault.{RunFault}
+use Rattle.console_run.specs.Kept.{load_of, with_typed}
+use Rattle.session_text.specs.Typed.{kept_keys, kept_slices}
+use Rattle.console_run.specs.Keyboard.{KeyboardState, TakesLines, line_list}
+use Rattle.console_run.specs.TypedTurn.{KeepsTurns, TypedTurn, TypedTurns, last_end, lines_of, turn_of}
+use Rattle.console_run.specs.Waiting.{IsOver, WaitsForLine}
+use Rattle.session_text.specs.declared.typed.Typed.{Typed}
+use Rattle.console_run.specs.declared.session.SessionEnd.{SessionEnd}
+use Rattle.console_run.specs.declared.session.SessionEnd.TheVariants.{OfRun, LineLost}
+use Rattle.console_run.specs.declared.turns.Stop.{Stop}
+
+-- the end of the slice before the first: no process is known to wait
+abbrev pub at_start : SliceEnd
+at_start = SliceEnd.Ran
+
+-- A session from s over these turns to t, with lines typed before its slices: a run whose keys are loaded before each
+-- slice. The output gained what it wrote, and its keys and slices are kept: over these it is one run of terminals that
+-- were loaded with all the keys before it.
+pub record HasSession (turns : List TypedTurn) (s t : State) (typed : Typed) (before after : Option (List ℕ))
+    : Type 0 where
+  pub states : List State
+  pub written : List ℕ
+  pub turns_typed : TypedTurns at_start turns s states written t
+  pub session : Session (map turn_of turns) s states written t
+  pub through : List State
+  pub run : Run (kept_slices typed) (with_keys s (load_of (kept_keys typed))) through written t
+  pub kept : KeepsTurns typed turns
+  pub output : after ≡ stream_with before written
+
+-- Why a session stopped after these turns, in this state, and what it took from the keyboard. It is over, and took the
+-- lines that were typed. Or every process waits for a line for which memory was out; it may have been taken too.
+abbrev pub StopsFor : Stop → List TypedTurn → State → KeyboardState → KeyboardState → Type 0
+StopsFor Stop.Over turns t from to = TakesLines (lines_of turns) from to × IsOver (last_end at_start turns) t to
+StopsFor Stop.LineLost turns t from to =
+    (lost : Option (List ℕ)) × TakesLines (lines_of turns ++ line_list lost) from to
+    × WaitsForLine (last_end at_start turns) t × (has_living t ≡ true)
+
+-- ---- of a kernel that was started
+
+-- it came from this state to one that is represented now, and stopped
+pub record RunsSession (stop : Stop) (s : State) (new : Kernel) (typed : Typed) (from to : KeyboardState)
+    (before after : World) : Type 0 where
+  pub turns : List TypedTurn
+  pub t : State
+  pub session : HasSession turns s t typed before.out after.out
+  pub there : Represents new after.devices t
+  pub stops : StopsFor stop turns t from to
+
+-- It is the run of what is kept, of terminals that were loaded with those keys before it. If it stopped after a slice,
+-- there was a session from each state that was represented.
+pub record RunsTurns (typed : Typed) (old new : Kernel) (answer : Result Stop RunFault) (from to : KeyboardState)
+    (before after : World) : Type 0 where
+  pub ran : RunsSlices (kept_slices typed) old new answer (with_typed (kept_keys typed) before) after
+  pub session : IfOk answer (λ stop. (s : State) → All IsObserved before.devices.terms
+      → Represents old before.devices s → RunsSession stop s new typed from to before after)
+
+-- ---- of a machine
+
+-- the machine before anything was typed
+abbrev pub untyped : Setup → Setup
+untyped setup = record setup { keys = []; slices = [] }
+
+-- The machine that is set up so was started, and there was a session over these turns from its start to this state, in
+-- which its terminals are now, and whose volumes its drives hold.
+pub record LeadsSession (setup : Setup) (typed : Typed) (before after : World) (turns : List TypedTurn) (t : State)
+    : Type 0 where
+  pub s : State
+  pub starts : StartsLoaded (untyped setup) before s
+  pub session : HasSession turns s t typed before.out after.out
+  pub terminals : after.devices.terms ≡ t.terms
+  pub drives : HoldsVolumes t after.devices.drives
+
+-- a session came so to its last state, in which a process lives or none does, and stopped
+pub record StopsSession (comes : List TypedTurn → State → Type 0) (lives : Bool) (stop : Stop)
+    (from to : KeyboardState) : Type 0 where
+  pub turns : List TypedTurn
+  pub t : State
+  pub came : comes turns t
+  pub living : has_living t ≡ lives
+  pub stops : StopsFor stop turns t from to
+
+-- by how it ended
+abbrev pub IsSessionTo : (List TypedTurn → State → Type 0) → SessionEnd → KeyboardState → KeyboardState → Type 0
+IsSessionTo comes (OfRun (Ended begun)) from to = StopsSession comes false Stop.Over from to
+IsSessionTo comes (OfRun (Living begun)) from to = StopsSession comes true Stop.Over from to
+IsSessionTo comes (LineLost end) from to = StopsSession comes true Stop.LineLost from to
+IsSessionTo comes end from to = ⊤
+
+-- if memory was out for a line, the output did not fail
+abbrev pub EndsAtLine : SessionEnd → Type 0
+EndsAtLine (LineLost end) = end ≢ RunEnd.OutputFailed
+EndsAtLine end = ⊤
+
+-- a machine that was not started did not ask the keyboard
+abbrev pub AsksKeyboard : SessionEnd → KeyboardState → KeyboardState → Type 0
+AsksKeyboard (OfRun (Refused fault)) from to = to ≡ from
+AsksKeyboard (OfRun (DriveFailed drive number)) from to = to ≡ from
+AsksKeyboard end from to = ⊤
+
+-- how the run of its machine ended
+abbrev pub run_end : SessionEnd → RunEnd
+run_end (OfRun end) = end
+run_end (LineLost end) = end
+
+-- It is the run of the machine over the slices and with the keys that are kept, and a session if the bytes of all
+-- terminals are observed.
+pub record SessionCall (setup : Setup) (end : SessionEnd) (typed : Typed) (from to : KeyboardState)
+    (before after : World) : Type 0 where
+  pub machine : MachineCall setup before after (run_end end)
+  pub at_line : EndsAtLine end
+  pub keyboard : AsksKeyboard end from to
+  pub session : All IsObserved before.devices.terms → IsSessionTo (LeadsSession setup typed before after) end from to
+
+-- so with the images that were in the first drives
+abbrev pub SessionRuns : Config → List ℕ → SessionEnd → Typed → KeyboardState → KeyboardState → World → World → Type 0
+SessionRuns config file end typed from to before after =
+    (images : List (List ℕ)) → HaveImages config.images images before.devices.drives
+    → SessionCall (setup_with config file images (kept_keys typed) (kept_slices typed)) end typed from to before after

@@ -1,0 +1,33 @@
+ghost use Rattle.std.specs.Prelude.{◌≡◌};
+ghost use Rattle.session_text.specs.Typed.{IsUntyped};
+
+use session_text::typed::Typed;
+use std::alloc::Global;
+
+/// The place of a person who types at a machine.
+#[derive(Drop)]
+pub struct Console<K> {
+    /// Where it takes memory.
+    pub alloc: Global,
+    /// What gives the lines.
+    pub keyboard: K,
+    /// What is kept of the session.
+    pub typed: Typed,
+}
+
+impl<K: Drop> Console<K> {
+    /// The place at this keyboard, before anything is typed.
+    pub fn new(alloc: Global, keyboard: K) -> Console<K>
+        ensures keyboard { result.keyboard ≡ keyboard }
+        ensures untyped { IsUntyped result.typed }
+    {
+        Console {
+            alloc,
+            keyboard,
+            typed: Typed {
+                lines: Vec::new(alloc),
+                slices: 0,
+            },
+        }
+    }
+}

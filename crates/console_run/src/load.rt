@@ -1,0 +1,127 @@
+//! A line is loaded.
+
+ghost use Rattle.std.specs.Prelude.{◌≡◌, ◌<◌, ◌∷◌, [], IfOk, OnErr, OnOk, IsFalse, IsTrue, map, vec_len};
+ghost use Rattle.key_loading.specs.Loaded.{keys_for};
+ghost use Rattle.run_laws.specs.Session.{keys_loaded};
+ghost use Rattle.session_text.specs.Typed.{keys_of_line as keys_of_line_lem};
+ghost use Rattle.console_run.specs.Kept.{IsKept};
+ghost use Rattle.console_run.specs.Seen.{terms_seen};
+ghost use Rattle.console_run.specs.Turn.{LoadsKeys};
+ghost use Rattle.console_run.specs.Waiting.{term_keys};
+
+use device_table::devices::Devices;
+use os9_outer::terminal::{CharDriver, Key};
+use session_text::typed::{Typed, TypedLine};
+use std::alloc::{AllocError, Global};
+
+/// The terminal at which a person types.
+const TERM: usize = 0;
+
+/// The key that ends a line.
+const RETURN: u8 = 0x0d;
+
+/// Loads TERM, which has no keys left, with the keys of a line, and keeps it. They are due in this
+/// tick.
+///
+/// # Errors
+///
+/// Memory is out: nothing was loaded.
+pub(crate) fn load_line(
+    alloc: Global,
+    line: Vec<u8>,
+    tick: u32,
+    typed: &mut Typed,
+    devices: &mut Devices,
+) -> Result<(), AllocError>
+    requires some { 0 < vec_len devices.old.terms }
+    requires none_left { term_keys (terms_seen CharDriver-box devices.old) ≡ [] }
+    ensures loaded { OnOk result (LoadsKeys (keys_of_line_lem tick line.items) typed.old typed.new
+        (terms_seen CharDriver-box devices.old) (terms_seen CharDriver-box devices.new)) }
+    ensures typed_kept { OnErr result (IsKept typed.old typed.new) }
+    ensures devices_kept { OnErr result (devices.new ≡ devices.old) }
+    ensures terminals { vec_len devices.new.terms ≡ vec_len devices.old.terms }
+    ensures drives_kept { devices.new.drives ≡ devices.old.drives }
+{
+    let keys = keys_of_line(alloc, line.as_slice(), tick)?;
+    typed.lines.push(TypedLine { tick, bytes: line })?;
+    load_term(devices, keys);
+    Ok(())
+}
+
+/// The keys of a line, and the one that ends it, all due in one tick.
+fn keys_of_line(alloc: Global, line: &[u8], tick: u32) -> Result<Vec<Key>, AllocError>
+    ensures { IfOk result (λ keys. keys.items ≡ keys_for 0 (keys_of_line_lem tick line.now)) }
+{
+    let mut keys = keys_of_bytes(alloc, line, tick)?;
+    keys.push(Key { tick, byte: RETURN })?;
+    Ok(keys)
+}
+
+/// Keys with these bytes, all due in one tick.
+fn keys_of_bytes(alloc: Global, bytes: &[u8], tick: u32) -> Result<Vec<Key>, AllocError>
+    ensures { IfOk result (λ keys. keys.items
+        ≡ map (λ byte. record { tick = tick; byte = byte }) bytes.now) }
+{
+    bytes
+        .iter()
+        .map(|byte| Key { tick, byte: *byte })
+        .collect(alloc)
+}
+
+/// Loads TERM, which has no keys left, with these.
+fn load_term(devices: &mut Devices, keys: Vec<Key>)
+    requires some { 0 < vec_len devices.old.terms }
+    requires none_left { term_keys (terms_seen CharDriver-box devices.old) ≡ [] }
+    ensures loaded { terms_seen CharDriver-box devices.new
+        ≡ keys_loaded (terms_seen CharDriver-box devices.old) (keys.items ∷ []) }
+    ensures terminals { vec_len devices.new.terms ≡ vec_len devices.old.terms }
+    ensures drives_kept { devices.new.drives ≡ devices.old.drives }
+{
+    load_in_box(&mut devices.terms[TERM], keys);
+}
+
+/// Has TERM no keys left? A terminal takes keys exactly then, be they none.
+pub(crate) fn has_no_keys(alloc: Global, devices: &mut Devices) -> bool
+    requires some { 0 < vec_len devices.old.terms }
+    ensures none { IsTrue result → term_keys (terms_seen CharDriver-box devices.old) ≡ [] }
+    ensures left { IsFalse result → ¬ (term_keys (terms_seen CharDriver-box devices.old) ≡ []) }
+    ensures kept { terms_seen CharDriver-box devices.new ≡ terms_seen CharDriver-box devices.old }
+    ensures terminals { vec_len devices.new.terms ≡ vec_len devices.old.terms }
+    ensures drives_kept { devices.new.drives ≡ devices.old.drives }
+{
+    takes_keys(&mut devices.terms[TERM], Vec::new(alloc))
+}
+
+// `CharDriver::load` of the terminal in a box, which has no keys.
+fn load_in_box(term: &mut Box<dyn CharDriver>, keys: Vec<Key>)
+    requires none_left { keys_left term.old ≡ [] }
+    ensures loaded { keys_left term.new ≡ keys.items }
+    ensures put_kept { bytes_put term.new ≡ bytes_put term.old }
+    ensures faults_kept { term_faults term.new ≡ term_faults term.old }
+{
+    let _ = takes_keys(term, keys);
+}
+
+// `CharDriver::load` of the terminal in a box, which takes keys if it has none.
+fn takes_keys(term: &mut Box<dyn CharDriver>, keys: Vec<Key>) -> bool
+    ensures loaded { IsTrue result → keys_left term.new ≡ keys.items }
+    ensures was_empty { IsTrue result → keys_left term.old ≡ [] }
+    ensures was_loaded { IsFalse result → ¬ (keys_left term.old ≡ []) }
+    ensures kept { IsFalse result → keys_left term.new ≡ keys_left term.old }
+    ensures put_kept { bytes_put term.new ≡ bytes_put term.old }
+    ensures faults_kept { term_faults term.new ≡ term_faults term.old }
+{
+    load_terminal(&mut **term, keys)
+}
+
+// `CharDriver::load` of a terminal.
+fn load_terminal(term: &mut dyn CharDriver, keys: Vec<Key>) -> bool
+    ensures loaded { IsTrue result → keys_left term.new ≡ keys.items }
+    ensures was_empty { IsTrue result → keys_left term.old ≡ [] }
+    ensures was_loaded { IsFalse result → ¬ (keys_left term.old ≡ []) }
+    ensures kept { IsFalse result → keys_left term.new ≡ keys_left term.old }
+    ensures put_kept { bytes_put term.new ≡ bytes_put term.old }
+    ensures faults_kept { term_faults term.new ≡ term_faults term.old }
+{
+    term.load(keys).is_ok()
+}

@@ -1,0 +1,57 @@
+ghost use Rattle.std.specs.Prelude.{◌≡◌, None, false};
+
+use crate::keyboard::Keyboard;
+use std::alloc::{AllocError, Global};
+use std::io::{BufRead, ErrorKind};
+
+/// The byte that ends a line.
+const LINE_FEED: u8 = b'\n';
+
+/// A keyboard over a reader, each line of which ends with a line feed, which the last may lack. Its
+/// lines are not observed.
+#[derive(Drop)]
+pub struct ReaderKeyboard<R> {
+    alloc: Global,
+    reader: R,
+    over: bool,
+}
+
+impl<R: BufRead + Drop> ReaderKeyboard<R> {
+    /// The keyboard over this reader.
+    pub fn new(alloc: Global, reader: R) -> ReaderKeyboard<R>
+        ensures { ⟦<ReaderKeyboard<R> as Keyboard>⟧.is_over result ≡ false }
+    {
+        ReaderKeyboard {
+            alloc,
+            reader,
+            over: false,
+        }
+    }
+}
+
+impl<R: BufRead + Drop> Keyboard for ReaderKeyboard<R> {
+    ghost lines_left = { λ _. None };
+
+    ghost is_over = { λ keyboard. keyboard.over };
+
+    fn line(&mut self) -> Result<Option<Vec<u8>>, AllocError> {
+        let mut line = Vec::new(self.alloc);
+        match self.reader.read_until(LINE_FEED, &mut line) {
+            Ok(0) => {
+                self.over = true;
+                return Ok(None);
+            }
+            Ok(_) => {}
+            Err(error) if error.kind() == ErrorKind::OutOfMemory => return Err(AllocError),
+            Err(_) => {
+                self.over = true;
+                return Ok(None);
+            }
+        }
+        if line.last() == Some(&LINE_FEED) {
+            let _ = line.pop();
+        }
+        self.over = false;
+        Ok(Some(line))
+    }
+}

@@ -1,0 +1,45 @@
+//! A slice of a session.
+
+ghost use Rattle.std.specs.Prelude.{◌≡◌, ◌<◌, ◌+◌};
+ghost use Rattle.os9_base.specs.declared.limits.TheConstants.{LAST_TICK};
+ghost use Rattle.os9_kernel.specs.Tie.{Stands, ticks};
+ghost use Rattle.os9_words.specs.Notes.{notes_of};
+ghost use Rattle.console_run.specs.Seen.{devices_seen, AreAsMany, OnCall};
+ghost use Rattle.console_run.specs.Turn.{RunsTurn};
+
+use boot_run::{RunFault, pass_on};
+use device_table::devices::Devices;
+use os9_kernel::{Kernel, SliceEnd};
+use os9_outer::drive::BlockDriver;
+use os9_outer::host::{Host, HostFault};
+use os9_outer::terminal::CharDriver;
+use session_text::typed::SLICE;
+
+/// Runs a slice, and passes what it writes to the output stream.
+///
+/// # Errors
+///
+/// Those of [`pass_on`], and that memory is out within the slice.
+pub(crate) fn run_turn<H: Host>(
+    kernel: &mut Kernel,
+    host: &mut H,
+    devices: &mut Devices,
+) -> Result<SliceEnd, RunFault>
+    requires early { ticks kernel.old + 1 < LAST_TICK }
+    requires stands { Stands kernel.old
+        (devices_seen BlockDriver-box CharDriver-box devices.old) }
+    ensures turn { OnCall (RunsTurn kernel.old kernel.new result)
+        H.Host host.old host.new BlockDriver-box CharDriver-box devices.old devices.new }
+    ensures notes_kept { notes_of H.Host host.new ≡ notes_of H.Host host.old }
+    ensures places { AreAsMany devices.old devices.new }
+{
+    let end = kernel.slice(SLICE, devices);
+    if let SliceEnd::NoMemory = end {
+        return Err(RunFault::NoMemory);
+    }
+    match pass_on(devices, host) {
+        Ok(()) => Ok(end),
+        Err(HostFault::Failed) => Err(RunFault::Output),
+        Err(HostFault::OutOfMemory) => Err(RunFault::NoMemory),
+    }
+}

@@ -1,0 +1,3 @@
+pub mod TextLemmas
+mod FitLemmas
+mod PushLemmas
