@@ -187,7 +187,7 @@ outcome_of source =
 abbrev pub StandAt : List ℕ → ℕ → List ℕ → Type 0
 StandAt bytes offset part = take (length part) (drop offset bytes) ≡ part
 
--- a statement stands at its offset: an instruction is read there as what it spells, `mod` has its name after the
+-- a statement is at its offset: an instruction is read there as what it spells, `mod` has its name after the
 -- header, `emod` is the CRC of the bytes above it, and another statement has its bytes there
 abbrev pub action_stands : Reached → List ℕ → ℕ → Action → Type 0
 action_stands all bytes offset (instruction s) =
@@ -221,7 +221,7 @@ pub record Assembled (source bytes : List ℕ) : Type 0 where
   -- the header says what the first statement does
   pub says : IsSomeAnd (first_start (actions_of (source_lines source)))
       (λ m. Says (reached_by source) m (info_at 0 bytes))
-  -- each statement stands at its offset
+  -- each statement is at its offset
   pub stands : All (Stands (reached_by source) bytes) (placed source)
   -- and there is nothing between or after them
   pub ends : sum_by (λ p. action_length p.action) (placed source) ≡ length bytes

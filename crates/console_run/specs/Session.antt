@@ -27,7 +27,7 @@ use Rattle.console_run.specs.declared.session.SessionEnd.{SessionEnd}
 use Rattle.console_run.specs.declared.session.SessionEnd.TheVariants.{OfRun, LineLost}
 use Rattle.console_run.specs.declared.turns.Stop.{Stop}
 
--- the end of the slice before the first: no process is known to wait
+-- what goes before the first slice: no process is known to wait
 abbrev pub at_start : SliceEnd
 at_start = SliceEnd.Ran
 

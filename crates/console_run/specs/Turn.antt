@@ -39,8 +39,8 @@ pub record LoadsKeys (load : List ScriptKey) (old new : Typed) (before after : L
 abbrev pub AllWait : SliceEnd → Kernel → Outside → Type 0
 AllWait last kernel devices = (s : State) → Represents kernel devices s → WaitsForLine last s
 
--- It is to go on: a line was taken from the keyboard if and only if every process waits for keys, and its keys, which
--- are due in the tick that comes, were loaded.
+-- The session goes on: a line was taken from the keyboard if and only if every process waits for keys, and its keys,
+-- which are due in the tick that comes, were loaded.
 pub record TypesLine (last : SliceEnd) (kernel : Kernel) (old new : Typed) (from to : KeyboardState)
     (before after : Outside) : Type 0 where
   pub line : Option (List ℕ)
@@ -49,7 +49,7 @@ pub record TypesLine (last : SliceEnd) (kernel : Kernel) (old new : Typed) (from
   pub loaded : LoadsKeys (keys_typed (ticks kernel + 1) line) old new before.terms after.terms
   pub drives : after.drives ≡ before.drives
 
--- It is not: every process waits for keys, and nothing was typed.
+-- It does not go on: every process waits for keys, and nothing was typed.
 pub record TypesNone (last : SliceEnd) (kernel : Kernel) (old new : Typed) (before after : Outside) : Type 0 where
   pub waits : AllWait last kernel before
   pub typed : IsKept old new
@@ -68,7 +68,7 @@ HasAsked last kernel old new NoMemory from to before after =
 -- ---- a slice
 
 -- from this state a slice was run that ended so, and its bytes were taken and passed on; the images that no event of it
--- asks to change are as they were
+-- asks to change are unchanged
 pub record PassesSlice (u : State) (new : Kernel) (before after : World) (end : SliceEnd) : Type 0 where
   pub states : List State
   pub t : State

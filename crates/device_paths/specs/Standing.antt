@@ -12,12 +12,12 @@ abbrev pub name_list : Result Names NameFault → Result (List (List ℕ)) NameF
 name_list (Ok found) = Ok found.names
 name_list (Err fault) = Err fault
 
--- these names stand, one after another, from an address on
+-- these names are in memory, one after another, from an address on
 pub record NamesStand (cells : Cells) (at : ℕ) (names : List (List ℕ)) : Type 0 where
   pub left : ℕ
   pub are : name_list (names_at cells at left) ≡ Ok names
 
--- the first of these names stands at this address; if it is None, there are no names
+-- the first of these names is at this address; if it is None, there are no names
 abbrev pub NamesFrom : Cells → Option ℕ → List (List ℕ) → Type 0
 NamesFrom cells None names = names ≡ []
 NamesFrom cells (Some at) names = NamesStand cells at names

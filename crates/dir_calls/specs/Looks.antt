@@ -62,7 +62,7 @@ pub record LooksFor {A R : Type 0} (fact : A → R → Type 0) (step : Step A) (
   pub calls : CalledAtMost (calls_of step most) before now
 
 -- a search by a process, at any time and with this number of terminals, has this result, from each state of the machine
--- that the kernel's state stands for
+-- that the kernel's state represents
 abbrev pub LooksFrom : {A R : Type 0} → (Step A → Files → A → R → Type 0) → (Asker → Files → ℕ → Step A)
     → (Asker → Files → ℕ → ℕ) → ℕ → ℕ → Result R ℕ → Standing → Standing → Type 0
 LooksFrom fact step most p terms result before after =

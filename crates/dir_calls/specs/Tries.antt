@@ -39,7 +39,7 @@ pub record Tries (step : FileStep) (most : ℕ) (asker : Asker) (files : Files) 
   pub drives : KeepsDrives step asker files (told_by result) before now
 
 -- such an attempt of a process, at a time and with this number of terminals, from each state of the machine that the
--- kernel's state stands for
+-- kernel's state represents
 abbrev pub TriesFrom : (Asker → Files → ℕ → FileStep) → (Asker → Files → ℕ → ℕ) → TimePacket → ℕ → ℕ → Result ℕ ℕ
     → Standing → Standing → Type 0
 TriesFrom step most now p terms result before after =

@@ -52,7 +52,7 @@ pub record Tries (call : PathCall) (m : Inner) (files : Files) (now : TimePacket
       before after
   pub memory : end ≡ NoMemory → LacksMemory call m files now p terms terms_after
 
--- ---- from any state that the kernel's state stands for
+-- ---- from any state that the kernel's state represents
 
 -- a process tries a call, at a time, in each such state in which the targets of paths and directories exist
 abbrev pub TriesFrom : PathCall → TimePacket → ℕ → CallEnd → List TerminalState → List TerminalState → Standing

@@ -17,7 +17,7 @@ use Rattle.file_state.specs.Tie.{StandsFor}
 use Rattle.file_state.specs.declared.state.OpenFile.{OpenFile}
 use Rattle.file_io.specs.Opened.{found_on}
 
--- an attempt on the file of a path does this, for every state that the kernel's state stands for
+-- an attempt on the file of a path does this, for every state that the kernel's state represents
 abbrev pub Tries : (Asker → Files → rules.OpenFile → FileStep) → (Asker → rules.OpenFile → ℕ) → OpenFile → TimePacket
     → ℕ → CallEnd → Standing → Standing → Type 0
 Tries step most opened now p end before after =

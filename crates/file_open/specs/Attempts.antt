@@ -1,4 +1,4 @@
--- What attempts of I$Open and I$Create do, from each state that the kernel's state stands for, after the path list is
+-- What attempts of I$Open and I$Create do, from each state that the kernel's state represents, after the path list is
 -- read: along its names, and then at the file or the directory that the walk has reached.
 use Rattle.std.specs.Prelude.{◌≡◌, ℕ, ◌+◌, false, Option, None, List}
 use Rattle.os9_base.specs.declared.call.CallEnd.{CallEnd}

@@ -45,7 +45,7 @@ pub record HaveImages (drives : ℕ) (images : List (List ℕ)) (views : List Dr
 abbrev pub mounted_files : List DiskVolume → List DriveState → Files
 mounted_files volumes drives = record (first_files volumes drives) { directories = replicate 33 no_directories }
 
--- the state stands for those files
+-- the state represents those files
 abbrev pub HasMounted : List DiskVolume → FileState → List DriveView → Type 0
 HasMounted volumes state views = StandsFor state views (mounted_files volumes (drive_states views))
 
@@ -53,7 +53,7 @@ HasMounted volumes state views = StandsFor state views (mounted_files volumes (d
 abbrev pub HasStarted : List DiskVolume → FileState → List DriveView → Type 0
 HasStarted volumes state views = StandsFor state views (first_files volumes (drive_states views))
 
--- the state stands for that of a machine at its start with these images
+-- the state represents that of a machine at its start with these images
 pub record StartedOn (images : List (List ℕ)) (state : FileState) (views : List DriveView) : Type 0 where
   pub was : Files
   pub starts : StartsOn images (drive_states views) was

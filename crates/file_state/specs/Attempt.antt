@@ -29,7 +29,7 @@ pub record Attempts (call : PathCall) (m : Inner) (files : Files) (now : TimePac
   pub comes : Comes m p result end processes
   pub stands : StandsFor new views left
 
--- ---- from any state that the kernel's state stands for
+-- ---- from any state that the kernel's state represents
 
 -- the kernel's processes, its files, and the drives
 pub record Standing : Type 0 where
@@ -43,7 +43,7 @@ abbrev pub standing : {Table : Type 0} {Driver : Table → Type 0} → ((table :
 standing members processes files drives =
     record { processes = processes; files = files; views = drive_views members drives }
 
--- a fact of each state of the machine that it stands for, in which the targets of paths and directories exist
+-- a fact of each state of the machine that it represents, in which the targets of paths and directories exist
 abbrev pub OnEach : Standing → (Inner → Files → Type 0) → Type 0
 OnEach before fact =
     (m : Inner) (was : Files) → Represents before.processes m → StandsFor before.files before.views was → AreKinds was

@@ -51,7 +51,7 @@ pub record AttemptsIn (most : ℕ) (call : PathCall) (m : Inner) (was : Files) (
   pub drives : KeepsDrives (file_step call (asker_of m p now) was (length terms)) (asker_of m p now) was end
       before.views after.views
 
--- from each state that the kernel's state stands for, with the greatest number of drive calls by the calling process,
+-- from each state that the kernel's state represents, with the greatest number of drive calls by the calling process,
 -- the files and the number of terminals
 abbrev pub AttemptsWithin : (Asker → Files → ℕ → ℕ) → PathCall → TimePacket → ℕ → CallEnd → List TerminalState
     → List TerminalState → Standing → Standing → Type 0

@@ -42,7 +42,7 @@ pub record IsOpen (files : Files) (opened : KernelFile) (it : OpenFile) : Type 0
   pub file_is : it.volume.files opened.place.number ≡ Some it.file
 
 -- a call of a process on this path, at a time, ends as the step says, and calls the drive at most `most` times if it
--- reaches the drive, from each state of the machine that the kernel's state stands for
+-- reaches the drive, from each state of the machine that the kernel's state represents
 abbrev pub EndsOn : KernelFile → (Asker → Files → OpenFile → FileStep) → (Asker → OpenFile → ℕ) → TimePacket → ℕ
     → CallEnd → Standing → Standing → Type 0
 EndsOn opened step most now p end before after =

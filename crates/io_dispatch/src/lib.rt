@@ -1,4 +1,4 @@
-//! Attempts of the calls on paths: each call has its function.
+//! Attempts of the calls on terminals and pipes: each call has its function.
 #![tactic(auto)]
 
 pub use calls::attempt;

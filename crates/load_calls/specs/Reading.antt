@@ -62,7 +62,7 @@ abbrev pub ReadsBetween : Step ProgramFile → ℕ → Files → Result ProgramR
 ReadsBetween step most was result before after =
     ReadsTo step most was result after.processes.buffer.items after.files before.views after.views
 
--- this step of a calling process, at any time, from each state that the kernel's state stands for
+-- this step of a calling process, at any time, from each state that the kernel's state represents
 abbrev pub ReadsFrom : ℕ → (Asker → Files → Step ProgramFile) → (Asker → Files → ℕ) → Result ProgramRead ℕ → Standing
     → Standing → Type 0
 ReadsFrom p step most result before after =

@@ -1,4 +1,5 @@
-//! The words after a command, read by `clap` as options with their values, and arguments.
+//! The definition of the options and arguments that the words after a command give, and their
+//! reading by `clap`.
 #![tactic(auto)]
 
 ghost use Rattle.std.specs.Prelude.{◌≡◌, [], ◌∷◌, Some, None, codes};

@@ -26,11 +26,11 @@ pub record Represents (kernel : Kernel) (devices : Outside) (s : State) : Type 0
       }
   pub running : IsRunning s
 
--- a kernel with these devices stands for a state
+-- a kernel with these devices represents a state
 abbrev pub Stands : Kernel → Outside → Type 0
 Stands kernel devices = (s : State) × Represents kernel devices s
 
--- a kernel with some devices stands for a state
+-- a kernel with some devices represents a state
 abbrev pub HasState : Kernel → Type 0
 HasState kernel = (devices : Outside) × Stands kernel devices
 

@@ -1,4 +1,4 @@
-//! Calls on the records of processes, on names and on time.
+//! Calls on the records of processes, on names, signals and sleep.
 #![tactic(auto)]
 
 pub mod children;

@@ -1,5 +1,5 @@
-//! What modules, the module list and processes are: the definitions that the crates above cite, and
-//! the types in these definitions.
+//! Definitions of modules, of the module list with its revisions, links and groups, and of memory
+//! and its changes; and the types in these definitions.
 #![tactic(auto)]
 
 pub mod group;

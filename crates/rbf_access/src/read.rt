@@ -88,7 +88,8 @@ impl Volume {
         ensures counts { OnFile (media d.old) fd (λ file. Counts BlockDriver-dyn
             (file_fault result) (read_calls file at (length into.old)) d.old d.new) }
     {
-        let file = self.fd(d, fd)?;
+        self.bring(d, fd)?;
+        let file = read_fd(self.sector(fd));
         let count = readable(file.size, at, into.len());
         self.read_bytes(d, &file.segs, at, &mut into[..count])?;
         Ok(count as u32)

@@ -29,7 +29,7 @@ pub record HasGone (media : Option (List ℕ)) (n : ℕ) : Type 0 where
   pub file : DiskFile
   pub gone : IsGone media content n file
 
--- a volume in which the clusters of file n are no longer lost
+-- a volume in which the clusters of file n are not lost any more
 abbrev pub freed : DiskVolume → ℕ → DiskFile → DiskVolume
 freed v n file = with_lost v (λ c. v.lost c && not (has_cluster (shape v) n file c))
 

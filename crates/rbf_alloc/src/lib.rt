@@ -1,4 +1,5 @@
-//! Growth and release of the segments of a file, with the map of clusters.
+//! Clusters that a file of a mounted RBF volume gains, and those that a shorter or a deleted file
+//! gives back, over a drive that may fail.
 #![tactic(auto)]
 
 pub use bits::clear_mark;

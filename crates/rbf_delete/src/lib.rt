@@ -1,4 +1,4 @@
-//! Files of a mounted RBF volume that go by their names, and changes of their entries and attributes
+//! Deletions of files of a mounted RBF volume by their names, and changes of entries and attributes
 //! by one sector write, over a drive that may fail.
 #![tactic(auto)]
 

@@ -18,7 +18,7 @@ pub fn marked_clusters_are_lost()
         → Vol (put_sector image s bytes) (with_lost v (λ c. v.lost c || taken c)) }
 {}
 
-/// Lost clusters whose marks are cleared in one sector of the map are no longer lost. The marks of
+/// Lost clusters whose marks are cleared in one sector of the map are not lost any more. The marks of
 /// clusters that are not whole and in no file may be cleared with them.
 pub fn cleared_clusters_are_free()
     ensures { (image : List ℕ) (v : DiskVolume) (s : ℕ) (bytes : List ℕ) (freed : ℕ → Bool) →

@@ -123,6 +123,24 @@ pub differs_at : (name entry : List ℕ) (k here wanted byte character : ℕ) �
 differs_at name entry k here wanted byte character valid low is at left right differ has =
     absurd (differ (left ∙ ap lower is ∙ agrees_at name entry k valid.short low has ∙ ap lower (get_or_from_slice_get name k character 0 at) ∙ sym right))
 
+-- a capital letter has the low five bits of the small one
+lower_bits : (c : ℕ) → lower c % 32 ≡ c % 32
+lower_bits c = by_case (nat_le 65 c && nat_le c 90)
+  where
+    by_case : (t : Bool) → (if t then c + 32 else c) % 32 ≡ c % 32
+    by_case true = omega arith
+    by_case false = refl
+
+low_five : (b : ℕ) → b % 32 ≡ lower (b % 128) % 32
+low_five b = let bits = lower_bits (b % 128) in omega (arith, bits)
+
+-- the character before the last one of such a name agrees in its low five bits
+pub before_agrees : (name entry : List ℕ) (k byte character : ℕ) → IsName name → k + 1 < length name → byte ≡ slice_index entry k → slice_get name k ≡ Some character
+    → entry_has_name name entry ≡ true → nat_eq (byte % 32) (character % 32) ≡ true
+before_agrees name entry k byte character valid low is at has =
+    let same : lower byte ≡ lower character = ap lower is ∙ agrees_at name entry k valid.short low has ∙ ap lower (get_or_from_slice_get name k character 0 at) in
+    eq-eqb (byte % 32) (character % 32) (sym (lower_bits byte) ∙ ap (λ x. x % 32) same ∙ lower_bits character)
+
 -- what fails a test that each entry with the name passes has it not
 pub fails_test : (has passed : Bool) → (has ≡ true → passed ≡ true) → passed ≡ false → false ≡ has
 fails_test true passed test fails = sym fails ∙ test refl
@@ -143,6 +161,8 @@ module _ (name entry : List ℕ) (len byte : ℕ) (is : len ≡ length name) (va
   pub unmarked_differs : byte < 128 → entry_has_name name entry ≡ true → false ≡ true
   unmarked_differs low has = let high : 128 ≤ get_or entry (length name - 1) 0 = (alike has).marked in absurd (omega (arith, place_is))
 
-  pub last_agrees : (a b : ℕ) → a ≡ lower (byte % 128) → b ≡ lower (slice_index name (len - 1)) → entry_has_name name entry ≡ true → nat_eq a b ≡ true
-  last_agrees a b left right has =
-      eq-eqb a b (left ∙ ap (λ x. lower (x % 128)) place_is ∙ (alike has).last ∙ ap (λ k. lower (get_or name (k - 1) 0)) (sym is) ∙ sym right)
+  pub last_agrees : (b : ℕ) → b ≡ lower (slice_index name (len - 1)) → entry_has_name name entry ≡ true → nat_eq (byte % 32) (b % 32) ≡ true
+  last_agrees b right has =
+      let same : lower (byte % 128) ≡ b =
+      ap (λ x. lower (x % 128)) place_is ∙ (alike has).last ∙ ap (λ k. lower (get_or name (k - 1) 0)) (sym is) ∙ sym right in
+      eq-eqb (byte % 32) (b % 32) (low_five byte ∙ ap (λ x. x % 32) same)

@@ -30,12 +30,29 @@ pub fn named_in(sector: &[u8; 256], count: u32, name: &Name) -> Option<u32>
         (IsFirst (entry_has_name name.now) sector.now count) }
 {
     let end = end_of(name);
+    if none_alike(sector, name, end) {
+        return None;
+    }
     for i in 0..count {
         if has_name_at(sector, i, name, end) {
             return Some(i);
         }
     }
     None
+}
+
+// Whether no entry of a sector ends as the name does; then none has the name. This is so for most
+// sectors.
+fn none_alike(sector: &[u8; 256], name: &Name, end: NameEnd) -> bool
+    requires { IsEndOf name.now end }
+    ensures { result ≡ true → NonePasses (entry_has_name name.now) sector.now 8 }
+{
+    for i in 0..8 {
+        if pair_alike(sector, i, name, end) {
+            return false;
+        }
+    }
+    true
 }
 
 // The end of a name.
@@ -56,12 +73,27 @@ pub fn free_in(sector: &[u8; 256], count: u32) -> Option<u32>
         (NonePasses (λ entry. not (is_used entry)) sector.now count)
         (IsFirst (λ entry. not (is_used entry)) sector.now count) }
 {
+    if none_free(sector) {
+        return None;
+    }
     for i in 0..count {
         if byte_at(sector, i, 0) == 0 {
             return Some(i);
         }
     }
     None
+}
+
+// Whether no entry of a sector is free. This is so for most sectors.
+fn none_free(sector: &[u8; 256]) -> bool
+    ensures { result ≡ true → NonePasses (λ entry. not (is_used entry)) sector.now 8 }
+{
+    for i in 0..8 {
+        if byte_at(sector, i, 0) == 0 {
+            return false;
+        }
+    }
+    true
 }
 
 // The descriptor that an entry of a sector names.
@@ -88,7 +120,25 @@ fn has_name_at(sector: &[u8; 256], i: u32, name: &Name, end: NameEnd) -> bool
     has_name(&entry_at(sector, i), name)
 }
 
-// Whether an entry ends at the end of the name, and with the same character. No other entry has the
+// Whether an entry ends at the end of the name, and its last two characters agree with those of the
+// name as far as `ends_alike` compares characters. No other entry has the name.
+fn pair_alike(sector: &[u8; 256], i: u32, name: &Name, end: NameEnd) -> bool
+    requires entry { i < 8 }
+    requires end { IsEndOf name.now end }
+    ensures { entry_has_name name.now (directory_entry sector.now i) ≡ true → result ≡ true }
+{
+    if !ends_alike(sector, i, end) {
+        return false;
+    }
+    if end.at == 0 {
+        return true;
+    }
+    let before = end.at - 1;
+    byte_at(sector, i, before) % 32 == name.byte(before) % 32
+}
+
+// Whether an entry ends at the end of the name, and the low five bits of its last character are
+// those of the name's last one: a capital letter has those of the small one. No other entry has the
 // name, so most entries need no further test.
 fn ends_alike(sector: &[u8; 256], i: u32, end: NameEnd) -> bool
     requires entry { i < 8 }
@@ -100,7 +150,7 @@ fn ends_alike(sector: &[u8; 256], i: u32, end: NameEnd) -> bool
     if byte < 128 {
         return false;
     }
-    lower(byte % 128) == end.last
+    byte % 32 == end.last % 32
 }
 
 // Whether an entry has the characters of the name before the last one. No other entry has the name.

@@ -1,5 +1,5 @@
 -- The steps of a call that lays bytes over a file, each with what the call answers there.
-use Rattle.std.proofs.Common.{◌≡◌, ℕ, ◌+◌, ◌*◌, ◌<◌, ◌≤◌, min, Bool, true, false, ◌==◌, Option, Some, None, IsSome, Result, Ok, Err, List, [], length, refl, sym, ap, ◌∙◌, subst, ⊎_elim, arith}
+use Rattle.std.proofs.Common.{◌≡◌, ℕ, ◌+◌, ◌*◌, ◌<◌, ◌≤◌, min, Bool, true, false, ◌==◌, Option, Some, None, IsSome, Result, Ok, Err, List, [], length, refl, sym, ap, ◌∙◌, subst, ⊎_elim, arith, rules}
 use Rattle.std.specs.Prelude.{IsNone, map, nat_lt, if◌then◌else◌}
 use Rattle.std.specs.List.{range_with_len}
 use Rattle.std.proofs.Math.Nat.{mul-le-mul_left, mul-le-mul_right}
@@ -34,12 +34,13 @@ use Rattle.rbf_access.specs.MapMarks.{marking_sectors}
 use Rattle.rbf_access.specs.Cached.{IsCacheOf}
 use Rattle.rbf_access.specs.Mounted.{kept, Represents, IsMounted, IsSound, HasFile}
 use Rattle.rbf_access.specs.Reading.{IsFdOf}
-use Rattle.rbf_access.proofs.Counting.{counts_most, counts_then, counts_within}
+use Rattle.rbf_access.proofs.Counting.{no_calls, counts_most, counts_then, counts_within}
 use Rattle.rbf_access.proofs.MapMarks.{marking_most}
 use Rattle.rbf_access.proofs.Mounting.{free_total_is}
 use Rattle.rbf_access.proofs.Reading.{mounted_still}
 use Rattle.rbf_alloc.specs.Grown.{IsGrown, Grows, is_gained, growth_calls}
 use Rattle.rbf_alloc.proofs.Chosen.{length-with}
+use Rattle.rbf_alloc.proofs.NoneGrown.{none_grown}
 use Rattle.rbf_alloc.proofs.Growing.{agrees_on, sizes_are, k_is, enough_free}
 use Rattle.rbf_write.specs.Laid.{IsDataOf, IsLaid, IsPartLaid, MayLay, Fills, laid_bytes}
 use Rattle.rbf_write.proofs.Segments.{used_is}
@@ -78,6 +79,19 @@ unfolding segments_field
 few_segments descriptor =
     let pairs = map (segment_field descriptor) (range_with_len 0 48) in
     omega (arith, length-prefix_len has_sectors pairs, prefix_len-le-length has_sectors pairs, length-map-range_with_len (segment_field descriptor) 0 48)
+
+-- a file that gains no cluster keeps its segments, and no call of the drive is made
+pub none_grows : (media : Option (List ℕ)) (loaded : Loaded) → IsLoaded media loaded.number loaded → (count : ℕ) → count ≡ 0
+    → (v : DiskVolume) → Represents media v → Grows v count loaded.file.segs media media (Ok loaded.file.segs)
+none_grows media loaded is_loaded count zero v on = record {
+  grown = none_grown v media on count zero loaded.file.segs (subst (λ xs. length xs ≤ 48) is_loaded.list_is (few_segments loaded.descriptor));
+  full = (λ is. cc, λ low. absurd (omega (arith, low, zero)));
+  runs = search rules;
+  ends = search rules;
+}
+
+pub no_counts : (n : ℕ) (s : DriveCounts) → MovesCounts None n s s
+no_counts n s = counts_most None 0 n s s (omega arith) (no_calls s)
 
 -- the clusters of a file are not free
 pub own_not_free : (media : Option (List ℕ)) (v : DiskVolume) → (on : Represents media v) → (n : ℕ) (old : DiskFile)

@@ -24,7 +24,7 @@ laid_bytes whole size at from = put_at (put_at whole size (replicate (at - size)
 abbrev pub laid_front : List ℕ → List ℕ → ℕ → List ℕ
 laid_front target whole place = take (256 * place) target ++ drop (256 * place) whole
 
--- a sector has been read, laid over and written
+-- a sector has been laid over and written
 pub record LaysSector (size at : ℕ) (from : List ℕ) (start lsn : ℕ) (old new : Option (List ℕ)) : Type 0 where
   pub bytes : List ℕ
   pub whole : length bytes ≡ 256

@@ -79,7 +79,9 @@ fn fill_sector(
     if let Some(whole) = whole_sector(start, at, from) {
         return volume.store(d, lsn, &whole);
     }
-    let mut bytes = volume.load(d, lsn)?;
+    volume.bring(d, lsn)?;
+    let held = volume.sector(lsn);
+    let mut bytes = *held;
     lay(&mut bytes, start, size, at, from);
     volume.store(d, lsn, &bytes)?;
     Ok(())

@@ -3,7 +3,7 @@ ghost use Rattle.rbf_access.specs.Cached.{IsCacheOf};
 ghost use Rattle.rbf_access.specs.Drive.{Counts};
 ghost use Rattle.rbf_access.specs.Faults.{file_fault};
 ghost use Rattle.rbf_access.specs.Mounted.{IsMounted, kept};
-ghost use Rattle.rbf_write.specs.Files.{HasDataFile, IsLoaded, OnVolumeFile};
+ghost use Rattle.rbf_write.specs.Files.{HasDataFile, IsClusterCount, IsLoaded, OnVolumeFile};
 ghost use Rattle.rbf_write.specs.Finished.{IsFinished, MayFinish};
 ghost use Rattle.rbf_write.specs.Laying.{AnswersLaying};
 ghost use Rattle.rbf_write.specs.Outcomes.{IsRefusal, OnMarked, laying_calls};
@@ -50,6 +50,40 @@ pub fn lay_over(
     let Some(count) = clusters_for(volume.ident.cluster, &loaded.file.segs, end) else {
         return Err(FileFault::NoCluster);
     };
+    if count != 0 {
+        return lay_longer(volume, d, loaded, count, at, from, now);
+    }
+    fill(volume, d, &loaded.file.segs, loaded.file.size, at, from)?;
+    finish(volume, d, loaded, &loaded.file.segs, end as u32, now)?;
+    Ok(())
+}
+
+// Lays bytes over those of a file that first gains this number of clusters.
+fn lay_longer(
+    volume: &mut Volume,
+    d: &mut dyn BlockDriver,
+    loaded: &Loaded,
+    count: u32,
+    at: u32,
+    from: &[u8],
+    now: TimePacket,
+) -> Result<(), FileFault>
+    requires mounted { IsMounted volume.old (media d.old) }
+    requires file { HasDataFile (media d.old) loaded.now.number }
+    requires loaded { IsLoaded (media d.old) loaded.now.number loaded.now }
+    requires some { min loaded.now.file.size at < at + length from.now }
+    requires count { IsClusterCount
+        volume.old.ident.cluster loaded.now.file.segs (at + length from.now) count }
+    ensures answer { OnVolumeFile (media d.old) loaded.now.number (λ v file. AnswersLaying v file
+        (record { number = loaded.now.number; at = at; bytes = from.now; now = now })
+        (media d.old) (media d.new) result) }
+    ensures calls_kept { OnErr result (IsRefusal result → drive_calls d.new ≡ drive_calls d.old) }
+    ensures mounted { IsMounted volume.new (media d.new) }
+    ensures counts { OnMarked (media d.old) (media d.new) loaded.now.number result (λ v file marks.
+        Counts BlockDriver-dyn (file_fault result)
+        (laying_calls v file marks at (at + length from.now)) d.old d.new) }
+{
+    let end = at as usize + from.len();
     let longer = grow(volume, d, &loaded.file.segs, count)?;
     fill(volume, d, &longer, loaded.file.size, at, from)?;
     finish(volume, d, loaded, &longer, end as u32, now)?;

@@ -1,5 +1,5 @@
-//! Bytes that are laid over those of files of a mounted RBF volume, writes to these files and changes
-//! of their size, over a drive that may fail.
+//! Writes to files of a mounted RBF volume, changes of their sizes, and the fields of their
+//! descriptors, over a drive that may fail.
 #![tactic(auto)]
 
 pub use data::fill;

@@ -32,10 +32,11 @@ pub fn load_file(volume: &mut Volume, d: &mut dyn BlockDriver, fd: u32) -> Resul
     ensures cached { IsCacheOf (media d.new) volume.new.cache }
     ensures counts { Counts BlockDriver-dyn (file_fault result) 1 d.old d.new }
 {
-    let descriptor = volume.load(d, fd)?;
+    volume.bring(d, fd)?;
+    let bytes = volume.sector(fd);
     Ok(Loaded {
         number: fd,
-        descriptor,
-        file: read_fd(&descriptor),
+        descriptor: *bytes,
+        file: read_fd(bytes),
     })
 }

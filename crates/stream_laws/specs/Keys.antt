@@ -47,7 +47,7 @@ faults_at s n = option_map_or (λ terminal. terminal.faults) (slice_get s.terms 
 abbrev pub ahead_at : State → ℕ → List ℕ
 ahead_at s n = (terminal_at s.files.io n).ahead
 
--- the kernel has the terminal, and its type-ahead is no longer than it may be
+-- the kernel has the terminal, and its type-ahead has at most as many keys as it may hold
 pub record HasAhead (n : ℕ) (s : State) : Type 0 where
   pub within : n < length s.files.io.terminals
   pub few : length (ahead_at s n) ≤ TYPE_AHEAD

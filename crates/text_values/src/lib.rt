@@ -1,4 +1,4 @@
-//! Numbers in texts, and hexadecimal digits; and lines cut at their spaces.
+//! Numbers and hexadecimal digits in texts, and lines cut at their spaces.
 #![tactic(auto)]
 
 ghost use Rattle.std.specs.Prelude.{◌≡◌, ◌≤◌, length};

@@ -14,5 +14,5 @@ pub returns : goal.returns
 returns c name end =
     let entry = directory_entry c.args.sector.now c.args.i in
     let place : c.args.end.at ≡ c.args.end.at + 1 - 1 = omega arith in
-    last_agrees name entry (c.args.end.at + 1) c.byte_at-byte.result end.place end.is_name (c.byte_at-byte.ensures ∙ ap (λ k. slice_index entry k) place) c.lower.result c.args.end.last
-    c.lower.ensures (end.character ∙ ap (λ k. lower (slice_index name k)) place)
+    last_agrees name entry (c.args.end.at + 1) c.byte_at-byte.result end.place end.is_name (c.byte_at-byte.ensures ∙ ap (λ k. slice_index entry k) place) c.args.end.last
+    (end.character ∙ ap (λ k. lower (slice_index name k)) place)

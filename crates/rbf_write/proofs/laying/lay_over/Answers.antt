@@ -1,53 +1,32 @@
-use Rattle.std.proofs.Common.{◌≤◌, length, subst}
 use Rattle.std.proofs.lemmas.Result.{err_from_is_err_and}
 use Rattle.rbf_access.proofs.Reading.{number_on, mounted_still}
-use Rattle.rbf_write.proofs.Steps.{few_segments, past_answers, apart_all, growth_answers, calls_growth, calls_fill, calls_finish, may_lay, same_list, fill_answers, file_after, finish_answers, done_answers, done_mounted, done_sound, all_marks, most_marks, marks_then}
+use Rattle.rbf_write.proofs.Steps.{none_grows, no_counts, past_answers, calls_fill, calls_finish, may_lay, same_list, fill_answers, file_after, finish_answers, done_answers, done_mounted, done_sound, all_marks, most_marks, marks_then}
 use Rattle.rbf_write.proofs.laying.lay_over.Goals as goal
 
 pub returns-in_default-clause-answer : goal.returns-in_default-clause-answer
 returns-in_default-clause-answer g c = past_answers _ c.args.loaded.now c.args.at c.args.from.now c.args.now c.requires.loaded c.requires.file c.args.volume.now c.requires.mounted c.in_default.ensures
 
-pub grow-requires-clause-few : goal.grow-requires-clause-few
-grow-requires-clause-few g c = subst (λ xs. length xs ≤ 48) c.requires.loaded.list_is (few_segments c.args.loaded.now.descriptor)
-
-pub grow-requires-clause-apart : goal.grow-requires-clause-apart
-grow-requires-clause-apart g c = apart_all _ c.args.loaded.now c.args.at c.args.from.now c.args.now c.requires.loaded c.requires.file c.args.volume.now c.requires.mounted
-
-pub returns-in_err-longer-clause-answer : goal.returns-in_err-longer-clause-answer
-returns-in_err-longer-clause-answer g c v file on is =
-    let p = err_from_is_err_and c.from_residual.result c.from_residual.ensures.1 in
-    rw (p.1, p.2) (growth_answers _ c.args.loaded.now c.args.at c.args.from.now c.args.now c.requires.loaded
-    c.requires.file c.args.volume.now c.requires.mounted c.in-Some.count c.in-Some.ensures v file on is _ _
-    (c.in_err-longer.ensures.grows v on) c.in_err-longer.ensures.refused)
-
-pub returns-in_err-longer-clause-counts : goal.returns-in_err-longer-clause-counts
-returns-in_err-longer-clause-counts g c v file on is marks are =
-    let p = err_from_is_err_and c.from_residual.result c.from_residual.ensures.1 in
-    rw (p.1, p.2) (calls_growth _ c.args.loaded.now c.args.at c.args.from.now c.args.now c.requires.loaded
-    c.requires.file c.args.volume.now c.requires.mounted c.in-Some.count c.in-Some.ensures v file on is marks
-    (all_marks v file _ _ _ _ p.1 marks are) _ _ _ (c.in_err-longer.ensures.marks v on))
-
 pub fill-requires-clause-may : goal.fill-requires-clause-may
 fill-requires-clause-may g c =
     may_lay _ c.args.loaded.now c.args.at c.args.from.now c.args.now c.requires.loaded c.requires.file c.args.volume.now
-    c.requires.mounted c.in-Some.count c.in-Some.ensures _ c.in_ok-longer.longer c.in_ok-longer.ensures.grows
+    c.requires.mounted c.in-Some.count c.in-Some.ensures _ c.args.loaded.now.file.segs (none_grows _ c.args.loaded.now c.requires.loaded c.in-Some.count c.if-count-ne0.false)
     c.requires.some
 
 pub returns-in_err-fill-clause-answer : goal.returns-in_err-fill-clause-answer
 returns-in_err-fill-clause-answer g c v file on is =
-    let p = err_from_is_err_and c.from_residual-in_err-fill.result c.from_residual-in_err-fill.ensures.1 in
+    let p = err_from_is_err_and c.from_residual.result c.from_residual.ensures.1 in
     rw (p.1, p.2) (fill_answers _ c.args.loaded.now c.args.at c.args.from.now c.args.now c.requires.loaded
-    c.requires.file c.args.volume.now c.requires.mounted c.in-Some.count c.in-Some.ensures _ c.in_ok-longer.longer
-    c.in_ok-longer.ensures.grows _ _ c.in_err-fill.ensures.device c.in_err-fill.ensures.fills v file on is)
+    c.requires.file c.args.volume.now c.requires.mounted c.in-Some.count c.in-Some.ensures _ c.args.loaded.now.file.segs
+    (none_grows _ c.args.loaded.now c.requires.loaded c.in-Some.count c.if-count-ne0.false) _ _ c.in_err-fill.ensures.device c.in_err-fill.ensures.fills v file on is)
 
 pub returns-in_err-fill-clause-counts : goal.returns-in_err-fill-clause-counts
 returns-in_err-fill-clause-counts g c v file on is marks are =
-    let p = err_from_is_err_and c.from_residual-in_err-fill.result c.from_residual-in_err-fill.ensures.1 in
+    let p = err_from_is_err_and c.from_residual.result c.from_residual.ensures.1 in
     rw (p.1, p.2) (calls_fill _ c.args.loaded.now c.args.at c.args.from.now c.args.now c.requires.loaded c.requires.file
-    c.args.volume.now c.requires.mounted c.in-Some.count c.in-Some.ensures v file on is c.in_ok-longer.longer marks
+    c.args.volume.now c.requires.mounted c.in-Some.count c.in-Some.ensures v file on is c.args.loaded.now.file.segs marks
     (most_marks _ c.args.loaded.now c.args.at c.args.from.now c.args.now c.requires.loaded c.requires.file
-    c.args.volume.now c.requires.mounted c.in-Some.count c.in-Some.ensures v file on is c.in_ok-longer.longer marks
-    (all_marks v file _ _ _ _ p.1 marks are)) _ _ _ _ c.in_ok-longer.ensures.counts (c.in_ok-longer.ensures.marks v on)
+    c.args.volume.now c.requires.mounted c.in-Some.count c.in-Some.ensures v file on is c.args.loaded.now.file.segs marks
+    (all_marks v file _ _ _ _ p.1 marks are)) _ _ _ _ (no_counts c.in-Some.count _) (no_counts _ _)
     c.in_err-fill.ensures.counts)
 
 pub finish-requires-clause-may : goal.finish-requires-clause-may
@@ -55,16 +34,16 @@ finish-requires-clause-may g c = record {
   number =
       number_on _ c.args.loaded.now.number (file_after _ c.args.loaded.now c.args.at c.args.from.now c.args.now
       c.requires.loaded c.requires.file c.args.volume.now c.requires.mounted c.in-Some.count c.in-Some.ensures _
-      c.in_ok-longer.longer c.in_ok-longer.ensures.grows _ c.in_ok-fill.ensures.fills);
+      c.args.loaded.now.file.segs (none_grows _ c.args.loaded.now c.requires.loaded c.in-Some.count c.if-count-ne0.false) _ c.in_ok-fill.ensures.fills);
   list = c.requires.loaded.list_is;
   same =
       same_list _ c.args.loaded.now c.args.at c.args.from.now c.args.now c.requires.loaded c.requires.file
-      c.args.volume.now c.requires.mounted c.in-Some.count c.in-Some.ensures _ c.in_ok-longer.longer
-      c.in_ok-longer.ensures.grows;
+      c.args.volume.now c.requires.mounted c.in-Some.count c.in-Some.ensures _ c.args.loaded.now.file.segs
+      (none_grows _ c.args.loaded.now c.requires.loaded c.in-Some.count c.if-count-ne0.false);
   sound =
       done_sound _ c.args.loaded.now c.args.at c.args.from.now c.args.now c.requires.loaded c.requires.file
-      c.args.volume.now c.requires.mounted c.in-Some.count c.in-Some.ensures _ c.in_ok-longer.longer
-      c.in_ok-longer.ensures.grows _ c.in_ok-fill.ensures.fills;
+      c.args.volume.now c.requires.mounted c.in-Some.count c.in-Some.ensures _ c.args.loaded.now.file.segs
+      (none_grows _ c.args.loaded.now c.requires.loaded c.in-Some.count c.if-count-ne0.false) _ c.in_ok-fill.ensures.fills;
 }
 
 pub finish-requires-clause-cached : goal.finish-requires-clause-cached
@@ -74,8 +53,8 @@ pub returns-in_err-finish-clause-answer : goal.returns-in_err-finish-clause-answ
 returns-in_err-finish-clause-answer g c v file on is =
     let p = err_from_is_err_and c.from_residual-in_err-finish.result c.from_residual-in_err-finish.ensures.1 in
     rw (p.1, p.2) (finish_answers _ c.args.loaded.now c.args.at c.args.from.now c.args.now c.requires.loaded
-    c.requires.file c.args.volume.now c.requires.mounted c.in-Some.count c.in-Some.ensures _ c.in_ok-longer.longer
-    c.in_ok-longer.ensures.grows _ c.in_ok-fill.ensures.fills _ _ c.in_err-finish.ensures.media_kept
+    c.requires.file c.args.volume.now c.requires.mounted c.in-Some.count c.in-Some.ensures _ c.args.loaded.now.file.segs
+    (none_grows _ c.args.loaded.now c.requires.loaded c.in-Some.count c.if-count-ne0.false) _ c.in_ok-fill.ensures.fills _ _ c.in_err-finish.ensures.media_kept
     c.in_err-finish.ensures.later c.in_err-finish.ensures.device v file on is)
 
 pub returns-in_err-finish-clause-mounted : goal.returns-in_err-finish-clause-mounted
@@ -86,35 +65,30 @@ returns-in_err-finish-clause-counts g c v file on is marks are =
     let p = err_from_is_err_and c.from_residual-in_err-finish.result c.from_residual-in_err-finish.ensures.1 in
     rw (p.1, p.2) (calls_finish _ c.args.loaded.now c.args.at c.args.from.now c.args.now c.requires.loaded
     c.requires.file c.args.volume.now c.requires.mounted c.in-Some.count c.in-Some.ensures v file on is
-    c.in_ok-longer.longer marks (most_marks _ c.args.loaded.now c.args.at c.args.from.now c.args.now c.requires.loaded
+    c.args.loaded.now.file.segs marks (most_marks _ c.args.loaded.now c.args.at c.args.from.now c.args.now c.requires.loaded
     c.requires.file c.args.volume.now c.requires.mounted c.in-Some.count c.in-Some.ensures v file on is
-    c.in_ok-longer.longer marks (all_marks v file _ _ _ _ p.1 marks are)) _ _ _ _ _ c.in_ok-longer.ensures.counts
-    (c.in_ok-longer.ensures.marks v on) c.in_ok-fill.ensures.counts c.in_err-finish.ensures.counts)
+    c.args.loaded.now.file.segs marks (all_marks v file _ _ _ _ p.1 marks are)) _ _ _ _ _ (no_counts c.in-Some.count _)
+    (no_counts _ _) c.in_ok-fill.ensures.counts c.in_err-finish.ensures.counts)
 
 pub returns-clause-answer : goal.returns-clause-answer
 returns-clause-answer g c v file on is =
     done_answers _ c.args.loaded.now c.args.at c.args.from.now c.args.now c.requires.loaded c.requires.file
-    c.args.volume.now c.requires.mounted c.in-Some.count c.in-Some.ensures _ c.in_ok-longer.longer
-    c.in_ok-longer.ensures.grows _ c.in_ok-fill.ensures.fills _ c.in_ok-finish.ensures.done v file on is
+    c.args.volume.now c.requires.mounted c.in-Some.count c.in-Some.ensures _ c.args.loaded.now.file.segs
+    (none_grows _ c.args.loaded.now c.requires.loaded c.in-Some.count c.if-count-ne0.false) _ c.in_ok-fill.ensures.fills _ c.in_ok-finish.ensures.done v file on is
 
 pub returns-clause-mounted : goal.returns-clause-mounted
 returns-clause-mounted g c =
     done_mounted _ c.args.loaded.now c.args.at c.args.from.now c.args.now c.requires.loaded c.requires.file
-    c.args.volume.now c.requires.mounted c.in-Some.count c.in-Some.ensures _ c.in_ok-longer.longer
-    c.in_ok-longer.ensures.grows _ c.in_ok-fill.ensures.fills _ c.in_ok-finish.ensures.done _ _
+    c.args.volume.now c.requires.mounted c.in-Some.count c.in-Some.ensures _ c.args.loaded.now.file.segs
+    (none_grows _ c.args.loaded.now c.requires.loaded c.in-Some.count c.if-count-ne0.false) _ c.in_ok-fill.ensures.fills _ c.in_ok-finish.ensures.done _ _
     c.in_ok-fill.ensures.mounted c.in_ok-finish.ensures.volume_kept c.in_ok-finish.ensures.cached
 
 pub returns-clause-counts : goal.returns-clause-counts
 returns-clause-counts g c v file on is marks are =
     calls_finish _ c.args.loaded.now c.args.at c.args.from.now c.args.now c.requires.loaded c.requires.file
-    c.args.volume.now c.requires.mounted c.in-Some.count c.in-Some.ensures v file on is c.in_ok-longer.longer marks
+    c.args.volume.now c.requires.mounted c.in-Some.count c.in-Some.ensures v file on is c.args.loaded.now.file.segs marks
     (marks_then _ c.args.loaded.now c.args.at c.args.from.now c.args.now c.requires.loaded c.requires.file
-    c.args.volume.now c.requires.mounted c.in-Some.count c.in-Some.ensures _ c.in_ok-longer.longer
-    c.in_ok-longer.ensures.grows _ c.in_ok-fill.ensures.fills _ c.in_ok-finish.ensures.done v file on is marks are) _ _
-    _ _ _ c.in_ok-longer.ensures.counts (c.in_ok-longer.ensures.marks v on) c.in_ok-fill.ensures.counts
+    c.args.volume.now c.requires.mounted c.in-Some.count c.in-Some.ensures _ c.args.loaded.now.file.segs
+    (none_grows _ c.args.loaded.now c.requires.loaded c.in-Some.count c.if-count-ne0.false) _ c.in_ok-fill.ensures.fills _ c.in_ok-finish.ensures.done v file on is marks are) _ _
+    _ _ _ (no_counts c.in-Some.count _) (no_counts _ _) c.in_ok-fill.ensures.counts
     c.in_ok-finish.ensures.counts
-
-pub returns-in_err-longer-clause-calls_kept : goal.returns-in_err-longer-clause-calls_kept
-returns-in_err-longer-clause-calls_kept g c =
-    let p = err_from_is_err_and c.from_residual.result c.from_residual.ensures.1 in
-    rw (p.1, p.2) c.in_err-longer.ensures.refused_calls
