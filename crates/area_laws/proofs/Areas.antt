@@ -94,7 +94,9 @@ module _ (m : Inner) (p : ℕ) (names : NameAppeared m) where
   of-refuses true number next apart = refused-apart number
   of-refuses false number next apart = apart
 
-  of-changes : (change : Result MemoryState MemoryFault) (next : MemoryState → CallResult) → ((memory : MemoryState) → change ≡ Ok memory → AttemptApart m p (next memory)) → AttemptApart m p (changes change next)
+  of-changes : (change : Result MemoryState MemoryFault) (next : MemoryState → CallResult)
+      → ((memory : MemoryState) → change ≡ Ok memory → AttemptApart m p (next memory))
+      → AttemptApart m p (changes change next)
   of-changes (Ok memory) next apart = apart memory refl
   of-changes (Err fault) next apart = refused-apart (memory_error fault)
 
@@ -154,7 +156,10 @@ module _ (s : State) (p : ℕ) (names : NameAppeared s.inner) (file : ProgramFil
       let below = loaded-below object (was-shared loaded.memory n object keeps grouped) in omega (arith, below, late)
 
   -- a child starts it
-  module _ (lives : IsLiving s.inner.records p) (call : AttemptsCall s.inner p Call.Fork) (has : HasRoom before p program) (child : ℕ) (free : free_process s.inner.records ≡ Some child) (memory : MemoryState) (is : started loaded.memory child loaded.first.number (blocks_of_pages program.pages) ≡ Ok memory) where
+  module _ (lives : IsLiving s.inner.records p) (call : AttemptsCall s.inner p Call.Fork)
+      (has : HasRoom before p program) (child : ℕ) (free : free_process s.inner.records ≡ Some child)
+      (memory : MemoryState) (is : started loaded.memory child loaded.first.number (blocks_of_pages program.pages) ≡
+      Ok memory) where
     abbrev made : Inner
     made = with_regs_of (with_child before p child program memory) p (forked_regs (regs_at before p) child program)
 
@@ -176,7 +181,9 @@ module _ (s : State) (p : ℕ) (names : NameAppeared s.inner) (file : ProgramFil
     parent-had : (r object : ℕ) → r ≡ p → p ≢ child → IsOfArea forked r object → NamesBlock (map_at s.inner.memory p) object
     parent-had r object same differ area =
         let (slot, below, at) = subst (λ (r : ℕ). IsOfArea forked r object) same area in
-        let stays : map_at memory p ≡ map_at s.inner.memory p = map-kept loaded.memory child loaded.first.number (blocks_of_pages program.pages) memory begins p differ ∙ map-same s.inner.memory file.bytes loaded (is-loaded s p file loaded it) p in
+        let stays : map_at memory p ≡ map_at s.inner.memory p = map-kept loaded.memory child loaded.first.number
+        (blocks_of_pages program.pages) memory begins p differ ∙ map-same s.inner.memory file.bytes loaded
+        (is-loaded s p file loaded it) p in
         (slot, ap (λ (slots : Slots ℕ). block_at slots slot) (sym stays) ∙ at)
 
     forked-apart : AttemptApart s.inner p (done made)
@@ -205,7 +212,8 @@ module _ (s : State) (p : ℕ) (names : NameAppeared s.inner) (file : ProgramFil
           changes (started loaded.memory child loaded.first.number (blocks_of_pages program.pages)) (begins_so child)
 
   -- the process begins anew with it
-  module _ (call : AttemptsCall s.inner p Call.Chain) (has : HasRoom before p program) (memory : MemoryState) (is : started loaded.memory p loaded.first.number (blocks_of_pages program.pages) ≡ Ok memory) where
+  module _ (call : AttemptsCall s.inner p Call.Chain) (has : HasRoom before p program) (memory : MemoryState)
+      (is : started loaded.memory p loaded.first.number (blocks_of_pages program.pages) ≡ Ok memory) where
     abbrev anew : Inner
     anew = begun_anew (with_program before p program memory) p program
 
@@ -223,7 +231,10 @@ module _ (s : State) (p : ℕ) (names : NameAppeared s.inner) (file : ProgramFil
     chained-apart r object (inl same) area appears =
         let (slot, below, at) = subst (λ (r : ℕ). IsOfArea chained r object) same area in
         let map_is : map_at chained.memory p ≡ map_at memory p = chained-map (own_at before p).primary in
-        let late = area-late loaded.memory p loaded.first.number (blocks_of_pages program.pages) memory (started-is loaded.memory p loaded.first.number (blocks_of_pages program.pages) memory is) slot object (subst (λ (slots : Slots ℕ). slot < slots.low) map_is below) (subst (λ (slots : Slots ℕ). block_at slots slot ≡ Some object) map_is at) in
+        let late = area-late loaded.memory p loaded.first.number (blocks_of_pages program.pages) memory
+        (started-is loaded.memory p loaded.first.number (blocks_of_pages program.pages) memory is) slot object
+        (subst (λ (slots : Slots ℕ). slot < slots.low) map_is below)
+        (subst (λ (slots : Slots ℕ). block_at slots slot ≡ Some object) map_is at) in
         inr (late-apart chained.memory chained-left.leaves.modules object late)
     chained-apart r object (inr (forks_it, free)) area appears = absurd (chains-alone s.inner p call forks_it)
 
@@ -244,7 +255,9 @@ module _ (s : State) (p : ℕ) (names : NameAppeared s.inner) (now : TimePacket)
   forks-apart : IsLiving s.inner.records p → AttemptsCall s.inner p Call.Fork → ForkAttempts s.inner (asker_of s.inner p now) s.files (length s.terms) p result new → AttemptApart s.inner p result
   forks-apart lives call it = by_named (named_program s.inner p) refl it
     where
-      by_named : (named : Option Entered) → named_program s.inner p ≡ named → MatchOption named (StartsFile forks s.inner (asker_of s.inner p now) s.files (length s.terms) p result new) (λ named. (result ≡ f_fork s.inner p) × (new ≡ s.files)) → AttemptApart s.inner p result
+      by_named : (named : Option Entered) → named_program s.inner p ≡ named → MatchOption named
+          (StartsFile forks s.inner (asker_of s.inner p now) s.files (length s.terms) p result new)
+          (λ named. (result ≡ f_fork s.inner p) × (new ≡ s.files)) → AttemptApart s.inner p result
       by_named None unnamed it =
           goes-on s.inner (AttemptApart s.inner p) (refused-apart s.inner p names) it.reading (starts_first forks s.inner p) result
           (λ file loaded is loading. (
@@ -258,7 +271,9 @@ module _ (s : State) (p : ℕ) (names : NameAppeared s.inner) (now : TimePacket)
   chains-apart : IsLiving s.inner.records p → AttemptsCall s.inner p Call.Chain → ChainAttempts s.inner (asker_of s.inner p now) s.files (length s.terms) p result new → AttemptApart s.inner p result
   chains-apart lives call it = by_named (named_program s.inner p) refl it
     where
-      by_named : (named : Option Entered) → named_program s.inner p ≡ named → MatchOption named (StartsFile chains s.inner (asker_of s.inner p now) s.files (length s.terms) p result new) (λ named. (result ≡ f_chain s.inner p) × (new ≡ s.files)) → AttemptApart s.inner p result
+      by_named : (named : Option Entered) → named_program s.inner p ≡ named → MatchOption named
+          (StartsFile chains s.inner (asker_of s.inner p now) s.files (length s.terms) p result new)
+          (λ named. (result ≡ f_chain s.inner p) × (new ≡ s.files)) → AttemptApart s.inner p result
       by_named None unnamed it =
           goes-on s.inner (AttemptApart s.inner p) (refused-apart s.inner p names) it.reading (starts_first chains s.inner p) result
           (λ file loaded is loading. (
@@ -271,23 +286,27 @@ module _ (s : State) (p : ℕ) (names : NameAppeared s.inner) (now : TimePacket)
 
 -- ---- events that are no F$Load
 
-module _ (s : State) (p code : ℕ) (names : NameAppeared s.inner) (next : act_of s.inner p ≡ attempts code) (lives : IsLiving s.inner.records p) (other : act_of s.inner p ≢ attempts F_LOAD) (now : TimePacket) (rest : Rest) where
-  serves-apart : (service : Service) (result : CallResult) → Asks code service → Serves service s now p result rest → AttemptApart s.inner p result
-  serves-apart loads result asked it = absurd (other (next ∙ ap attempts asked))
-  serves-apart (on_processes Call.Fork) result asked (files, it, is) =
-      forks-apart s p names now result files lives (code, next, asked) it
-  serves-apart (on_processes Call.Chain) result asked (files, it, is) =
-      chains-apart s p names now result files lives (code, next, asked) it
-  serves-apart (on_processes call) result asked it =
-      subst (AttemptApart s.inner p) (sym it.0) (left-apart s.inner p names (attempted call s.inner p) (attempt-left s.inner p call lives (code, next, asked)))
-  serves-apart (on_time call) result asked (clock, it, is) =
-      subst (AttemptApart s.inner p) (sym it.result_is) (left-apart s.inner p names (result_of s.inner p (time_step call s.inner now p)) (time-left s.inner p (time_step call s.inner now p)))
-  serves-apart (on_paths call) result asked (it, same) =
-      subst (AttemptApart s.inner p) (sym it.result_is) (left-apart s.inner p names (result_by it.effect.end s.inner p (io_effect it.effect)) (by-end s.inner p (io_effect it.effect) it.effect.end))
-  serves-apart no_call result asked (result_is, is) =
-      subst (AttemptApart s.inner p) (sym result_is) (refused-apart s.inner p names E_UNKSVC)
+module _ (s : State) (p code : ℕ) (names : NameAppeared s.inner) (next : act_of s.inner p ≡ attempts code)
+    (lives : IsLiving s.inner.records p) (other : act_of s.inner p ≢ attempts F_LOAD) (now : TimePacket) (rest : Rest)
+  where
+    serves-apart : (service : Service) (result : CallResult) → Asks code service → Serves service s now p result rest → AttemptApart s.inner p result
+    serves-apart loads result asked it = absurd (other (next ∙ ap attempts asked))
+    serves-apart (on_processes Call.Fork) result asked (files, it, is) =
+        forks-apart s p names now result files lives (code, next, asked) it
+    serves-apart (on_processes Call.Chain) result asked (files, it, is) =
+        chains-apart s p names now result files lives (code, next, asked) it
+    serves-apart (on_processes call) result asked it =
+        subst (AttemptApart s.inner p) (sym it.0) (left-apart s.inner p names (attempted call s.inner p) (attempt-left s.inner p call lives (code, next, asked)))
+    serves-apart (on_time call) result asked (clock, it, is) =
+        subst (AttemptApart s.inner p) (sym it.result_is) (left-apart s.inner p names (result_of s.inner p (time_step call s.inner now p)) (time-left s.inner p (time_step call s.inner now p)))
+    serves-apart (on_paths call) result asked (it, same) =
+        subst (AttemptApart s.inner p) (sym it.result_is) (left-apart s.inner p names (result_by it.effect.end s.inner p (io_effect it.effect)) (by-end s.inner p (io_effect it.effect) it.effect.end))
+    serves-apart no_call result asked (result_is, is) =
+        subst (AttemptApart s.inner p) (sym result_is) (refused-apart s.inner p names E_UNKSVC)
 
-pub acts-apart : (act : Act) (s : State) (p : ℕ) (end : EventEnd) (t : State) → NameAppeared s.inner → IsLiving s.inner.records p → act_of s.inner p ≡ act → act_of s.inner p ≢ attempts F_LOAD → Acts act s p end t → AreasApart s.inner p t.inner
+pub acts-apart : (act : Act) (s : State) (p : ℕ) (end : EventEnd) (t : State) → NameAppeared s.inner
+    → IsLiving s.inner.records p → act_of s.inner p ≡ act → act_of s.inner p ≢ attempts F_LOAD → Acts act s p end t
+    → AreasApart s.inner p t.inner
 acts-apart executes s p end t names lives next other (over, is) =
     subst (λ (t : State). AreasApart s.inner p t.inner) (sym is)
     (apart-by s.inner p names (after_instruction s.inner p (next_instruction s.inner p)) (instruction-left s.inner p (next_instruction s.inner p)).leaves.modules)

@@ -34,13 +34,18 @@ AreOfGroup group entries = (number : ℕ) (entry : ModuleEntry) → module_entry
 with-group : (group : List ℕ) (entries : List (Option ModuleEntry)) (info : ModuleInfo) (is_boot : Bool) → AreOfGroup group entries → AreOfGroup group (with_module entries info group is_boot)
 with-group group entries info is_boot are other entry is = by_free (free_number entries) refl is
   where
-    by_free : (free : Option ℕ) → free_number entries ≡ free → module_entry_at (option_map_or (λ number. with_module_entry entries number (new_entry info group is_boot)) free entries) other ≡ Some entry → entry.group ≡ group
+    by_free : (free : Option ℕ) → free_number entries ≡ free
+        → module_entry_at (option_map_or (λ number. with_module_entry entries number (new_entry info group is_boot))
+        free entries) other ≡ Some entry → entry.group ≡ group
     by_free None found there = are other entry there
     by_free (Some number) found there =
         elim (cases_eq other number) [
           | inl same ↦
               (let place = position-Some is_none entries number None found in
-              let put : module_entry_at (with_module_entry entries number (new_entry info group is_boot)) other ≡ Some (new_entry info group is_boot) = ap (module_entry_at (with_module_entry entries number (new_entry info group is_boot))) same ∙ entry-put entries number (new_entry info group is_boot) place.0 in
+              let put : module_entry_at (with_module_entry entries number (new_entry info group is_boot)) other ≡ Some
+              (new_entry info group is_boot) = ap
+              (module_entry_at (with_module_entry entries number (new_entry info group is_boot))) same ∙ entry-put
+              entries number (new_entry info group is_boot) place.0 in
               sym (ap (λ (e : ModuleEntry). e.group) (same_Some (new_entry info group is_boot) entry (sym put ∙ there))))
           | inr differ ↦ are other entry (sym (entry-other entries number (new_entry info group is_boot) other differ) ∙ there)
         ]
@@ -49,7 +54,9 @@ abbrev OutcomeOf : List ℕ → Result (List (Option ModuleEntry)) (ℕ × ℕ) 
 OutcomeOf group (Ok entries) = AreOfGroup group entries
 OutcomeOf group (Err refusal) = Unit {0}
 
-entered-group : {file group : List ℕ} {is_boot : Bool} {from : ℕ} {entries : List (Option ModuleEntry)} {outcome : Result (List (Option ModuleEntry)) (ℕ × ℕ)} → EntersModules file group is_boot from entries outcome → AreOfGroup group entries → OutcomeOf group outcome
+entered-group : {file group : List ℕ} {is_boot : Bool} {from : ℕ} {entries : List (Option ModuleEntry)}
+    {outcome : Result (List (Option ModuleEntry)) (ℕ × ℕ)} → EntersModules file group is_boot from entries outcome
+    → AreOfGroup group entries → OutcomeOf group outcome
 entered-group (at_end a) are = are
 entered-group (broken a) are = tt
 entered-group (refused a b) are = tt
@@ -132,7 +139,9 @@ module _ (boot : Boot) (s : State) (starts : Starts boot s) where
   low-long : (map_at after 2).low ≡ count
   low-long = omega (arith, length-range_with_len (length booted.objects) count)
 
-  area-own : (object : ℕ) (slot : ℕ) → slot < (map_at after 2).low → block_at (map_at after 2) slot ≡ Some object → IsOwn (only_process (with_first_slots booted 2 begins.entry.group count) (first_start starts.number starts.entry)) 2 object
+  area-own : (object : ℕ) (slot : ℕ) → slot < (map_at after 2).low → block_at (map_at after 2) slot ≡ Some object
+      → IsOwn (only_process (with_first_slots booted 2 begins.entry.group count)
+      (first_start starts.number starts.entry)) 2 object
   area-own object slot within is = record {
     appeared = maps-appeared 2 object (slot, is);
     named = (slot, is);
@@ -146,5 +155,6 @@ module _ (boot : Boot) (s : State) (starts : Starts boot s) where
   pub start-own : (object : ℕ) → IsOfArea s.inner 2 object → IsOwn s.inner 2 object
   start-own object =
       subst (λ (s : State). IsOfArea s.inner 2 object → IsOwn s.inner 2 object) (sym starts.is)
-      (subst (λ memory. IsOfArea (only_process memory (first_start starts.number starts.entry)) 2 object → IsOwn (only_process memory (first_start starts.number starts.entry)) 2 object) (sym begins.memory)
+      (subst (λ memory. IsOfArea (only_process memory (first_start starts.number starts.entry)) 2 object
+      → IsOwn (only_process memory (first_start starts.number starts.entry)) 2 object) (sym begins.memory)
       (λ of. area-own object of.0 of.1 of.2))

@@ -65,7 +65,8 @@ longer m n sizes =
 
 -- a group that an entered module has now, one had before
 pub was-shared : (m n : MemoryState) (object : ℕ) → KeepsModules m.modules n.modules → IsOfModule n object → IsOfModule m object
-was-shared m n object keeps grouped = by_old (module_entry_at m.modules grouped.number) refl (subst (ModuleComesOf m.modules (module_entry_at m.modules grouped.number)) grouped.is (keeps grouped.number))
+was-shared m n object keeps grouped = by_old (module_entry_at m.modules grouped.number) refl
+    (subst (ModuleComesOf m.modules (module_entry_at m.modules grouped.number)) grouped.is (keeps grouped.number))
   where
     by_old : (old : Option ModuleEntry) → module_entry_at m.modules grouped.number ≡ old → ModuleComesOf m.modules (module_entry_at m.modules grouped.number) (Some grouped.entry) → IsOfModule m object
     by_old (Some old) was comes =
@@ -121,7 +122,9 @@ module _ (s : State) (p : ℕ) (file : ProgramFile) (loaded : Loaded) (it : Load
   linked-groups mapped is =
       from-file (linked mapped.memory loaded.first.number) grows.kept.sizes
       (keeps-more loaded.memory.modules (linked mapped.memory loaded.first.number).modules
-      (subst (λ (entries : List (Option ModuleEntry)). HaveMore entries (linked mapped.memory loaded.first.number).modules) (mapped-modules loaded.memory p loaded.first.entry.group mapped is) (more-linked mapped.memory loaded.first.number)))
+      (subst (λ (entries : List (Option ModuleEntry)). HaveMore entries
+      (linked mapped.memory loaded.first.number).modules) (mapped-modules loaded.memory p loaded.first.entry.group
+      mapped is) (more-linked mapped.memory loaded.first.number)))
     where
       grows : Grows loaded.memory (λ byte. Unit {0}) p mapped.memory
       grows =
@@ -130,7 +133,10 @@ module _ (s : State) (p : ℕ) (file : ProgramFile) (loaded : Loaded) (it : Load
   link-groups : AttemptGroups s.inner p (links_first s.inner p file loaded)
   link-groups = by_mapped (mapped_group loaded.memory p loaded.first.entry.group) refl
     where
-      by_links : (mapped : Mapped) → mapped_group loaded.memory p loaded.first.entry.group ≡ Some mapped → (most : Bool) → AttemptGroups s.inner p (refuses most E_MEMFUL (done (after_link s.inner p loaded.first mapped (file.next - (regs_at s.inner p).x))))
+      by_links : (mapped : Mapped) → mapped_group loaded.memory p loaded.first.entry.group ≡ Some mapped
+          → (most : Bool) → AttemptGroups s.inner p
+          (refuses most E_MEMFUL (done (after_link s.inner p loaded.first mapped
+          (file.next - (regs_at s.inner p).x))))
       by_links mapped is true = refused-groups s.inner p E_MEMFUL
       by_links mapped is false = linked-groups mapped is
 
@@ -173,7 +179,10 @@ module _ (s : State) (p : ℕ) (file : ProgramFile) (loaded : Loaded) (it : Load
 -- ---- attempts
 
 -- a call that goes on with a file in memory, or is refused
-pub goes-on : (m : Inner) (Holds : CallResult → Type 0) → ((number : ℕ) → Holds (refused number)) → (reading : Result ProgramFile ℕ) (next : ProgramFile → Loaded → CallResult) (result : CallResult) → ((file : ProgramFile) (loaded : Loaded) → reading ≡ Ok file → Loads m.memory file.bytes (Ok loaded) → Holds (next file loaded)) → GoesOnLoaded m reading next result → Holds result
+pub goes-on : (m : Inner) (Holds : CallResult → Type 0) → ((number : ℕ) → Holds (refused number))
+    → (reading : Result ProgramFile ℕ) (next : ProgramFile → Loaded → CallResult) (result : CallResult)
+    → ((file : ProgramFile) (loaded : Loaded) → reading ≡ Ok file → Loads m.memory file.bytes (Ok loaded)
+    → Holds (next file loaded)) → GoesOnLoaded m reading next result → Holds result
 goes-on m Holds refuses_so (Err number) next result holds is = subst Holds (sym is) (refuses_so number)
 goes-on m Holds refuses_so (Ok file) next result holds (Err number, loading, is) =
     subst Holds (sym is) (refuses_so number)
@@ -187,20 +196,29 @@ module _ (s : State) (p : ℕ) (now : TimePacket) (result : CallResult) (new : F
       (λ file loaded is loading. link-groups s p file loaded (record {
         call = inl next;
         found =
-            file-found s p now file new (subst (λ (reading : Result ProgramFile ℕ). ReadsProgram (program_file (asker_of s.inner p now) s.files (length s.terms) (λ step. step)) reading s.files new) is it.reads);
+            file-found s p now file new (subst (λ (reading : Result ProgramFile ℕ). ReadsProgram
+            (program_file (asker_of s.inner p now) s.files (length s.terms) (λ step. step)) reading s.files new)
+            is it.reads);
         loads = loading;
       }))
       it.comes
 
   -- what was read of the program that a process starts
-  pub has-read : (file : ProgramFile) (reading : Result ProgramFile ℕ) → reading ≡ Ok file → ReadsProgram (program_file (asker_of s.inner p now) s.files (length s.terms) (tests_program s.inner p)) reading s.files new → HasRead s.inner p file (program_file (asker_of s.inner p now) s.files (length s.terms) (λ step. step))
+  pub has-read : (file : ProgramFile) (reading : Result ProgramFile ℕ) → reading ≡ Ok file
+      → ReadsProgram (program_file (asker_of s.inner p now) s.files (length s.terms) (tests_program s.inner p))
+      reading s.files new → HasRead s.inner p file (program_file (asker_of s.inner p now) s.files (length s.terms)
+      (λ step. step))
   has-read file reading is reads =
-      program-found s p now file new (subst (λ (reading : Result ProgramFile ℕ). ReadsProgram (program_file (asker_of s.inner p now) s.files (length s.terms) (tests_program s.inner p)) reading s.files new) is reads)
+      program-found s p now file new (subst (λ (reading : Result ProgramFile ℕ). ReadsProgram
+      (program_file (asker_of s.inner p now) s.files (length s.terms) (tests_program s.inner p)) reading s.files
+      new) is reads)
 
   forks-groups : IsLiving s.inner.records p → AttemptsCall s.inner p Call.Fork → ForkAttempts s.inner (asker_of s.inner p now) s.files (length s.terms) p result new → AttemptGroups s.inner p result
   forks-groups lives call it = by_named (named_program s.inner p) refl it
     where
-      by_named : (named : Option Entered) → named_program s.inner p ≡ named → MatchOption named (StartsFile forks s.inner (asker_of s.inner p now) s.files (length s.terms) p result new) (λ named. (result ≡ f_fork s.inner p) × (new ≡ s.files)) → AttemptGroups s.inner p result
+      by_named : (named : Option Entered) → named_program s.inner p ≡ named → MatchOption named
+          (StartsFile forks s.inner (asker_of s.inner p now) s.files (length s.terms) p result new)
+          (λ named. (result ≡ f_fork s.inner p) × (new ≡ s.files)) → AttemptGroups s.inner p result
       by_named None unnamed it =
           goes-on s.inner (AttemptGroups s.inner p) (refused-groups s.inner p) it.reading (starts_first forks s.inner p) result
           (λ file loaded is loading. (
@@ -214,7 +232,9 @@ module _ (s : State) (p : ℕ) (now : TimePacket) (result : CallResult) (new : F
   chains-groups : IsLiving s.inner.records p → AttemptsCall s.inner p Call.Chain → ChainAttempts s.inner (asker_of s.inner p now) s.files (length s.terms) p result new → AttemptGroups s.inner p result
   chains-groups lives call it = by_named (named_program s.inner p) refl it
     where
-      by_named : (named : Option Entered) → named_program s.inner p ≡ named → MatchOption named (StartsFile chains s.inner (asker_of s.inner p now) s.files (length s.terms) p result new) (λ named. (result ≡ f_chain s.inner p) × (new ≡ s.files)) → AttemptGroups s.inner p result
+      by_named : (named : Option Entered) → named_program s.inner p ≡ named → MatchOption named
+          (StartsFile chains s.inner (asker_of s.inner p now) s.files (length s.terms) p result new)
+          (λ named. (result ≡ f_chain s.inner p) × (new ≡ s.files)) → AttemptGroups s.inner p result
       by_named None unnamed it =
           goes-on s.inner (AttemptGroups s.inner p) (refused-groups s.inner p) it.reading (starts_first chains s.inner p) result
           (λ file loaded is loading. (

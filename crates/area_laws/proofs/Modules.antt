@@ -42,7 +42,8 @@ of-entries : (entries : List (Option ModuleEntry)) (object : ℕ) → OfEntries 
 of-entries [] object = inr (λ it. it.1)
 of-entries (place ∷ entries) object = by_first (of-place place object) (of-entries entries object)
   where
-    by_first : OfPlace place object ⊎ (OfPlace place object → ⊥) → OfEntries entries object ⊎ (OfEntries entries object → ⊥) → OfEntries (place ∷ entries) object ⊎ (OfEntries (place ∷ entries) object → ⊥)
+    by_first : OfPlace place object ⊎ (OfPlace place object → ⊥) → OfEntries entries object ⊎
+        (OfEntries entries object → ⊥) → OfEntries (place ∷ entries) object ⊎ (OfEntries (place ∷ entries) object → ⊥)
     by_first (inl it) rest = inl (0, it)
     by_first (inr first) (inl (number, it)) = inl (suc number, it)
     by_first (inr first) (inr rest) = inr (of-next place entries object first rest)

@@ -37,7 +37,10 @@ module _ (bytes : List ℕ) (first second : Regs) where
         | inl within ↦ get_or-replicate 33 q no_slots no_slots within
         | inr past ↦ get_or_past (replicate 33 no_slots) q no_slots (rw length-replicate past)
       ] in
-      let there : map_at (two_processes bytes first second).memory q ≡ no_slots = get_or-set_other (slice_set (replicate 33 no_slots) 2 (with_low no_slots (0 ∷ []))) 3 q (with_low no_slots (1 ∷ [])) no_slots not_three ∙ get_or-set_other (replicate 33 no_slots) 2 q (with_low no_slots (0 ∷ [])) no_slots not_two ∙ nothing in
+      let there : map_at (two_processes bytes first second).memory q ≡ no_slots = get_or-set_other
+      (slice_set (replicate 33 no_slots) 2 (with_low no_slots (0 ∷ []))) 3 q (with_low no_slots (1 ∷ [])) no_slots
+      not_three ∙ get_or-set_other (replicate 33 no_slots) 2 q (with_low no_slots (0 ∷ [])) no_slots not_two ∙
+      nothing in
       has-none 8 object (subst (λ slots. NamesBlock slots object) there names)
 
   none-there : (object : ℕ) → IsOfModule (two_processes bytes first second).memory object → ⊥

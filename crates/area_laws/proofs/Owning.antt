@@ -211,7 +211,9 @@ own-at_once s t end p object (q, chosen, lives, acts) names it =
     own-then s.inner t.inner q end (left-so s t end q chosen (q, chosen, lives, acts)) names p object it.has it.named it.appears
 
 -- a group that appears is of a module that is entered
-pub own-unless_entered : (s t : State) (end : EventEnd) (p object : ℕ) → Event s end t → NameAppeared s.inner → KeepsModules s.inner.memory.modules t.inner.memory.modules → AppearsIn s.inner p object t.inner → IsOwn t.inner p object
+pub own-unless_entered : (s t : State) (end : EventEnd) (p object : ℕ) → Event s end t → NameAppeared s.inner
+    → KeepsModules s.inner.memory.modules t.inner.memory.modules → AppearsIn s.inner p object t.inner
+    → IsOwn t.inner p object
 own-unless_entered s t end p object event names keeps it =
     by_module (own-at_once s t end p object event names it)
   where
@@ -222,7 +224,9 @@ own-unless_entered s t end p object event names keeps it =
         let late = it.appears.0 in
         absurd (omega arith)
 
-pub own-area : (s t : State) (end : EventEnd) (p object : ℕ) → Event s end t → NameAppeared s.inner → ((q : ℕ) → s.chosen ≡ Some q → act_of s.inner q ≢ attempts F_LOAD) → HasRecord t.inner p → IsOfArea t.inner p object → Appears s.inner.memory t.inner.memory object → IsOwn t.inner p object
+pub own-area : (s t : State) (end : EventEnd) (p object : ℕ) → Event s end t → NameAppeared s.inner
+    → ((q : ℕ) → s.chosen ≡ Some q → act_of s.inner q ≢ attempts F_LOAD) → HasRecord t.inner p → IsOfArea t.inner p
+    object → Appears s.inner.memory t.inner.memory object → IsOwn t.inner p object
 own-area s t end p object (q, chosen, lives, acts) names other has (slot, below, at) appears =
     area-then s.inner t.inner q end (left-so s t end q chosen (q, chosen, lives, acts)) names p object has (slot, at) appears (slot, below, at)
     (acts-apart (act_of s.inner q) s q end t names lives refl (other q chosen) acts)
@@ -231,7 +235,8 @@ pub still-appeared : (s t : State) (end : EventEnd) → Event s end t → NameAp
 still-appeared s t end (q, chosen, lives, acts) names =
     appeared-then s.inner t.inner q end (left-so s t end q chosen (q, chosen, lives, acts)) names
 
-pub own-event : (s t : State) (end : EventEnd) (q p object : ℕ) → s.chosen ≡ Some q → p ≢ q → Event s end t → IsLiving s.inner.records p → IsOwn s.inner p object → KeepsOwnObject s.inner p object t.inner
+pub own-event : (s t : State) (end : EventEnd) (q p object : ℕ) → s.chosen ≡ Some q → p ≢ q → Event s end t
+    → IsLiving s.inner.records p → IsOwn s.inner p object → KeepsOwnObject s.inner p object t.inner
 own-event s t end q p object chosen differ event lives own =
     own-other s.inner t.inner q end (left-so s t end q chosen event) p object own differ lives
 

@@ -45,14 +45,19 @@ own-then m n o p object first next =
 own-same : (m : Inner) (p object : ℕ) → IsLiving m.records p → IsOwn m p object → KeepsOwnObject m p object m
 own-same m p object lives own = record { lives = lives; own = own; bytes = refl }
 
-own-steps : (left : ℕ) (s : State) (states : List State) (t : State) (q p object : ℕ) → s.chosen ≡ Some q → p ≢ q → Steps left s states t → IsLiving s.inner.records p → IsOwn s.inner p object → KeepsOwnObject s.inner p object t.inner
+own-steps : (left : ℕ) (s : State) (states : List State) (t : State) (q p object : ℕ) → s.chosen ≡ Some q → p ≢ q
+    → Steps left s states t → IsLiving s.inner.records p → IsOwn s.inner p object → KeepsOwnObject s.inner p object
+    t.inner
 own-steps left s [] t q p object chosen differ (over, is) lives own =
     subst (λ (t : State). KeepsOwnObject s.inner p object t.inner) (sym is) (own-same s.inner p object lives own)
 own-steps left s (m ∷ ms) t q p object chosen differ (some, end, event, steps) lives own =
     let first : KeepsOwnObject s.inner p object m.inner = own-event s m end q p object chosen differ event lives own in
     own-then s.inner m.inner t.inner p object first (by_going (is_going end) (own-steps (left - cost s) m ms t q p object (event-chosen s m end event ∙ chosen) differ) first steps)
   where
-    by_going : (going : Bool) → (Steps (left - cost s) m ms t → IsLiving m.inner.records p → IsOwn m.inner p object → KeepsOwnObject m.inner p object t.inner) → KeepsOwnObject s.inner p object m.inner → MatchBool going (Steps (left - cost s) m ms t) ((ms ≡ []) × (t ≡ m)) → KeepsOwnObject m.inner p object t.inner
+    by_going : (going : Bool) → (Steps (left - cost s) m ms t → IsLiving m.inner.records p → IsOwn m.inner p object
+        → KeepsOwnObject m.inner p object t.inner) → KeepsOwnObject s.inner p object m.inner
+        → MatchBool going (Steps (left - cost s) m ms t) ((ms ≡ []) × (t ≡ m)) → KeepsOwnObject m.inner p object
+        t.inner
     by_going true later first steps = later steps first.lives first.own
     by_going false later first (none, is) =
         subst (λ (t : State). KeepsOwnObject m.inner p object t.inner) (sym is) (own-same m.inner p object first.lives first.own)
@@ -88,13 +93,18 @@ own-choice s t p object is lives own =
       bytes = refl;
     })
 
-own-chosen : (n : ℕ) (chosen : State) (states : List State) (end : SliceEnd) (t : State) (p object : ℕ) (who : Option ℕ) → chosen.chosen ≡ who → MatchOption who ((end ≡ Idle) × (states ≡ []) × (t ≡ chosen)) (λ p. (end ≡ Ran) × Steps n chosen states t) → t.chosen ≢ Some p → IsLiving chosen.inner.records p → IsOwn chosen.inner p object → KeepsOwnObject chosen.inner p object t.inner
+own-chosen : (n : ℕ) (chosen : State) (states : List State) (end : SliceEnd) (t : State) (p object : ℕ)
+    (who : Option ℕ) → chosen.chosen ≡ who → MatchOption who ((end ≡ Idle) × (states ≡ []) × (t ≡ chosen))
+    (λ p. (end ≡ Ran) × Steps n chosen states t) → t.chosen ≢ Some p → IsLiving chosen.inner.records p
+    → IsOwn chosen.inner p object → KeepsOwnObject chosen.inner p object t.inner
 own-chosen n chosen states end t p object None is (idle, none, last) other lives own =
     subst (λ (t : State). KeepsOwnObject chosen.inner p object t.inner) (sym last) (own-same chosen.inner p object lives own)
 own-chosen n chosen states end t p object (Some q) is (ran, steps) other lives own =
     own-steps n chosen states t q p object is (λ same. other (steps-chosen n chosen states t steps ∙ is ∙ ap Some (sym same))) steps lives own
 
-pub own-slice : (n : ℕ) (s : State) (states : List State) (end : SliceEnd) (t : State) (p object : ℕ) → Slice n s states end t → t.chosen ≢ Some p → IsLiving s.inner.records p → IsOwn s.inner p object → KeepsOwnObject s.inner p object t.inner
+pub own-slice : (n : ℕ) (s : State) (states : List State) (end : SliceEnd) (t : State) (p object : ℕ)
+    → Slice n s states end t → t.chosen ≢ Some p → IsLiving s.inner.records p → IsOwn s.inner p object
+    → KeepsOwnObject s.inner p object t.inner
 own-slice n s states end t p object (ticked, chosen, ticks, chooses, rest) other lives own =
     let first : KeepsOwnObject s.inner p object ticked.inner = own-tick s ticked p object ticks lives own in
     let next : KeepsOwnObject ticked.inner p object chosen.inner = own-choice ticked chosen p object chooses first.lives first.own in

@@ -72,7 +72,9 @@ module _ (next : ℕ) where
   pub plain_checked : (post : ℕ) → post < 256 →
       plain_reads (postbyte post) post (indexed_operand (printed_indexing (postbyte post) post Empty next)) ≡ plain_reads (postbyte post) post (Some (operand (Some post) Nothing []))
   unfolding postbyte form_lines
-  plain_checked = on_below 256 (λ post. plain_reads (postbyte post) post (indexed_operand (printed_indexing (postbyte post) post Empty next))) (λ post. plain_reads (postbyte post) post (Some (operand (Some post) Nothing []))) refl
+  plain_checked = on_below 256 (λ post. plain_reads (postbyte post) post
+      (indexed_operand (printed_indexing (postbyte post) post Empty next))) (λ post. plain_reads (postbyte post) post
+      (Some (operand (Some post) Nothing []))) refl
 
   -- the operands with a byte from a register
   abbrev pub by_byte : Option Indexing → ℕ → Form → List (Option (Option ℕ × Tail))

@@ -41,7 +41,9 @@ word_tail next post f w tail h is =
     ap (λ v. option_map (λ (t : Tail). (post, t)) (option_and_then (filled f next) v)) (word_value w h) ∙ ap (option_map (λ (t : Tail). (post, t))) is
 
 -- a text that is this operand with a word
-pub word_back : (next : ℕ) (post : Option ℕ) (f : Field) (w : ℕ) (tail : Tail) (read : Option Operand) → w < 65536 → read ≡ valued post f (word_number w) → filled f next (pos w) ≡ Some tail → option_and_then (tail_of next) read ≡ Some (post, tail)
+pub word_back : (next : ℕ) (post : Option ℕ) (f : Field) (w : ℕ) (tail : Tail) (read : Option Operand) → w < 65536
+    → read ≡ valued post f (word_number w) → filled f next (pos w) ≡ Some tail → option_and_then (tail_of next) read ≡
+    Some (post, tail)
 word_back next post f w tail read h is fills =
     ap (option_and_then (tail_of next)) (is ∙ valued_word post f w h) ∙ word_tail next post f w tail h fills
 
@@ -186,7 +188,8 @@ absolute_read w h =
 
 pub absolute_is : (post : ℕ) (r : IndexRegister) (indirect : Bool) → post < 256 → postbyte post ≡ meaning Absolute r indirect → ◌≡◌ {A = ℕ × Bool} (post, indirect) (159, true)
 absolute_is post r indirect k is =
-    let again : ◌≡◌ {A = Option (ℕ × Bool)} (Some (post, indirect)) (Some (159, true)) = subst (λ p. of_indexing (absolute_of post) p ≡ of_indexing (only_absolute post) p) is (absolute_again post k) in
+    let again : ◌≡◌ {A = Option (ℕ × Bool)} (Some (post, indirect)) (Some (159, true)) = subst
+    (λ p. of_indexing (absolute_of post) p ≡ of_indexing (only_absolute post) p) is (absolute_again post k) in
     cc
 
 absolute_back : (next post : ℕ) (r : IndexRegister) (indirect : Bool) (w : ℕ) → post < 256 → w < 65536 → postbyte post ≡ meaning Absolute r indirect →
@@ -200,11 +203,14 @@ absolute_back next post r indirect w k h is =
 
 module _ (next post : ℕ) (r : IndexRegister) (indirect : Bool) (k : post < 256) where
   abbrev bare_back : (form : Form) → Type 0
-  bare_back form = postbyte post ≡ meaning form r indirect → plain_reads next (meaning form r indirect) post (indexed_operand (in_brackets indirect (printed_index form r post Empty next))) ≡ plain_reads next (meaning form r indirect) post (Some (operand (Some post) Nothing []))
+  bare_back form = postbyte post ≡ meaning form r indirect → plain_reads next (meaning form r indirect) post
+      (indexed_operand (in_brackets indirect (printed_index form r post Empty next))) ≡ plain_reads next
+      (meaning form r indirect) post (Some (operand (Some post) Nothing []))
 
   bare_is : (form : Form) → bare_back form
   bare_is form is =
-      subst (λ (p : Option Indexing). plain_reads next p post (indexed_operand (printed_indexing p post Empty next)) ≡ plain_reads next p post (Some (operand (Some post) Nothing []))) is (plain_checked next post k)
+      subst (λ (p : Option Indexing). plain_reads next p post (indexed_operand (printed_indexing p post Empty next)) ≡
+      plain_reads next p post (Some (operand (Some post) Nothing []))) is (plain_checked next post k)
 
   bare_tail : (read : Option Operand) → read ≡ Some (operand (Some post) Nothing []) → option_and_then (tail_of next) read ≡ Some (Some post, Empty)
   bare_tail read is = ap (option_and_then (tail_of next)) is

@@ -166,7 +166,8 @@ module _ (next post : ℕ) (r : IndexRegister) (indirect : Bool) (k : post < 256
       }
   index_text _ _ is extent h = absurd extent
 
-indexed_text : (next post : ℕ) (tail : Tail) (operation : Operation) (found : Option Indexing) → postbyte post ≡ found → IsSomeAnd found (λ i. HasExtent (extent_of_form i.0) tail) → post < 256 → TailFits tail →
+indexed_text : (next post : ℕ) (tail : Tail) (operation : Operation) (found : Option Indexing) → postbyte post ≡ found
+    → IsSomeAnd found (λ i. HasExtent (extent_of_form i.0) tail) → post < 256 → TailFits tail →
     Text operation Indexed (printed_indexing found post tail next)
 indexed_text next post tail operation None is extent k h = absurd extent
 indexed_text next post tail operation (Some i) is extent k h =

@@ -48,13 +48,16 @@ pair_back next b h is = ap (λ p. option_and_then (tail_of next) (option_map (λ
 abbrev pub IsPlainPost : Option Indexing → ℕ → Type 0
 IsPlainPost found post = IfSome found (λ i. plain_postbyte i.0 post ≡ post)
 
-indexed_back : (next post : ℕ) (tail : Tail) (found : Option Indexing) → postbyte post ≡ found → IsSomeAnd found (λ i. HasExtent (extent_of_form i.0) tail) → IsPlainPost found post → post < 256 → TailFits tail →
+indexed_back : (next post : ℕ) (tail : Tail) (found : Option Indexing) → postbyte post ≡ found
+    → IsSomeAnd found (λ i. HasExtent (extent_of_form i.0) tail) → IsPlainPost found post → post < 256 → TailFits tail
+    →
     option_and_then (tail_of next) (indexed_operand (printed_indexing found post tail next)) ≡ Some (Some post, tail)
 indexed_back next post tail None is extent plain k h = absurd extent
 indexed_back next post tail (Some i) is extent plain k h = index_back next post i.1 i.2 k i.0 tail is extent plain h
 
 module _ (next : ℕ) (operation : Operation) where
-  pub operand_back : (mode : Mode) (post : Option ℕ) (tail : Tail) → HasOperand mode post tail → IfSome post (λ p. IsPlainPost (postbyte p) p × (p < 256)) → TailFits tail → Back next operation mode post tail
+  pub operand_back : (mode : Mode) (post : Option ℕ) (tail : Tail) → HasOperand mode post tail
+      → IfSome post (λ p. IsPlainPost (postbyte p) p × (p < 256)) → TailFits tail → Back next operation mode post tail
   operand_back Indexed (Some post) tail has plain h = indexed_back next post tail (postbyte post) refl has plain.0 plain.1 h
   operand_back Indexed None tail has plain h = absurd has
   operand_back Pair None (Byte b) has plain h = pair_back next b h has

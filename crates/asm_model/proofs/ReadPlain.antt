@@ -35,7 +35,8 @@ module _ (at : ℕ) (text : List ℕ) (i : Instr) where
       let same : with_tail (shape_with e o) tail ≡ i = cc in
       subst (λ (j : Instr). IsPlain j) same (row_plain e.page e.line.opcode e.line.row text o _ tail is read fills)
 
-  shaped : (e : Entry) (o : Option Operand) → row e.page e.line.opcode ≡ Some e.line.row → row_operand e.line.row text ≡ o → option_and_then (shape_instr at) (option_map (shape_with e) o) ≡ Some i → IsPlain i
+  shaped : (e : Entry) (o : Option Operand) → row e.page e.line.opcode ≡ Some e.line.row → row_operand e.line.row text
+      ≡ o → option_and_then (shape_instr at) (option_map (shape_with e) o) ≡ Some i → IsPlain i
   shaped e None is read whole = absurd (cc)
   shaped e (Some o) is read whole = filled e o (wanted_tail o.wanted (at + shape_length (shape_with e o)) o.expression) is read refl whole
 

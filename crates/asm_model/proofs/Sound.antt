@@ -200,7 +200,8 @@ module _ (o : Operand) where
   target_sound Wide indirect text = valued_matches Indexed o _ field.Target16 text (pc16_kind indirect)
   target_sound Unmarked indirect text = valued_matches Indexed o _ field.Target16 text (pc16_kind indirect)
 
-  base_sound : (indirect : Bool) (offset : Offset) (name : List ℕ) (found : Option ℕ) → index_number name ≡ found → Is (option_and_then (λ r. offset_operand offset.width indirect r offset.expression) found)
+  base_sound : (indirect : Bool) (offset : Offset) (name : List ℕ) (found : Option ℕ) → index_number name ≡ found
+      → Is (option_and_then (λ r. offset_operand offset.width indirect r offset.expression) found)
   base_sound indirect offset name None at is = absurd (cc)
   base_sound indirect offset name (Some r) at is = offset_sound offset.width indirect r offset.expression (index_below name r at) is
 
@@ -248,7 +249,9 @@ module _ (o : Operand) where
   fixed_sound mode None h is = absurd (cc)
   fixed_sound mode (Some b) h is = some_matches mode o (operand None (Fixed b) []) (h b refl) is
 
-  mask_or : (stack : Stack) (c : ℕ) (text : List ℕ) (b : Bool) → (if b then valued None field.Byte text else option_map (λ mask. operand None (Fixed mask) []) (register_mask stack (c ∷ text))) ≡ Some o → OperandMatches Immediate8 o
+  mask_or : (stack : Stack) (c : ℕ) (text : List ℕ) (b : Bool)
+      → (if b then valued None field.Byte text else option_map (λ mask. operand None (Fixed mask) [])
+      (register_mask stack (c ∷ text))) ≡ Some o → OperandMatches Immediate8 o
   mask_or stack c text true is = valued_matches Immediate8 o None field.Byte text refl is
   mask_or stack c text false is = fixed_sound Immediate8 (register_mask stack (c ∷ text)) (λ b found. refl) is
 
@@ -309,11 +312,14 @@ module _ (o : Operand) where
 by_extent : (e f : Extent) (tail : Tail) → e ≡ f → HasExtent f tail → HasExtent e tail
 by_extent e f tail same h = subst (λ (x : Extent). HasExtent x tail) (sym same) h
 
-kind_extent : (found : Option Indexing) (post : ℕ) (e : Extent) (tail : Tail) → IsSomeAnd found (λ i. (extent_of_form i.0 ≡ e) × (plain_postbyte i.0 post ≡ post)) → HasExtent e tail → IsSomeAnd found (λ i. HasExtent (extent_of_form i.0) tail)
+kind_extent : (found : Option Indexing) (post : ℕ) (e : Extent) (tail : Tail)
+    → IsSomeAnd found (λ i. (extent_of_form i.0 ≡ e) × (plain_postbyte i.0 post ≡ post)) → HasExtent e tail
+    → IsSomeAnd found (λ i. HasExtent (extent_of_form i.0) tail)
 kind_extent None post e tail kind h = absurd kind
 kind_extent (Some i) post e tail kind h = by_extent (extent_of_form i.0) e tail kind.0 h
 
-kind_plain : (found : Option Indexing) (post : ℕ) (e : Extent) → IsSomeAnd found (λ i. (extent_of_form i.0 ≡ e) × (plain_postbyte i.0 post ≡ post)) → option_map_or (λ i. plain_postbyte i.0 post) found post ≡ post
+kind_plain : (found : Option Indexing) (post : ℕ) (e : Extent) → IsSomeAnd found (λ i. (extent_of_form i.0 ≡ e) ×
+    (plain_postbyte i.0 post ≡ post)) → option_map_or (λ i. plain_postbyte i.0 post) found post ≡ post
 kind_plain None post e kind = absurd kind
 kind_plain (Some i) post e kind = kind.1
 

@@ -177,7 +177,9 @@ pub record IsBlankImage (s k : ℕ) (now : TimePacket) (image : List ℕ) : Type
   pub is_clean : IsClean image s k
 
 -- the parts put one behind the other, and filled up with zeros
-pub put-together : (s k : ℕ) (now : TimePacket) (size : IsDiskSize s k) (desc none one two three four five : List ℕ) (root used bytes count so_far : ℕ) → length desc ≡ 256 → IsRootSector root now desc → root ≡ blank_root s k → used ≡ used_clusters s k → bytes ≡ 256 * (root - 1) → count ≡ 256 * s
+pub put-together : (s k : ℕ) (now : TimePacket) (size : IsDiskSize s k) (desc none one two three four five : List ℕ)
+    (root used bytes count so_far : ℕ) → length desc ≡ 256 → IsRootSector root now desc → root ≡ blank_root s k
+    → used ≡ used_clusters s k → bytes ≡ 256 * (root - 1) → count ≡ 256 * s
     → none ≡ [] → one ≡ none ++ blank_ident s k now → two ≡ one ++ marks_map used bytes → three ≡ two ++ desc → four ≡ three ++ extended (new_listing root root) 256
     → so_far ≡ length four → five ≡ take count four ++ replicate (count - so_far) 0
     → ((i : ℕ) → 21 ≤ i → get_or desc i 0 ≡ 0) → IsBlankImage s k now five
@@ -189,9 +191,18 @@ put-together s k now size desc none one two three four five root used bytes coun
     let mk : List ℕ = marks_map (used_clusters s k) (256 * rm) in
     let b : bytes ≡ 256 * rm = omega arith in
     let four_is : four ≡ ((id ++ mk) ++ desc) ++ ls =
-    p4 ∙ ap (λ n. three ++ extended (new_listing n n) 256) at ∙ ap (λ x. x ++ ls) (p3 ∙ ap (λ x. x ++ desc) (p2 ∙ ap (λ n. one ++ marks_map n bytes) used_is ∙ ap (λ n. one ++ marks_map (used_clusters s k) n) b ∙ ap (λ x. x ++ mk) (p1 ∙ ap (λ x. x ++ id) p0))) in
+    p4 ∙ ap (λ n. three ++ extended (new_listing n n) 256) at ∙ ap (λ x. x ++ ls)
+    (p3 ∙ ap (λ x. x ++ desc) (p2 ∙ ap (λ n. one ++ marks_map n bytes) used_is ∙ ap
+    (λ n. one ++ marks_map (used_clusters s k) n) b ∙ ap (λ x. x ++ mk) (p1 ∙ ap (λ x. x ++ id) p0))) in
     let four_long : length four ≡ 256 * (rm + 3) =
-    ap length four_is ∙ length-append ((id ++ mk) ++ desc) ls ∙ omega (arith, length-append (id ++ mk) desc, length-append id mk, ident-long s k now size, length-marks (used_clusters s k) (256 * rm), long) in
+    ap length four_is ∙ length-append ((id ++ mk) ++ desc) ls ∙ omega (
+      arith,
+      length-append (id ++ mk) desc,
+      length-append id mk,
+      ident-long s k now size,
+      length-marks (used_clusters s k) (256 * rm),
+      long,
+    ) in
     let within : length four ≤ count = omega arith in
     let zeros : List ℕ = replicate (count - so_far) 0 in
     let whole : five ≡ id ++ (mk ++ (desc ++ (ls ++ zeros))) =

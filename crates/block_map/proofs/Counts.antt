@@ -34,7 +34,8 @@ free_before_taken pool block other first free =
     (apart, (omega (arith, length-set pool.counts block 1), sym (get_or-set_other pool.counts block other 1 0 apart) ∙ free.1))
 
 -- one block more is taken
-pub Takes-push : (pool middle after : Blocks) (ids : List BlockId) (id : BlockId) → TakesBlocks pool ids middle → IsFreeBlock middle id.0 → after ≡ pool_after_take middle id.0 → TakesBlocks pool (ids ++ id ∷ []) after
+pub Takes-push : (pool middle after : Blocks) (ids : List BlockId) (id : BlockId) → TakesBlocks pool ids middle
+    → IsFreeBlock middle id.0 → after ≡ pool_after_take middle id.0 → TakesBlocks pool (ids ++ id ∷ []) after
 Takes-push pool middle after [] id took free then' = (subst (λ (p : Blocks). IsFreeBlock p id.0) took free, then' ∙ ap (λ (p : Blocks). pool_after_take p id.0) took)
 Takes-push pool middle after (x ∷ ids) id took free then' = (took.0, Takes-push (pool_after_take pool x.0) middle after ids id took.1 free then')
 
@@ -52,7 +53,8 @@ Takes-free pool after (x ∷ ids) (suc k) id took named = (free_before_taken poo
 -- and is live afterwards
 pub Takes-named : (pool after : Blocks) (ids : List BlockId) (k : ℕ) (id : BlockId) → TakesBlocks pool ids after → at (filled_places ids) k ≡ Some id → IsLive after id.0
 Takes-named pool after [] k id took named = absurd (none-some id named)
-Takes-named pool after (x ∷ ids) zero id took named = subst (λ (b : BlockId). IsLive after b.0) (same_Some x id named) (Takes-live (pool_after_take pool x.0) after ids x.0 took.1 (taken_is_live pool x.0 took.0))
+Takes-named pool after (x ∷ ids) zero id took named = subst (λ (b : BlockId). IsLive after b.0) (same_Some x id named)
+    (Takes-live (pool_after_take pool x.0) after ids x.0 took.1 (taken_is_live pool x.0 took.0))
 Takes-named pool after (x ∷ ids) (suc k) id took named = Takes-named (pool_after_take pool x.0) after ids k id took.1 named
 
 -- no block was taken twice
@@ -66,7 +68,9 @@ Takes-once pool after (x ∷ ids) took (suc k) zero id here there =
 Takes-once pool after (x ∷ ids) took (suc k) (suc other) id here there = ap suc (Takes-once (pool_after_take pool x.0) after ids took.1 k other id here there)
 
 -- the count of a block after one was shared
-pub count_of-shared : (pool : Blocks) (block other : ℕ) → (reference_count pool other ≤ reference_count (pool_after_share pool block) other) × (reference_count (pool_after_share pool block) other ≤ reference_count pool other + 1)
+pub count_of-shared : (pool : Blocks) (block other : ℕ) → (reference_count pool other ≤ reference_count
+    (pool_after_share pool block) other) × (reference_count (pool_after_share pool block) other ≤ reference_count pool
+    other + 1)
 count_of-shared pool block other =
     let count = reference_count pool block + 1 in
     elim (cases_eq other block) [
@@ -86,7 +90,9 @@ count_of-shared pool block other =
     ]
 
 -- after several were shared
-pub count_of-shared_all : (pool : Blocks) (ids : List BlockId) (block : ℕ) → (reference_count pool block ≤ reference_count (pool_after_sharing pool ids) block) × (reference_count (pool_after_sharing pool ids) block ≤ reference_count pool block + length ids)
+pub count_of-shared_all : (pool : Blocks) (ids : List BlockId) (block : ℕ)
+    → (reference_count pool block ≤ reference_count (pool_after_sharing pool ids) block) ×
+    (reference_count (pool_after_sharing pool ids) block ≤ reference_count pool block + length ids)
 count_of-shared_all pool [] block = (omega arith, omega arith)
 count_of-shared_all pool (x ∷ ids) block =
     let one = count_of-shared pool x.0 block in
@@ -101,7 +107,9 @@ count_of-given_all pool (x ∷ ids) block apart =
     ∙ get_or-set_other pool.counts x.0 block (reference_count pool x.0 - 1) 0 (λ same. All-head (λ (id : BlockId). id.0 ≢ block) x ids apart (sym same))
 
 -- how many counts are 0 after a write
-zeros-set : (counts : List ℕ) (place count : ℕ) → place < length counts → count_by (λ c. c == 0) (set counts place count) + cond (get_or counts place 0 == 0) 1 0 ≡ count_by (λ c. c == 0) counts + cond (count == 0) 1 0
+zeros-set : (counts : List ℕ) (place count : ℕ) → place < length counts → count_by (λ c. c == 0)
+    (set counts place count) + cond (get_or counts place 0 == 0) 1 0 ≡ count_by (λ c. c == 0) counts + cond
+    (count == 0) 1 0
 zeros-set counts place count within = sum_by-set (λ c. cond (c == 0) 1 0) counts place count 0 within
 
 -- no count is 0 where each is positive
@@ -113,7 +121,12 @@ no_zeros (x ∷ counts) each =
     sum_by-cons (λ c. cond (c == 0) 1 0) x counts ∙ omega (arith, here, rest)
 
 -- one place more names a new block
-pub AreNew-more : (places : List (Option BlockId)) (i : ℕ) (before middle after : Blocks) (taken_one : Option BlockId) → i < length places → IfNone taken_one (All (λ c. 0 < c) middle.counts) → IfSome taken_one (λ id. IsFreeBlock middle id.0) → IfSome taken_one (λ id. after ≡ pool_after_take middle id.0) → 0 < free_block_count middle → AreNewBlocks (take i places) before middle → AreNewBlocks (take (i + 1) (set places i taken_one)) before after × (free_block_count after + 1 ≡ free_block_count middle)
+pub AreNew-more : (places : List (Option BlockId)) (i : ℕ) (before middle after : Blocks) (taken_one : Option BlockId)
+    → i < length places → IfNone taken_one (All (λ c. 0 < c) middle.counts)
+    → IfSome taken_one (λ id. IsFreeBlock middle id.0) → IfSome taken_one (λ id. after ≡ pool_after_take middle id.0)
+    → 0 < free_block_count middle → AreNewBlocks (take i places) before middle
+    → AreNewBlocks (take (i + 1) (set places i taken_one)) before after × (free_block_count after + 1 ≡
+    free_block_count middle)
 AreNew-more places i before middle after None within none free one some new = absurd (omega (arith, no_zeros middle.counts none))
 AreNew-more places i before middle after (Some id) within none free one some new = (
   record {
@@ -125,7 +138,9 @@ AreNew-more places i before middle after (Some id) within none free one some new
 )
 
 -- the next place of those that are given back names a live block, if any
-pub gives_next : (pool now : Blocks) (old places : List (Option BlockId)) (i : ℕ) → ((k : ℕ) (id : BlockId) → at old k ≡ Some id → IsLive pool id.0) → Once old → drop i places ≡ drop i old → now ≡ pool_after_giving pool (blocks_in (take i old)) → (id : BlockId) → at places i ≡ Some id → IsLive now id.0
+pub gives_next : (pool now : Blocks) (old places : List (Option BlockId)) (i : ℕ)
+    → ((k : ℕ) (id : BlockId) → at old k ≡ Some id → IsLive pool id.0) → Once old → drop i places ≡ drop i old
+    → now ≡ pool_after_giving pool (blocks_in (take i old)) → (id : BlockId) → at places i ≡ Some id → IsLive now id.0
 gives_next pool now old places i live once kept pool_after_give id named =
     let here : at old i ≡ Some id = sym (at_rest places old i kept) ∙ named in
     let others : All (λ (b : BlockId). b.0 ≢ id.0) (blocks_in (take i old)) = All-named_in (λ (b : BlockId). b.0 ≢ id.0) (take i old) (λ k b there same.
@@ -137,7 +152,9 @@ gives_next pool now old places i live once kept pool_after_give id named =
     omega (arith, ap (λ (p : Blocks). reference_count p id.0) pool_after_give, count_of-given_all pool (blocks_in (take i old)) id.0 others, live i id here)
 
 -- what is given back after one place more
-pub gives_more : (pool now after : Blocks) (old : List (Option BlockId)) (i : ℕ) → i < length old → now ≡ pool_after_giving pool (blocks_in (take i old)) → after ≡ pool_after_giving now (blocks_in (at old i ∷ [])) → after ≡ pool_after_giving pool (blocks_in (take (i + 1) old))
+pub gives_more : (pool now after : Blocks) (old : List (Option BlockId)) (i : ℕ) → i < length old
+    → now ≡ pool_after_giving pool (blocks_in (take i old)) → after ≡ pool_after_giving now
+    (blocks_in (at old i ∷ [])) → after ≡ pool_after_giving pool (blocks_in (take (i + 1) old))
 gives_more pool now after old i within so_far then' =
     let next = blocks_in (at old i ∷ []) in
     then' ∙ ap (λ (p : Blocks). pool_after_giving p next) so_far

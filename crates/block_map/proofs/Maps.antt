@@ -23,7 +23,9 @@ pub GroupsFit-set : (groups : List (Option ℕ)) (first len : ℕ) → length gr
 GroupsFit-set groups first len eight within fits old slot other here =
     elim (cases_eq slot first) [
       | inl same ↦
-          let now : get_or (set groups first (Some len)) slot None ≡ Some len = ap (λ (n : ℕ). get_or (set groups first (Some len)) n None) same ∙ get_or-set_same groups first (Some len) None (omega arith) in
+          let now : get_or (set groups first (Some len)) slot None ≡ Some len = ap
+          (λ (n : ℕ). get_or (set groups first (Some len)) n None) same ∙ get_or-set_same groups first (Some len)
+          None (omega arith) in
           omega (arith, same_Some len other (sym now ∙ here))
       | inr apart ↦ old slot other (sym (get_or-set_other groups first slot (Some len) None apart) ∙ here)
     ]
@@ -38,17 +40,23 @@ GroupsFit-clear groups first eight within old slot other here =
     ]
 
 -- no new block is one that a live map names
-new_apart : (places new : List (Option BlockId)) (before after : Blocks) → ((slot : ℕ) (id : BlockId) → at places slot ≡ Some id → IsLive before id.0) → AreNewBlocks new before after → (k : ℕ) (id : BlockId) → at new k ≡ Some id → (slot : ℕ) → at places slot ≡ Some id → ⊥
+new_apart : (places new : List (Option BlockId)) (before after : Blocks) → ((slot : ℕ) (id : BlockId)
+    → at places slot ≡ Some id → IsLive before id.0) → AreNewBlocks new before after → (k : ℕ) (id : BlockId)
+    → at new k ≡ Some id → (slot : ℕ) → at places slot ≡ Some id → ⊥
 new_apart places new before after live news k id here slot there =
     let free = Takes-free before after news.blocks k id news.taken (ap (λ (list : List (Option BlockId)). at list k) (sym news.named) ∙ here) in
     absurd (omega (arith, live slot id there, free.1))
 
 -- the places that are put name each block once
-pub Once-new : (places new : List (Option BlockId)) (before after : Blocks) (first : ℕ) → first + length new ≤ length places → Once places → ((slot : ℕ) (id : BlockId) → at places slot ≡ Some id → IsLive before id.0) → AreNewBlocks new before after → Once (put_places places first new)
+pub Once-new : (places new : List (Option BlockId)) (before after : Blocks) (first : ℕ) → first + length new ≤ length
+    places → Once places → ((slot : ℕ) (id : BlockId) → at places slot ≡ Some id → IsLive before id.0)
+    → AreNewBlocks new before after → Once (put_places places first new)
 Once-new places new before after first fits once live news =
     Once-put places new first fits once (subst Once (sym news.named) (Takes-once before after news.blocks news.taken)) (new_apart places new before after live news)
 
-pub live-new : (places new : List (Option BlockId)) (before after : Blocks) (first : ℕ) → first + length new ≤ length places → ((slot : ℕ) (id : BlockId) → at places slot ≡ Some id → IsLive before id.0) → AreNewBlocks new before after → (slot : ℕ) (id : BlockId) → at (put_places places first new) slot ≡ Some id → IsLive after id.0
+pub live-new : (places new : List (Option BlockId)) (before after : Blocks) (first : ℕ) → first + length new ≤ length
+    places → ((slot : ℕ) (id : BlockId) → at places slot ≡ Some id → IsLive before id.0) → AreNewBlocks new before
+    after → (slot : ℕ) (id : BlockId) → at (put_places places first new) slot ≡ Some id → IsLive after id.0
 live-new places new before after first fits live news slot id here =
     elim (at-put places new first slot fits) [
       | inl a ↦ Takes-named before after news.blocks (slot - first) id news.taken (ap (λ (list : List (Option BlockId)). at list (slot - first)) (sym news.named) ∙ (sym a.2 ∙ here))
@@ -56,14 +64,19 @@ live-new places new before after first fits live news slot id here =
     ]
 
 -- the same where a group is put
-pub Once-group : (places : List (Option BlockId)) (ids : List BlockId) (first : ℕ) → first + length ids ≤ length places → Once places → AllPairs (λ a b. a ≢ b) ids → All (λ id. (slot : ℕ) × (at places slot ≡ Some id) → ⊥) ids → Once (put_places places first (filled_places ids))
+pub Once-group : (places : List (Option BlockId)) (ids : List BlockId) (first : ℕ) → first + length ids ≤ length
+    places → Once places → AllPairs (λ a b. a ≢ b) ids → All (λ id. (slot : ℕ) × (at places slot ≡ Some id) → ⊥) ids
+    → Once (put_places places first (filled_places ids))
 Once-group places ids first fits once different unnamed =
     Once-put places (filled_places ids) first (omega (arith, length-map ids (λ (block : BlockId). Some block))) once (Once-naming ids different)
     (λ k id here slot there.
     let named = at-naming ids k id here in
     subst (λ (b : BlockId). (s : ℕ) × (at places s ≡ Some b) → ⊥) named.1 (unnamed k id named.0) (slot, there))
 
-pub live-group : (places : List (Option BlockId)) (ids : List BlockId) (before : Blocks) (first : ℕ) → first + length ids ≤ length places → ((slot : ℕ) (id : BlockId) → at places slot ≡ Some id → IsLive before id.0) → All (λ id. IsLive before id.0) ids → (slot : ℕ) (id : BlockId) → at (put_places places first (filled_places ids)) slot ≡ Some id → IsLive (pool_after_sharing before ids) id.0
+pub live-group : (places : List (Option BlockId)) (ids : List BlockId) (before : Blocks) (first : ℕ)
+    → first + length ids ≤ length places → ((slot : ℕ) (id : BlockId) → at places slot ≡ Some id → IsLive before id.0)
+    → All (λ id. IsLive before id.0) ids → (slot : ℕ) (id : BlockId)
+    → at (put_places places first (filled_places ids)) slot ≡ Some id → IsLive (pool_after_sharing before ids) id.0
 live-group places ids before first fits live each slot id here =
     let grown = count_of-shared_all before ids id.0 in
     elim (at-put places (filled_places ids) first slot (omega (arith, length-map ids (λ (block : BlockId). Some block)))) [
@@ -103,9 +116,14 @@ outside first len slot k (inr above) inside same = absurd (omega arith)
 pub Once-clear : (places : List (Option BlockId)) (first len : ℕ) → first + len ≤ length places → Once places → Once (put_places places first (replicate len None))
 Once-clear places first len fits once =
     let cleared : List (Option BlockId) = replicate len None in
-    Once-put places cleared first (omega (arith, length-replicate {A = Option BlockId} len None)) once (λ k other id here there. absurd (at-cleared len k id here)) (λ k id here slot there. absurd (at-cleared len k id here))
+    Once-put places cleared first (omega (arith, length-replicate {A = Option BlockId} len None)) once
+    (λ k other id here there. absurd (at-cleared len k id here)) (λ k id here slot there. absurd
+    (at-cleared len k id here))
 
-pub live-clear : (places : List (Option BlockId)) (first len : ℕ) (before : Blocks) → first + len ≤ length places → Once places → ((slot : ℕ) (id : BlockId) → at places slot ≡ Some id → IsLive before id.0) → (slot : ℕ) (id : BlockId) → at (put_places places first (replicate len None)) slot ≡ Some id → IsLive (pool_after_giving before (blocks_in (take len (drop first places)))) id.0
+pub live-clear : (places : List (Option BlockId)) (first len : ℕ) (before : Blocks) → first + len ≤ length places
+    → Once places → ((slot : ℕ) (id : BlockId) → at places slot ≡ Some id → IsLive before id.0)
+    → (slot : ℕ) (id : BlockId) → at (put_places places first (replicate len None)) slot ≡ Some id
+    → IsLive (pool_after_giving before (blocks_in (take len (drop first places)))) id.0
 live-clear places first len before fits once live slot id here =
     let cleared : List (Option BlockId) = replicate len None in
     let many = length-replicate {A = Option BlockId} len None in
@@ -122,7 +140,9 @@ live-clear places first len before fits once live slot id here =
     ]
 
 -- what a part that was cleared leaves of the places
-pub cleared-put : (places new : List (Option BlockId)) (first len count : ℕ) → first + len ≤ length places → count ≡ length (take len (drop first places)) → new ≡ replicate count None → put_mid first len places new ≡ put_places places first (replicate len None)
+pub cleared-put : (places new : List (Option BlockId)) (first len count : ℕ) → first + len ≤ length places
+    → count ≡ length (take len (drop first places)) → new ≡ replicate count None → put_mid first len places new ≡
+    put_places places first (replicate len None)
 cleared-put places new first len count fits counted cleared =
     let many : count ≡ len = counted ∙ length-part places first len fits in
     let clear : new ≡ replicate len None = cleared ∙ ap (λ (n : ℕ). replicate {A = Option BlockId} n None) many in
@@ -135,7 +155,10 @@ abbrev pub slots_of : List (Option BlockId) → ℕ → List (Option ℕ) → Sl
 slots_of places low groups = record { places = places; low = low; groups = groups }
 
 -- the low area grows by new blocks
-pub IsMap-low : (slots : Slots BlockId) (new : List (Option BlockId)) (len : ℕ) (before after : Blocks) → IsMap slots → slots.low + len ≤ 8 → length new ≡ slots.low + len - slots.low → NamesLiveBlocks slots before → AreNewBlocks new before after → IsMap (slots_of (put_mid slots.low (slots.low + len - slots.low) slots.places new) (slots.low + len) slots.groups)
+pub IsMap-low : (slots : Slots BlockId) (new : List (Option BlockId)) (len : ℕ) (before after : Blocks) → IsMap slots
+    → slots.low + len ≤ 8 → length new ≡ slots.low + len - slots.low → NamesLiveBlocks slots before
+    → AreNewBlocks new before after → IsMap (slots_of (put_mid slots.low (slots.low + len - slots.low) slots.places
+    new) (slots.low + len) slots.groups)
 IsMap-low slots new len before after map fits many live news =
     let eight = map.eight_places in
     let mid = put_mid-put slots.places new slots.low (slots.low + len - slots.low) many in
@@ -148,7 +171,11 @@ IsMap-low slots new len before after map fits many live news =
     }
 
 -- a group is named
-pub IsMap-group : (slots : Slots BlockId) (new : List (Option BlockId)) (ids : List BlockId) (first len : ℕ) → IsMap slots → 1 ≤ len → first + len ≤ 8 → new ≡ filled_places ids → length ids ≡ len → AllPairs (λ a b. a ≢ b) ids → All (λ id. NamesBlock slots id → ⊥) ids → IsMap (slots_of (put_mid first (first + len - first) slots.places new) slots.low (set slots.groups first (Some len)))
+pub IsMap-group : (slots : Slots BlockId) (new : List (Option BlockId)) (ids : List BlockId) (first len : ℕ)
+    → IsMap slots → 1 ≤ len → first + len ≤ 8 → new ≡ filled_places ids → length ids ≡ len → AllPairs (λ a b. a ≢ b)
+    ids → All (λ id. NamesBlock slots id → ⊥) ids
+    → IsMap (slots_of (put_mid first (first + len - first) slots.places new) slots.low
+    (set slots.groups first (Some len)))
 IsMap-group slots new ids first len map some fits named count different unnamed =
     let eight = map.eight_places in
     let length-naming = length-map ids (λ (block : BlockId). Some block) in
@@ -163,7 +190,10 @@ IsMap-group slots new ids first len map some fits named count different unnamed 
     }
 
 -- some slots are cleared
-pub IsMap-clear : (slots : Slots BlockId) (new : List (Option BlockId)) (first len low : ℕ) (groups : List (Option ℕ)) → IsMap slots → first + len ≤ 8 → new ≡ replicate (length (take len (drop first slots.places))) None → length groups ≡ 8 → low ≤ 8 → GroupsFit groups → IsMap (slots_of (put_mid first len slots.places new) low groups)
+pub IsMap-clear : (slots : Slots BlockId) (new : List (Option BlockId)) (first len low : ℕ) (groups : List (Option ℕ))
+    → IsMap slots → first + len ≤ 8 → new ≡ replicate (length (take len (drop first slots.places))) None
+    → length groups ≡ 8 → low ≤ 8 → GroupsFit groups → IsMap (slots_of (put_mid first len slots.places new) low
+    groups)
 IsMap-clear slots new first len low groups map fits cleared eight_groups low_fits group_fits =
     let eight = map.eight_places in
     let none : Option BlockId = None in

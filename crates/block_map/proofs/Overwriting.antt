@@ -68,7 +68,9 @@ live_byte-kept pool id other new place inside same =
       | inr different ↦ ap (λ (bytes : List ℕ). slice_get bytes place) (get_or-set_other pool.bytes id.0 other.0 new [] different)
     ])
 
-module _ (slots : Slots BlockId) (pool : Blocks) (at : ℕ) (id : BlockId) (new : List ℕ) (map : IsMap slots) (shape : IsPool pool) (here : block_at slots (at / 8192) ≡ Some id) (live : IsLive pool id.0) (fits : at % 8192 + length new ≤ 8192) where
+module _ (slots : Slots BlockId) (pool : Blocks) (at : ℕ) (id : BlockId) (new : List ℕ) (map : IsMap slots)
+    (shape : IsPool pool) (here : block_at slots (at / 8192) ≡ Some id) (live : IsLive pool id.0)
+    (fits : at % 8192 + length new ≤ 8192) where
   abbrev old : List ℕ
   old = block_bytes pool id.0
 

@@ -47,7 +47,9 @@ Once-naming ids different k other id here there =
     ]
 
 -- a place is among those that were put, or as it was
-pub at-put : (places new : List (Option BlockId)) (first k : ℕ) → first + length new ≤ length places → ((first ≤ k) × (k < first + length new) × (at (put_places places first new) k ≡ at new (k - first))) ⊎ (((k < first) ⊎ (first + length new ≤ k)) × (at (put_places places first new) k ≡ at places k))
+pub at-put : (places new : List (Option BlockId)) (first k : ℕ) → first + length new ≤ length places
+    → ((first ≤ k) × (k < first + length new) × (at (put_places places first new) k ≡ at new (k - first))) ⊎
+    (((k < first) ⊎ (first + length new ≤ k)) × (at (put_places places first new) k ≡ at places k))
 at-put places new first k fits =
     let front = length-take-le first places (omega arith) in
     let rest = drop (first + length new) places in
@@ -68,10 +70,20 @@ at-put places new first k fits =
 -- as many places as before
 pub length-put : (places new : List (Option BlockId)) (first : ℕ) → first + length new ≤ length places → length (put_places places first new) ≡ length places
 length-put places new first fits =
-    omega (arith, length-append (take first places) (new ++ drop (first + length new) places), length-append new (drop (first + length new) places), length-take-le first places (omega arith), length-drop (first + length new) places)
+    omega (
+      arith,
+      length-append (take first places) (new ++ drop (first + length new) places),
+      length-append new
+          (drop (first + length new) places),
+      length-take-le first places (omega arith),
+      length-drop
+          (first + length new) places,
+    )
 
 -- places that were put anew name each block once where the new ones do, and name none of the old ones
-pub Once-put : (places new : List (Option BlockId)) (first : ℕ) → first + length new ≤ length places → Once places → Once new → ((k : ℕ) (id : BlockId) → at new k ≡ Some id → (slot : ℕ) → at places slot ≡ Some id → ⊥) → Once (put_places places first new)
+pub Once-put : (places new : List (Option BlockId)) (first : ℕ) → first + length new ≤ length places → Once places
+    → Once new → ((k : ℕ) (id : BlockId) → at new k ≡ Some id → (slot : ℕ) → at places slot ≡ Some id → ⊥)
+    → Once (put_places places first new)
 Once-put places new first fits old fresh apart k other id here there =
     elim (at-put places new first k fits) [
       | inl a ↦
@@ -111,12 +123,16 @@ All-named_in P (Some x ∷ places) each =
     ] within
 
 -- a run of free slots, and the part of the places that it is
-pub free_part : (places : List (Option BlockId)) (first len : ℕ) → first + len ≤ length places → ((k : ℕ) → k < length (slice_range places first (first + len)) → at (slice_range places first (first + len)) k ≡ None) → (slot : ℕ) → first ≤ slot → slot < first + len → at places slot ≡ None
+pub free_part : (places : List (Option BlockId)) (first len : ℕ) → first + len ≤ length places
+    → ((k : ℕ) → k < length (slice_range places first (first + len)) → at (slice_range places first (first + len)) k ≡
+    None) → (slot : ℕ) → first ≤ slot → slot < first + len → at places slot ≡ None
 free_part places first len fits free slot low high =
     let many : length (slice_range places first (first + len)) ≡ len = length-take-le (first + len - first) (drop first places) (omega (arith, length-drop first places)) ∙ omega arith in
     ap (at places) (omega arith) ∙ sym (at-part places first (first + len) (slot - first) (omega arith)) ∙ free (slot - first) (omega arith)
 
-pub part_free : (places : List (Option BlockId)) (first len : ℕ) → ((slot : ℕ) → first ≤ slot → slot < first + len → at places slot ≡ None) → (k : ℕ) → k < length (slice_range places first (first + len)) → at (slice_range places first (first + len)) k ≡ None
+pub part_free : (places : List (Option BlockId)) (first len : ℕ) → ((slot : ℕ) → first ≤ slot → slot < first + len
+    → at places slot ≡ None) → (k : ℕ) → k < length (slice_range places first (first + len))
+    → at (slice_range places first (first + len)) k ≡ None
 part_free places first len free k within =
     elim (cases_lt (first + k) (first + len)) [
       | inl inside ↦ at-part places first (first + len) k inside ∙ free (first + k) (omega arith) inside

@@ -22,7 +22,8 @@ before_range at count address before = and_left (nat_le at address) (nat_lt addr
 -- a stored byte
 stored-in : (cells : ℕ → Option ℕ) (at : ℕ) (bytes : List ℕ) (address : ℕ) → at ≤ address → address < at + length bytes → store_cells cells at bytes address ≡ Some (get_or bytes (address - at) 0)
 stored-in cells at bytes address low high =
-    cond-true (is_in_range at (length bytes) address) (slice_get bytes (address - at)) (cells address) (in_range at (length bytes) address low high) ∙ slice_get-get_or bytes (address - at) 0 (omega arith)
+    cond-true (is_in_range at (length bytes) address) (slice_get bytes (address - at)) (cells address)
+    (in_range at (length bytes) address low high) ∙ slice_get-get_or bytes (address - at) 0 (omega arith)
 
 -- a byte past those that are stored
 pub stored-past : (cells : ℕ → Option ℕ) (at : ℕ) (bytes : List ℕ) (address : ℕ) → at + length bytes ≤ address → store_cells cells at bytes address ≡ cells address
@@ -62,7 +63,9 @@ stored_behind cells at front rest =
     ])
 
 -- so many bytes more are stored
-pub stored_more : (cells : ℕ → Option ℕ) (at : ℕ) (bytes : List ℕ) (done count : ℕ) → done ≤ length bytes → store_cells (store_cells cells at (take done bytes)) (at + done) (take count (drop done bytes)) ≡ store_cells cells at (take (done + count) bytes)
+pub stored_more : (cells : ℕ → Option ℕ) (at : ℕ) (bytes : List ℕ) (done count : ℕ) → done ≤ length bytes
+    → store_cells (store_cells cells at (take done bytes)) (at + done) (take count (drop done bytes)) ≡ store_cells
+    cells at (take (done + count) bytes)
 stored_more cells at bytes done count within =
     ap (λ n. store_cells (store_cells cells at (take done bytes)) (at + n) (take count (drop done bytes))) (sym (length-take-le done bytes within))
     ∙ stored_behind cells at (take done bytes) (take count (drop done bytes))

@@ -29,7 +29,8 @@ is_some-live_byte pool at id shape within =
     ]
 
 -- the byte that is there
-pub live_byte-Some : (pool : Blocks) (at : ℕ) (id : BlockId) → IsSome (live_byte pool at id) → IsLive pool id.0 × (at < length (block_bytes pool id.0)) × (live_byte pool at id ≡ Some (get_or (block_bytes pool id.0) at 0))
+pub live_byte-Some : (pool : Blocks) (at : ℕ) (id : BlockId) → IsSome (live_byte pool at id) → IsLive pool id.0 ×
+    (at < length (block_bytes pool id.0)) × (live_byte pool at id ≡ Some (get_or (block_bytes pool id.0) at 0))
 live_byte-Some pool at id there =
     let bytes = block_bytes pool id.0 in
     elim (cases_Bool (is_live pool id.0)) [
@@ -72,7 +73,9 @@ block_inside pool block at within =
 live_byte-written : (pool : Blocks) (id : BlockId) (at byte : ℕ) → IsLive pool id.0 → at < length (block_bytes pool id.0) → live_byte (written pool id at byte) at id ≡ Some byte
 live_byte-written pool id at byte live within =
     let inside : id.0 < length pool.bytes = block_inside pool id.0 at within in
-    cond-true (is_live pool id.0) (slice_get (block_bytes (written pool id at byte) id.0) at) None (lt-ltb 0 (reference_count pool id.0) live) ∙ ap (λ (bytes : List ℕ). slice_get bytes at) (get_or-set_same pool.bytes id.0 (set (block_bytes pool id.0) at byte) [] inside)
+    cond-true (is_live pool id.0) (slice_get (block_bytes (written pool id at byte) id.0) at) None
+    (lt-ltb 0 (reference_count pool id.0) live) ∙ ap (λ (bytes : List ℕ). slice_get bytes at)
+    (get_or-set_same pool.bytes id.0 (set (block_bytes pool id.0) at byte) [] inside)
     ∙ slice_get-get_or (set (block_bytes pool id.0) at byte) at 0 (omega (arith, length-set (block_bytes pool id.0) at byte))
     ∙ ap (λ b. Some b) (get_or-set_same (block_bytes pool id.0) at byte 0 within)
 
@@ -98,7 +101,10 @@ read_same f g None same = refl
 read_same f g (Some id) same = same id refl
 
 -- the bytes of a block after one was written
-pub cells_of-put : (slots : Slots BlockId) (pool : Blocks) (at byte : ℕ) (id : BlockId) → IsMap slots → block_at slots (at / 8192) ≡ Some id → IsSome (map_cells slots pool at) → map_cells slots (with_block_bytes pool id.0 (overwritten (block_bytes pool id.0) (at % 8192) (byte ∷ []))) ≡ put_cell (map_cells slots pool) at byte
+pub cells_of-put : (slots : Slots BlockId) (pool : Blocks) (at byte : ℕ) (id : BlockId) → IsMap slots
+    → block_at slots (at / 8192) ≡ Some id → IsSome (map_cells slots pool at)
+    → map_cells slots (with_block_bytes pool id.0 (overwritten (block_bytes pool id.0) (at % 8192) (byte ∷ []))) ≡
+    put_cell (map_cells slots pool) at byte
 cells_of-put slots pool at byte id shape here there =
     let offset = at % 8192 in
     let byte_there = live_byte-Some pool offset id (subst (λ (o : Option BlockId). IsSome (option_and_then (live_byte pool offset) o)) here there) in
@@ -130,12 +136,15 @@ live_of_byte pool at None there = absurd (false≢true there)
 live_of_byte pool at (Some id) there = (live_byte-Some pool at id there).0
 
 -- where each slot of a range of addresses names a live block, each address is named
-pub named_of_slots : (slots : Slots BlockId) (pool : Blocks) (at len : ℕ) → IsPool pool → AllSlotsLive slots pool (at / 8192) ((at + (len - 1)) / 8192) → (k : ℕ) → k < len → IsSome (map_cells slots pool (at + k))
+pub named_of_slots : (slots : Slots BlockId) (pool : Blocks) (at len : ℕ) → IsPool pool → AllSlotsLive slots pool
+    (at / 8192) ((at + (len - 1)) / 8192) → (k : ℕ) → k < len → IsSome (map_cells slots pool (at + k))
 named_of_slots slots pool at len shape live k within =
     byte_of_live pool ((at + k) % 8192) (block_at slots ((at + k) / 8192)) shape (omega arith) (live ((at + k) / 8192) (omega arith) (omega arith))
 
 -- and the other way round
-pub slots_of_named : (slots : Slots BlockId) (pool : Blocks) (at len : ℕ) → 0 < len → ((k : ℕ) → k < len → IsSome (map_cells slots pool (at + k))) → AllSlotsLive slots pool (at / 8192) ((at + (len - 1)) / 8192)
+pub slots_of_named : (slots : Slots BlockId) (pool : Blocks) (at len : ℕ) → 0 < len
+    → ((k : ℕ) → k < len → IsSome (map_cells slots pool (at + k))) → AllSlotsLive slots pool (at / 8192)
+    ((at + (len - 1)) / 8192)
 slots_of_named slots pool at len some named slot low high =
     let k = slot * 8192 - at in
     let here : (at + k) / 8192 ≡ slot = omega arith in

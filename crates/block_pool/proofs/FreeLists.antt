@@ -10,7 +10,8 @@ use Rattle.block_pool.specs.FreeList.{IsUnreferenced, IsFreeList}
 use Rattle.proc_model.specs.declared.group.BlockId.{BlockId}
 
 -- the number of zeros after a write at one place
-zeros-set : (counts : List ℕ) (at count : ℕ) → at < length counts → count_by (λ c. c == 0) (set counts at count) + cond (get_or counts at 0 == 0) 1 0 ≡ count_by (λ c. c == 0) counts + cond (count == 0) 1 0
+zeros-set : (counts : List ℕ) (at count : ℕ) → at < length counts → count_by (λ c. c == 0) (set counts at count) +
+    cond (get_or counts at 0 == 0) 1 0 ≡ count_by (λ c. c == 0) counts + cond (count == 0) 1 0
 zeros-set counts at count within = sum_by-set (λ c. cond (c == 0) 1 0) counts at count 0 within
 
 -- a block that is taken leaves the list
@@ -20,7 +21,9 @@ IsFreeList-pop counts free id list =
     let last : (d : BlockId) → get_or (free ++ id ∷ []) (length free) d ≡ id = λ d. get_or_push free id d (length free) refl in
     let here : (k : ℕ) (d : BlockId) → k < length free → get_or (free ++ id ∷ []) k d ≡ get_or free k d = λ k d within. get_or_append_left free (id ∷ []) d k within in
     let was : IsUnreferenced counts id = subst (IsUnreferenced counts) (last id) (list.unnamed (length free) id (omega arith)) in
-    let apart : (k : ℕ) (d : BlockId) → k < length free → (get_or free k d).0 ≢ id.0 = λ k d within e. list.once k (length free) d within (omega arith) (ap (λ (b : BlockId). b.0) (here k d within) ∙ e ∙ sym (ap (λ (b : BlockId). b.0) (last d))) in
+    let apart : (k : ℕ) (d : BlockId) → k < length free → (get_or free k d).0 ≢ id.0 = λ k d within e. list.once k
+    (length free) d within (omega arith) (ap (λ (b : BlockId). b.0) (here k d within) ∙ e ∙ sym
+    (ap (λ (b : BlockId). b.0) (last d))) in
     record {
       unnamed = λ k d within.
           let named_not : IsUnreferenced counts (get_or free k d) = subst (IsUnreferenced counts) (here k d within) (list.unnamed k d (omega arith)) in
@@ -34,7 +37,8 @@ IsFreeList-pop counts free id list =
 pub IsFreeList-push : (counts : List ℕ) (free : List BlockId) (id : BlockId) → get_or counts id.0 0 ≡ 1 → IsFreeList counts free → IsFreeList (set counts id.0 0) (free ++ id ∷ [])
 IsFreeList-push counts free id named list =
     let within : id.0 < length counts = grind (arith, get_or_past counts id.0 0) in
-    let apart : (k : ℕ) (d : BlockId) → k < length free → (get_or free k d).0 ≢ id.0 = λ k d inside e. absurd (omega (arith, sym (list.unnamed k d inside).1 ∙ ap (λ b. get_or counts b 0) e ∙ named)) in
+    let apart : (k : ℕ) (d : BlockId) → k < length free → (get_or free k d).0 ≢ id.0 = λ k d inside e. absurd
+    (omega (arith, sym (list.unnamed k d inside).1 ∙ ap (λ b. get_or counts b 0) e ∙ named)) in
     record {
       unnamed = All-push (IsUnreferenced (set counts id.0 0)) free id
           (λ k d inside. (omega (arith, length-set counts id.0 0, (list.unnamed k d inside).0), get_or-set_other counts id.0 (get_or free k d).0 0 0 (apart k d inside) ∙ (list.unnamed k d inside).1))
@@ -52,7 +56,8 @@ IsFreeList-recount counts free id count named still list = record {
 }
 
 -- the same, of the counts and the list that a call left
-pub IsFreeList-given : (counts : List ℕ) (free more : List BlockId) (id : BlockId) (count : ℕ) → get_or counts id.0 0 ≡ 1 → count ≡ 0 → more ≡ free ++ id ∷ [] → IsFreeList counts free → IsFreeList (set counts id.0 count) more
+pub IsFreeList-given : (counts : List ℕ) (free more : List BlockId) (id : BlockId) (count : ℕ) → get_or counts id.0 0
+    ≡ 1 → count ≡ 0 → more ≡ free ++ id ∷ [] → IsFreeList counts free → IsFreeList (set counts id.0 count) more
 IsFreeList-given counts free more id count named none grown list =
     subst (λ c. IsFreeList (set counts id.0 c) more) (sym none) (subst (IsFreeList (set counts id.0 0)) (sym grown) (IsFreeList-push counts free id named list))
 

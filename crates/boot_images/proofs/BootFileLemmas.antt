@@ -24,16 +24,21 @@ first-volume [] image volumes first = absurd (none-some image first)
 first-volume (one ∷ images) image volumes first = subst IsVolume (same_Some one image first) (All-head IsVolume one images volumes)
 
 -- the next is the first that represents none
-pub first-fault : (images : List (List ℕ)) (n : ℕ) (image : List ℕ) (fault : ImagesFault) → slice_get images n ≡ Some image → All IsVolume (take n images) → BreaksImage n image fault → BreaksImages images fault
+pub first-fault : (images : List (List ℕ)) (n : ℕ) (image : List ℕ) (fault : ImagesFault) → slice_get images n ≡ Some
+    image → All IsVolume (take n images) → BreaksImage n image fault → BreaksImages images fault
 first-fault images n image (Fault.Image place fault) here volumes (same, broken) =
     subst (λ (place : ℕ). IsFirstFault images place fault) (sym same) (record { image = image; is = here; others = volumes; broken = broken })
 first-fault images n image Fault.OutOfMemory here volumes breaks = tt
 
-pub boot-bytes : (answer : Result (Vec ℕ Global) BootFileFault) (images : List (List ℕ)) (image : List ℕ) → slice_get images 0 ≡ Some image → OnOk answer (HasBootFile image) → IfOk answer (λ file. file.items ≡ boot_file_of image) → IfOk answer (λ file. IsBootFile images file.items)
+pub boot-bytes : (answer : Result (Vec ℕ Global) BootFileFault) (images : List (List ℕ)) (image : List ℕ)
+    → slice_get images 0 ≡ Some image → OnOk answer (HasBootFile image)
+    → IfOk answer (λ file. file.items ≡ boot_file_of image) → IfOk answer (λ file. IsBootFile images file.items)
 boot-bytes (Ok file) images image first has is = record { image = image; first = first; has = has; is = is }
 boot-bytes (Err fault) images image first has is = tt
 
-pub boot-lacks : (answer : Result (Vec ℕ Global) BootFileFault) (images : List (List ℕ)) (image : List ℕ) → slice_get images 0 ≡ Some image → IfErr answer (λ fault. fault ≡ Bounds → ¬ HasBootFile image) → IfErr answer (LacksBootFile images)
+pub boot-lacks : (answer : Result (Vec ℕ Global) BootFileFault) (images : List (List ℕ)) (image : List ℕ)
+    → slice_get images 0 ≡ Some image → IfErr answer (λ fault. fault ≡ Bounds → ¬ HasBootFile image)
+    → IfErr answer (LacksBootFile images)
 boot-lacks (Ok file) images image first refused = tt
 boot-lacks (Err Bounds) images image first refused = (image, first, refused refl)
 boot-lacks (Err OutOfMemory) images image first refused = tt

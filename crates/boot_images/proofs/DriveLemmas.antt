@@ -12,7 +12,8 @@ use Rattle.boot_images.specs.DriveChanges.{IsEjected, IsInserted}
 use Rattle.boot_images.specs.Drives.{IsEmpty, TakesImages, holding, with_media, without_media}
 
 -- what is seen of a driver in the list
-pub seen-at : {Driver : Type 0} (view : Driver → DriveView) (drivers : List Driver) (n : ℕ) (driver : Driver) → n < length drivers → driver ≡ get_or drivers n driver → slice_get (map view drivers) n ≡ Some (view driver)
+pub seen-at : {Driver : Type 0} (view : Driver → DriveView) (drivers : List Driver) (n : ℕ) (driver : Driver)
+    → n < length drivers → driver ≡ get_or drivers n driver → slice_get (map view drivers) n ≡ Some (view driver)
 seen-at view drivers n driver inside here =
     slice_get-map view drivers n ∙ ap (option_map view) (slice_get_read drivers (length drivers) n driver refl inside here)
 
@@ -23,13 +24,17 @@ same-counts old new faults last calls =
     ap (λ f. by f new.last new.calls) faults ∙ ap (λ l. by old.faults l new.calls) last ∙ ap (λ c. by old.faults old.last c) calls
 
 -- what a drive's driver was given, the drive was given
-pub Inserts-in : (image : List ℕ) (old new : DriveView) → new.media ≡ Some image → new.counts.faults ≡ old.counts.faults → new.counts.last ≡ old.counts.last → new.counts.calls ≡ old.counts.calls → IsInserted image old new
+pub Inserts-in : (image : List ℕ) (old new : DriveView) → new.media ≡ Some image → new.counts.faults ≡
+    old.counts.faults → new.counts.last ≡ old.counts.last → new.counts.calls ≡ old.counts.calls → IsInserted image old
+    new
 Inserts-in image old new media faults last calls =
     let by : Option (List ℕ) → DriveCounts → DriveView = λ media counts. record { media = media; counts = counts } in
     ap (λ m. by m new.counts) media ∙ ap (by (Some image)) (same-counts old.counts new.counts faults last calls)
 
 -- and what it gave up, the drive gave up
-pub Ejects-from : (bytes : List ℕ) (old new : DriveView) → IfSome old.media (λ image. bytes ≡ image) → new.media ≡ None → new.counts.faults ≡ old.counts.faults → new.counts.last ≡ old.counts.last → new.counts.calls ≡ old.counts.calls → IsEjected bytes old new
+pub Ejects-from : (bytes : List ℕ) (old new : DriveView) → IfSome old.media (λ image. bytes ≡ image)
+    → new.media ≡ None → new.counts.faults ≡ old.counts.faults → new.counts.last ≡ old.counts.last
+    → new.counts.calls ≡ old.counts.calls → IsEjected bytes old new
 Ejects-from bytes old new handed none faults last calls =
     let by : Option (List ℕ) → DriveCounts → DriveView = λ media counts. record { media = media; counts = counts } in
     record {
@@ -52,7 +57,9 @@ next-empty (suc n) (image ∷ images) [] drive empty is = absurd (none-some driv
 next-empty (suc n) (image ∷ images) (first ∷ drives) drive empty is =
     next-empty n images drives drive (All-tail IsEmpty first drives empty) is
 
-set-next : (n : ℕ) (images : List (List ℕ)) (drives : List DriveView) (image : List ℕ) (old : DriveView) → slice_get images n ≡ Some image → slice_get (holding (take n images) drives) n ≡ Some old → slice_set (holding (take n images) drives) n (with_media image old) ≡ holding (take (suc n) images) drives
+set-next : (n : ℕ) (images : List (List ℕ)) (drives : List DriveView) (image : List ℕ) (old : DriveView)
+    → slice_get images n ≡ Some image → slice_get (holding (take n images) drives) n ≡ Some old
+    → slice_set (holding (take n images) drives) n (with_media image old) ≡ holding (take (suc n) images) drives
 set-next n [] drives image old here is = absurd (none-some image here)
 set-next zero (first ∷ images) [] image old here is = absurd (none-some old is)
 set-next zero (first ∷ images) (drive ∷ drives) image old here is =
@@ -62,7 +69,9 @@ set-next (suc n) (first ∷ images) (drive ∷ drives) image old here is =
     ap (λ rest. with_media first drive ∷ rest) (set-next n images drives image old here is)
 
 -- one drive more holds its image
-pub holds-more : (n : ℕ) (images : List (List ℕ)) (image : List ℕ) (before now next : List DriveView) → slice_get images n ≡ Some image → now ≡ holding (take n images) before → ChangesOneDrive (IsInserted image) n now next → next ≡ holding (take (suc n) images) before
+pub holds-more : (n : ℕ) (images : List (List ℕ)) (image : List ℕ) (before now next : List DriveView)
+    → slice_get images n ≡ Some image → now ≡ holding (take n images) before → ChangesOneDrive (IsInserted image) n
+    now next → next ≡ holding (take (suc n) images) before
 holds-more n images image before now next here so_far (old, new, is, set, inserted) =
     set ∙ ap (λ drive. slice_set now n drive) inserted ∙ ap (λ drives. slice_set drives n (with_media image old)) so_far
     ∙ set-next n images before image old here (ap (λ drives. slice_get drives n) (sym so_far) ∙ is)
@@ -113,7 +122,8 @@ handed-as bytes image media None handed is same = absurd (none-some media is)
 handed-as bytes image media (Some held) handed is same = same ∙ handed ∙ same_Some held media is
 
 -- what stands where one image was set
-set-there : (n k : ℕ) (images : List (List ℕ)) (bytes image : List ℕ) → slice_get (slice_set images n bytes) k ≡ Some image → k < suc n → ((k < n) × (slice_get images k ≡ Some image)) ⊎ ((k ≡ n) × (image ≡ bytes))
+set-there : (n k : ℕ) (images : List (List ℕ)) (bytes image : List ℕ) → slice_get (slice_set images n bytes) k ≡ Some
+    image → k < suc n → ((k < n) × (slice_get images k ≡ Some image)) ⊎ ((k ≡ n) × (image ≡ bytes))
 set-there n k [] bytes image is low = absurd (none-some image is)
 set-there zero zero (one ∷ images) bytes image is low = inr (refl, sym (same_Some bytes image is))
 set-there zero (suc k) (one ∷ images) bytes image is low = absurd (omega (arith, low))
@@ -124,24 +134,34 @@ set-there (suc n) (suc k) (one ∷ images) bytes image is low = by (set-there n 
     by (inl (below, there)) = inl (omega (arith, below), there)
     by (inr (here, same)) = inr (ap suc here, same)
 
-pub gives-up : (n : ℕ) (images : List (List ℕ)) (bytes : List ℕ) (before now next : List DriveView) → n < length before → now ≡ given_up n before → AreTaken n images before → ChangesOneDrive (IsEjected bytes) n now next → GivesUp n images bytes before next
+pub gives-up : (n : ℕ) (images : List (List ℕ)) (bytes : List ℕ) (before now next : List DriveView)
+    → n < length before → now ≡ given_up n before → AreTaken n images before → ChangesOneDrive (IsEjected bytes) n now
+    next → GivesUp n images bytes before next
 gives-up n images bytes before now next within so_far taken (old, new, is, set_so, ejected) =
     let here : old ≡ get_or now n old = sym (get_or_from_slice_get now n old old is) in
     let size : length (map without_media (take n before)) ≡ n = simp (length-map, length-take) (omega arith) in
-    let there : (d : DriveView) → get_or now n d ≡ get_or before n d = λ d. rw so_far (get_or-append_right (map without_media (take n before)) (drop n before) n n d size (omega arith) ∙ rw get_or-drop (ap (λ k. get_or before k d) (omega arith))) in
-    let media : (media : List ℕ) → media_at before n ≡ Some media → old.media ≡ Some media = λ media at. ap (λ (view : DriveView). view.media) (sym (get_or_from_slice_get now n old unused_drive is) ∙ there unused_drive) ∙ at in
+    let there : (d : DriveView) → get_or now n d ≡ get_or before n d = λ d. rw so_far
+    (get_or-append_right (map without_media (take n before)) (drop n before) n n d size (omega arith) ∙ rw
+    get_or-drop (ap (λ k. get_or before k d) (omega arith))) in
+    let media : (media : List ℕ) → media_at before n ≡ Some media → old.media ≡ Some media = λ media at. ap
+    (λ (view : DriveView). view.media) (sym (get_or_from_slice_get now n old unused_drive is) ∙ there
+    unused_drive) ∙ at in
     record {
       left = set_so ∙ ap (λ drive. slice_set now n drive) ejected.none_left ∙ map_over_more without_media before now n old within so_far here;
       taken = λ k image held low at in_drive. by k image held at in_drive (set-there n k images bytes image at (omega (arith, low))) media;
     }
   where
-    by : (k : ℕ) (image held : List ℕ) → slice_get (slice_set images n bytes) k ≡ Some image → media_at before k ≡ Some held → ((k < n) × (slice_get images k ≡ Some image)) ⊎ ((k ≡ n) × (image ≡ bytes)) → ((media : List ℕ) → media_at before n ≡ Some media → old.media ≡ Some media) → image ≡ held
+    by : (k : ℕ) (image held : List ℕ) → slice_get (slice_set images n bytes) k ≡ Some image → media_at before k ≡
+        Some held → ((k < n) × (slice_get images k ≡ Some image)) ⊎ ((k ≡ n) × (image ≡ bytes))
+        → ((media : List ℕ) → media_at before n ≡ Some media → old.media ≡ Some media) → image ≡ held
     by k image held at in_drive (inl (below, there)) media = taken k image held below there in_drive
     by k image held at in_drive (inr (same, is_bytes)) media =
         handed-as bytes image held old.media ejected.handed_over (media held (subst (λ k. media_at before k ≡ Some held) same in_drive)) is_bytes
 
 -- all of them
-pub taken-all : (n : ℕ) (images : List (List ℕ)) (before now : List DriveView) → n ≡ length before → length images ≤ length before → now ≡ given_up n before → AreTaken n images before → TakesImages images before now
+pub taken-all : (n : ℕ) (images : List (List ℕ)) (before now : List DriveView) → n ≡ length before
+    → length images ≤ length before → now ≡ given_up n before → AreTaken n images before → TakesImages images before
+    now
 taken-all n images before now all enough left taken = record {
   each = λ k image media at in_drive. taken k image media (omega (arith, slice_get_within images k image at)) at in_drive;
   left =
@@ -199,14 +219,17 @@ media-without (was ∷ before) (now ∷ after) empty count =
 -- ---- images in drives
 
 -- the image of each number is in the drive of that number
-pub holding-at : (images : List (List ℕ)) (drives : List DriveView) → length images ≤ length drives → (n : ℕ) (image : List ℕ) → slice_get images n ≡ Some image → media_at (holding images drives) n ≡ Some image
+pub holding-at : (images : List (List ℕ)) (drives : List DriveView) → length images ≤ length drives
+    → (n : ℕ) (image : List ℕ) → slice_get images n ≡ Some image → media_at (holding images drives) n ≡ Some image
 holding-at [] drives enough n image at = absurd (none-some image at)
 holding-at (first ∷ images) [] enough n image at = absurd (omega (arith, enough))
 holding-at (first ∷ images) (drive ∷ drives) enough zero image at = at
 holding-at (first ∷ images) (drive ∷ drives) enough (suc n) image at = holding-at images drives (omega (arith, enough)) n image at
 
 -- and it is in that drive of the list
-pub holding-view : (images : List (List ℕ)) (drives : List DriveView) → length images ≤ length drives → (n : ℕ) (image : List ℕ) → slice_get images n ≡ Some image → (view : DriveView) × (slice_get (holding images drives) n ≡ Some view) × (view.media ≡ Some image)
+pub holding-view : (images : List (List ℕ)) (drives : List DriveView) → length images ≤ length drives
+    → (n : ℕ) (image : List ℕ) → slice_get images n ≡ Some image → (view : DriveView) ×
+    (slice_get (holding images drives) n ≡ Some view) × (view.media ≡ Some image)
 holding-view [] drives enough n image at = absurd (none-some image at)
 holding-view (first ∷ images) [] enough n image at = absurd (omega (arith, enough))
 holding-view (first ∷ images) (drive ∷ drives) enough zero image at = (with_media first drive, refl, at)

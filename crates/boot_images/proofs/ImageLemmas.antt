@@ -11,7 +11,9 @@ use Rattle.boot_images.specs.ImageWrites.{WritesImages}
 use Rattle.boot_images.specs.declared.write.WriteFault.TheVariants.{Image, OutOfMemory}
 
 -- one image more
-with_images-more : (n : ℕ) (names images : List (List ℕ)) (name image : List ℕ) (files : Files) → slice_get names n ≡ Some name → slice_get images n ≡ Some image → with_images files (take (suc n) names) (take (suc n) images) ≡ with_file (with_images files (take n names) (take n images)) name image
+with_images-more : (n : ℕ) (names images : List (List ℕ)) (name image : List ℕ) (files : Files) → slice_get names n ≡
+    Some name → slice_get images n ≡ Some image → with_images files (take (suc n) names) (take (suc n) images) ≡
+    with_file (with_images files (take n names) (take n images)) name image
 with_images-more n [] images name image files named here = absurd (none-some name named)
 with_images-more n (first ∷ names) [] name image files named here = absurd (none-some image here)
 with_images-more zero (first ∷ names) (one ∷ images) name image files named here =
@@ -27,7 +29,9 @@ pub none-written : (names images : List (List ℕ)) (files : Option Files) → I
 none-written names images None = refl
 none-written names images (Some files) = λ name. refl
 
-files-more : (n : ℕ) (names images : List (List ℕ)) (name image : List ℕ) (before mid now : Files) → slice_get names n ≡ Some name → slice_get images n ≡ Some image → WritesFirst n names images before mid → now name ≡ Some image → ((other : List ℕ) → other ≢ name → now other ≡ mid other) → WritesFirst (suc n) names images before now
+files-more : (n : ℕ) (names images : List (List ℕ)) (name image : List ℕ) (before mid now : Files) → slice_get names n
+    ≡ Some name → slice_get images n ≡ Some image → WritesFirst n names images before mid → now name ≡ Some image
+    → ((other : List ℕ) → other ≢ name → now other ≡ mid other) → WritesFirst (suc n) names images before now
 files-more n names images name image before mid now named here so_far written kept other =
     rw (with_images-more n names images name image before named here) (by (bytes_eq other name) refl)
   where
@@ -37,7 +41,10 @@ files-more n names images name image before mid now named here so_far written ke
         let others : other ≢ name = λ e. let same : bytes_eq other name ≡ true = (bytes_eq-Decides other name).1 e in cc in
         rw differs (kept other others ∙ so_far other)
 
-pub writes-more : (n : ℕ) (names images : List (List ℕ)) (name image : List ℕ) (first mid next : Option Files) → slice_get names n ≡ Some name → slice_get images n ≡ Some image → IfObserved (WritesFirst n names images) first mid → IfObserved (λ before now. now name ≡ Some image) mid next → IfObserved (λ before now. (other : List ℕ) → other ≢ name → now other ≡ before other) mid next → IfObserved (WritesFirst (suc n) names images) first next
+pub writes-more : (n : ℕ) (names images : List (List ℕ)) (name image : List ℕ) (first mid next : Option Files)
+    → slice_get names n ≡ Some name → slice_get images n ≡ Some image → IfObserved (WritesFirst n names images) first
+    mid → IfObserved (λ before now. now name ≡ Some image) mid next → IfObserved (λ before now. (other : List ℕ)
+    → other ≢ name → now other ≡ before other) mid next → IfObserved (WritesFirst (suc n) names images) first next
 writes-more n names images name image None None None named here so_far written kept = refl
 writes-more n names images name image None None (Some now) named here so_far written kept = absurd (cc written)
 writes-more n names images name image None (Some mid) next named here so_far written kept = absurd (cc so_far)
@@ -47,7 +54,11 @@ writes-more n names images name image (Some before) (Some mid) (Some now) named 
     files-more n names images name image before mid now named here so_far written kept
 
 -- the next was not written, or in part
-pub writes-up_to : (n : ℕ) (names images : List (List ℕ)) (name image : List ℕ) (first mid next : Option Files) → slice_get names n ≡ Some name → slice_get images n ≡ Some image → IfObserved (WritesFirst n names images) first mid → IfObserved (λ before now. KeepsOrHoldsPrefix (before name) image (now name)) mid next → IfObserved (λ before now. (other : List ℕ) → other ≢ name → now other ≡ before other) mid next → IfObserved (WritesUpTo n names images) first next
+pub writes-up_to : (n : ℕ) (names images : List (List ℕ)) (name image : List ℕ) (first mid next : Option Files)
+    → slice_get names n ≡ Some name → slice_get images n ≡ Some image → IfObserved (WritesFirst n names images) first
+    mid → IfObserved (λ before now. KeepsOrHoldsPrefix (before name) image (now name)) mid next
+    → IfObserved (λ before now. (other : List ℕ) → other ≢ name → now other ≡ before other) mid next
+    → IfObserved (WritesUpTo n names images) first next
 writes-up_to n names images name image None None None named here so_far part kept = refl
 writes-up_to n names images name image None None (Some now) named here so_far part kept = absurd (cc part)
 writes-up_to n names images name image None (Some mid) next named here so_far part kept = absurd (cc so_far)
@@ -63,7 +74,9 @@ writes-up_to n names images name image (Some before) (Some mid) (Some now) named
 }
 
 -- all are written
-pub all-written : (names images : List (List ℕ)) (n : ℕ) (first next : Option Files) → length names ≤ n → length images ≤ n → IfObserved (WritesFirst n names images) first next → IfObserved (WritesAll names images) first next
+pub all-written : (names images : List (List ℕ)) (n : ℕ) (first next : Option Files) → length names ≤ n
+    → length images ≤ n → IfObserved (WritesFirst n names images) first next → IfObserved (WritesAll names images)
+    first next
 all-written names images n None next named count written = written
 all-written names images n (Some before) None named count written = written
 all-written names images n (Some before) (Some now) named count written =
@@ -71,7 +84,12 @@ all-written names images n (Some before) (Some now) named count written =
 
 -- ---- a write that is not done
 
-module _ {Value : Type 0} (n : ℕ) (names images : List (List ℕ)) (name image : List ℕ) (first mid next : World) (named : slice_get names n ≡ Some name) (here : slice_get images n ≡ Some image) (kept : HasNoFault first mid) (so_far : IfObserved (WritesFirst n names images) first.files mid.files) (part : IfObserved (λ before now. KeepsOrHoldsPrefix (before name) image (now name)) mid.files next.files) (others : IfObserved (λ before now. (other : List ℕ) → other ≢ name → now other ≡ before other) mid.files next.files) (out : next.out ≡ first.out) (devices : next.devices ≡ first.devices) where
+module _ {Value : Type 0} (n : ℕ) (names images : List (List ℕ)) (name image : List ℕ) (first mid next : World)
+    (named : slice_get names n ≡ Some name) (here : slice_get images n ≡ Some image) (kept : HasNoFault first mid)
+    (so_far : IfObserved (WritesFirst n names images) first.files mid.files)
+    (part : IfObserved (λ before now. KeepsOrHoldsPrefix (before name) image (now name)) mid.files next.files)
+    (others : IfObserved (λ before now. (other : List ℕ) → other ≢ name → now other ≡ before other) mid.files
+    next.files) (out : next.out ≡ first.out) (devices : next.devices ≡ first.devices) where
   -- since the host failed
   pub stopped-failed : Rose mid.faults next.faults → next.failed_name ≡ Some name → next.failed_in_read ≡ false → WritesImages {Value = Value} names images (Err (Image n)) first next
   stopped-failed rose failed in_read = record {

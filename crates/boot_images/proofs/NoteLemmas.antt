@@ -19,7 +19,9 @@ noted-none names notes = record {
   };
 }
 
-module _ (n : ℕ) (names : List (List ℕ)) (name : List ℕ) (first mid next : Notes) (named : slice_get names n ≡ Some name) (so_far : HasWritten (take n names) first mid) (read : next.read ≡ mid.read) (err : next.err ≡ mid.err) (err_faults : next.err_faults ≡ mid.err_faults) where
+module _ (n : ℕ) (names : List (List ℕ)) (name : List ℕ) (first mid next : Notes) (named : slice_get names n ≡ Some
+    name) (so_far : HasWritten (take n names) first mid) (read : next.read ≡ mid.read) (err : next.err ≡ mid.err)
+    (err_faults : next.err_faults ≡ mid.err_faults) where
   with-names : (written : List (List ℕ)) → next.written ≡ first.written ++ written → HasWritten written first next
   with-names written is = record {
     is = λ i. record {
@@ -33,7 +35,9 @@ module _ (n : ℕ) (names : List (List ℕ)) (name : List ℕ) (first mid next :
   -- the next one was
   pub noted-more : next.written ≡ mid.written ++ name ∷ [] → HasWritten (take (suc n) names) first next
   noted-more written =
-      with-names (take (suc n) names) (written ∙ ap (λ (notes : Notes). notes.written ++ name ∷ []) so_far.is ∙ append_assoc first.written (take n names) (name ∷ []) ∙ ap (λ (names : List (List ℕ)). first.written ++ names) (sym (take-suc n names name named)))
+      with-names (take (suc n) names) (written ∙ ap (λ (notes : Notes). notes.written ++ name ∷ []) so_far.is ∙
+      append_assoc first.written (take n names) (name ∷ []) ∙ ap (λ (names : List (List ℕ)). first.written ++
+      names) (sym (take-suc n names name named)))
 
   -- it was or not, since memory was out
   pub noted-some : (next.written ≡ mid.written) ⊎ (next.written ≡ mid.written ++ name ∷ []) → (count : ℕ) × HasWritten (take count names) first next

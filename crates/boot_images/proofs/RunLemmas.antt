@@ -46,7 +46,9 @@ volumes-of (first ∷ images) all =
     let rest = volumes-of images (All-tail IsVolume first images all) in
     record { volumes = v ∷ rest.volumes; as_many = ap suc rest.as_many; each = each v vol rest }
   where
-    each : (v : DiskVolume) → Vol first v → (rest : VolumesOf images) → (n : ℕ) (w : DiskVolume) → slice_get (v ∷ rest.volumes) n ≡ Some w → (image : List ℕ) × (slice_get (first ∷ images) n ≡ Some image) × Vol image w
+    each : (v : DiskVolume) → Vol first v → (rest : VolumesOf images) → (n : ℕ) (w : DiskVolume)
+        → slice_get (v ∷ rest.volumes) n ≡ Some w → (image : List ℕ) × (slice_get (first ∷ images) n ≡ Some image) ×
+        Vol image w
     each v vol rest zero w at = (first, refl, subst (Vol first) (same_Some v w at) vol)
     each v vol rest (suc n) w at = rest.each n w at
 
@@ -92,7 +94,10 @@ both-there (x ∷ xs) (y ∷ ys) same (suc n) = both-there xs ys (omega (arith, 
 abbrev GetsNone : State → State → Type 0
 GetsNone s t = (drive : ℕ) → volume_at s.files drive ≡ None → volume_at t.files drive ≡ None
 
-module _ (setup : Setup) (before ran : World) (new : List (List ℕ)) (drives : List DriveView) (room : HaveRoom (length setup.images) before.devices.drives) (as_many : length new ≡ length setup.images) (many : length ran.devices.drives ≡ length before.devices.drives) (taken : TakesImages new ran.devices.drives drives) where
+module _ (setup : Setup) (before ran : World) (new : List (List ℕ)) (drives : List DriveView)
+    (room : HaveRoom (length setup.images) before.devices.drives) (as_many : length new ≡ length setup.images)
+    (many : length ran.devices.drives ≡ length before.devices.drives) (taken : TakesImages new ran.devices.drives
+    drives) where
   -- the world with the images in the drives, and the one where they are out again
   abbrev held : World
   held = with_images_in setup.images before
@@ -190,7 +195,8 @@ module _ (setup : Setup) (before ran : World) (new : List (List ℕ)) (drives : 
         none = (run-keeps-ends (take it.count setup.slices) it.written s it.reached it.states it.run).none
 
         by : (StopsSlice it.n it.reached ran.devices × (ran.out ≡ stream_with before.out it.written) × HasNoFault held ran) ⊎ BreaksOutput it.n it.reached (stream_with before.out it.written) ran
-            → (StopsSlice it.n it.reached again.devices × (again.out ≡ stream_with before.out it.written) × HasNoFault before again) ⊎ BreaksOutput it.n it.reached (stream_with before.out it.written) again
+            → (StopsSlice it.n it.reached again.devices × (again.out ≡ stream_with before.out it.written) × HasNoFault
+            before again) ⊎ BreaksOutput it.n it.reached (stream_with before.out it.written) again
         by (inl (stops, gained, kept)) = inl (stops-again it.n it.reached none stops, gained, kept)
         by (inr breaks) = inr (output-again it.n it.reached (stream_with before.out it.written) none breaks)
 
@@ -204,7 +210,8 @@ module _ (setup : Setup) (before ran : World) (new : List (List ℕ)) (drives : 
   unrun-after it = record {
     out = it.out;
     terminals = it.terminals;
-    none_failed = subst (λ (states : List DriveState). NoneFailed states (drive_states drives)) before-counted (subst (NoneFailed (drive_states held.devices.drives)) (sym after-counted) it.none_failed);
+    none_failed = subst (λ (states : List DriveState). NoneFailed states (drive_states drives)) before-counted
+        (subst (NoneFailed (drive_states held.devices.drives)) (sym after-counted) it.none_failed);
     media_kept = media-again;
   }
 
@@ -273,7 +280,8 @@ module _ (setup : Setup) (before ran : World) (new : List (List ℕ)) (drives : 
   mount-failed : (drive number : ℕ) → FailsToMount (length setup.images) drive number held ran → FailsToMount (length setup.images) drive number before after
   mount-failed drive number it = record {
     among = it.among;
-    failed = subst (λ (states : List DriveState). OneFailed drive number states (drive_states drives)) before-counted (subst (OneFailed drive number (drive_states held.devices.drives)) (sym after-counted) it.failed);
+    failed = subst (λ (states : List DriveState). OneFailed drive number states (drive_states drives)) before-counted
+        (subst (OneFailed drive number (drive_states held.devices.drives)) (sym after-counted) it.failed);
     media_kept = media-again;
     terms_kept = it.terms_kept;
     out_kept = it.out_kept;
@@ -300,10 +308,17 @@ module _ (setup : Setup) (before ran : World) (new : List (List ℕ)) (drives : 
 
 -- ---- a call with the devices as they are before, between and after
 
-module _ (setup given : Setup) (before ran : World) (inside left : Outside) (new : List (List ℕ)) (room : HaveRoom (length setup.images) before.devices.drives) (as_many : length new ≡ length setup.images) (many : length ran.devices.drives ≡ length before.devices.drives) (taken : TakesImages new ran.devices.drives left.drives) where
-  pub runs-between : (end : RunEnd) → given ≡ setup → inside.drives ≡ holding setup.images before.devices.drives → inside.terms ≡ before.devices.terms → left.terms ≡ ran.devices.terms → MachineCall given (record before { devices = inside }) ran end → RunsImages setup new before (record ran { devices = left }) end
+module _ (setup given : Setup) (before ran : World) (inside left : Outside) (new : List (List ℕ))
+    (room : HaveRoom (length setup.images) before.devices.drives) (as_many : length new ≡ length setup.images)
+    (many : length ran.devices.drives ≡ length before.devices.drives) (taken : TakesImages new ran.devices.drives
+    left.drives) where
+  pub runs-between : (end : RunEnd) → given ≡ setup → inside.drives ≡ holding setup.images before.devices.drives
+      → inside.terms ≡ before.devices.terms → left.terms ≡ ran.devices.terms → MachineCall given
+      (record before { devices = inside }) ran end → RunsImages setup new before (record ran { devices = left }) end
   runs-between end same put terms_put terms_left call =
       let same_devices : inside ≡ record { drives = holding setup.images before.devices.drives; terms = before.devices.terms } = λ i. record { drives = put i; terms = terms_put i } in
       let held_call = subst (λ (devices : Outside). MachineCall given (record before { devices = devices }) ran end) same_devices call in
       let set_up = subst (λ (by : Setup). MachineCall by (with_images_in setup.images before) ran end) same held_call in
-      subst (λ (terms : List TerminalState). RunsImages setup new before (record ran { devices = record { drives = left.drives; terms = terms } }) end) (sym terms_left) (runs-images setup before ran new left.drives room as_many many taken end set_up)
+      subst (λ (terms : List TerminalState). RunsImages setup new before
+      (record ran { devices = record { drives = left.drives; terms = terms } }) end) (sym terms_left)
+      (runs-images setup before ran new left.drives room as_many many taken end set_up)

@@ -57,7 +57,9 @@ images-in (suc drives) (view ∷ views) there =
     let (images, have) = images-in drives views (λ n low. there (suc n) (omega (arith, low))) in
     (image ∷ images, record { as_many = ap suc have.as_many; each = each image is images have })
   where
-    each : (image : List ℕ) → media_at (view ∷ views) 0 ≡ Some image → (images : List (List ℕ)) → HaveImages drives images views → (n : ℕ) (other : List ℕ) → slice_get (image ∷ images) n ≡ Some other → media_at (view ∷ views) n ≡ Some other
+    each : (image : List ℕ) → media_at (view ∷ views) 0 ≡ Some image → (images : List (List ℕ)) → HaveImages drives
+        images views → (n : ℕ) (other : List ℕ) → slice_get (image ∷ images) n ≡ Some other → media_at (view ∷ views)
+        n ≡ Some other
     each image is images have zero other here = is ∙ here
     each image is images have (suc n) other here = have.each n other here
 
@@ -71,12 +73,17 @@ images-there drives views have = images-in drives views (λ n low. image-at n (s
         (holds.on.image, ap (λ (view : DriveView). view.media) (get_or_from_slice_get views n holds.view unused_drive holds.is) ∙ holds.on.is)
 
 -- there are as many drives behind a start
-pub drives-started : {A : Type 0} (drives : ℕ) (result : Result A StartFault) (before after : List DriveView) → HaveVolumes drives before → StartsDrives drives result before after → length after ≡ length before
+pub drives-started : {A : Type 0} (drives : ℕ) (result : Result A StartFault) (before after : List DriveView)
+    → HaveVolumes drives before → StartsDrives drives result before after → length after ≡ length before
 drives-started drives result before after have started = (started.reads have.volumes have.as_many have.hold).as_many
 
-pub drives-counted : {A Table : Type 0} {Driver : Table → Type 0} (members : (table : Table) → Ghosts (Driver table)) (drives : ℕ) (result : Result A StartFault) (before after : List (DynBox Table Global Driver)) → HaveVolumes drives (drive_views members before) → StartsDrives drives result (drive_views members before) (drive_views members after) → length after ≡ length before
+pub drives-counted : {A Table : Type 0} {Driver : Table → Type 0} (members : (table : Table) → Ghosts (Driver table))
+    (drives : ℕ) (result : Result A StartFault) (before after : List (DynBox Table Global Driver))
+    → HaveVolumes drives (drive_views members before) → StartsDrives drives result (drive_views members before)
+    (drive_views members after) → length after ≡ length before
 drives-counted members drives result before after have started =
-    sym (length-map after (boxed_drive_view members)) ∙ drives-started drives result (drive_views members before) (drive_views members after) have started ∙ length-map before (boxed_drive_view members)
+    sym (length-map after (boxed_drive_view members)) ∙ drives-started drives result (drive_views members before)
+    (drive_views members after) have started ∙ length-map before (boxed_drive_view members)
 
 -- the images are as they were, if those of each number are, in as many drives
 pub media-kept : (before after : List DriveView) → length after ≡ length before → ((n : ℕ) → media_at after n ≡ media_at before n) → media_of after ≡ media_of before
@@ -92,7 +99,9 @@ media-kept (was ∷ before) (now ∷ after) count same =
 observed-from : (number : ℕ) (keys : List ScriptKey) (terms : List TerminalState) → All IsObserved terms → All IsObserved (loaded_from number keys terms)
 observed-from number keys [] observed = observed
 observed-from number keys (terminal ∷ terms) observed =
-    All-cons IsObserved (with_keys (keys_for number keys) terminal) (loaded_from (suc number) keys terms) (All-head IsObserved terminal terms observed) (observed-from (suc number) keys terms (All-tail IsObserved terminal terms observed))
+    All-cons IsObserved (with_keys (keys_for number keys) terminal) (loaded_from (suc number) keys terms)
+    (All-head IsObserved terminal terms observed) (observed-from (suc number) keys terms
+    (All-tail IsObserved terminal terms observed))
 
 count-loaded : (number : ℕ) (keys : List ScriptKey) (terms : List TerminalState) → length (loaded_from number keys terms) ≡ length terms
 count-loaded number keys [] = refl
@@ -134,7 +143,12 @@ partly-from slices s before after devices ran = record {
 
 -- ---- a kernel stands, and the terminals were loaded
 
-module _ (setup : Setup) (kernel : Kernel) (before : World) (started later : Outside) (unloaded : AreUnloaded before.devices.terms) (civil : is_time_packet setup.time ≡ true) (none_failed : NoneFailed (drive_states before.devices.drives) (drive_states started.drives)) (drives : later.drives ≡ started.drives) (media : (n : ℕ) → media_at started.drives n ≡ media_at before.devices.drives n) (terms : later.terms ≡ loaded setup.keys before.devices.terms) (begins : Begins setup kernel started) where
+module _ (setup : Setup) (kernel : Kernel) (before : World) (started later : Outside)
+    (unloaded : AreUnloaded before.devices.terms) (civil : is_time_packet setup.time ≡ true)
+    (none_failed : NoneFailed (drive_states before.devices.drives) (drive_states started.drives))
+    (drives : later.drives ≡ started.drives) (media : (n : ℕ) → media_at started.drives n ≡ media_at
+    before.devices.drives n) (terms : later.terms ≡ loaded setup.keys before.devices.terms)
+    (begins : Begins setup kernel started) where
   count : length later.terms ≡ length before.devices.terms
   count = ap length terms ∙ count-loaded 0 setup.keys before.devices.terms
 
@@ -186,18 +200,40 @@ module _ (setup : Setup) (kernel : Kernel) (before : World) (started later : Out
   held n = ap (λ views. media_at views n) drives ∙ media n
 
   -- the slices were run
-  runs-to : {Value : Type 0} (value : Value) (new : Kernel) (after : World) → RunsSlices setup.slices kernel new (Ok value) (with_devices before later) after → All IsObserved before.devices.terms → (t : State) × RunsTo setup begun t before after × Represents new after.devices t
+  runs-to : {Value : Type 0} (value : Value) (new : Kernel) (after : World) → RunsSlices setup.slices kernel new
+      (Ok value) (with_devices before later) after → All IsObserved before.devices.terms → (t : State) × RunsTo setup
+      begun t before after × Represents new after.devices t
   runs-to value new after ran told =
-      let (states, written, t, run, there, gained, kept) = ran.run begun (observed told) tied in
-      (t, record { states = states; written = written; run = run; output = gained; terminals = terms-standing new after.devices t there; drives = holds-volumes new after.devices t there; images = λ drive none. kept drive none ∙ held drive }, there)
+      let (states, written, t, run, there, gained, kept) = ran.run begun (observed told) tied in (
+        t,
+        record {
+          states = states;
+          written = written;
+          run = run;
+          output = gained;
+          terminals = terms-standing new
+              after.devices t there;
+          drives = holds-volumes new after.devices t there;
+          images = λ drive none. kept drive
+              none ∙ held drive;
+        },
+        there,
+      )
 
   -- it did, and so many slices were begun
-  runs-whole : {Value : Type 0} (value : Value) (new : Kernel) (after : World) (lives : Bool) (begun_slices : ℕ) → RunsSlices setup.slices kernel new (Ok value) (with_devices before later) after → ((t : State) → Represents new after.devices t → has_living t ≡ lives) → ((t : State) → Represents new after.devices t → begun_slices ≡ t.inner.tick) → All IsObserved before.devices.terms → RunsWhole setup lives begun_slices before after
+  runs-whole : {Value : Type 0} (value : Value) (new : Kernel) (after : World) (lives : Bool) (begun_slices : ℕ)
+      → RunsSlices setup.slices kernel new (Ok value) (with_devices before later) after
+      → ((t : State) → Represents new after.devices t → has_living t ≡ lives)
+      → ((t : State) → Represents new after.devices t → begun_slices ≡ t.inner.tick)
+      → All IsObserved before.devices.terms → RunsWhole setup lives begun_slices before after
   runs-whole value new after lives begun_slices ran living counted told =
       let (t, to, there) = runs-to value new after ran told in
       record { s = begun; t = t; starts = starts-loaded; runs = to; living = living t there; ticks = counted t there }
 
-  ran-ended : {Value : Type 0} (value : Value) (new : Kernel) (after : World) (ticks : ℕ) → RunsSlices setup.slices kernel new (Ok value) (with_devices before later) after → ((t : State) → Represents new after.devices t → living_count t.inner ≡ 0) → ((t : State) → Represents new after.devices t → ticks ≡ t.inner.tick) → MachineCall setup before after (Ended ticks)
+  ran-ended : {Value : Type 0} (value : Value) (new : Kernel) (after : World) (ticks : ℕ) → RunsSlices setup.slices
+      kernel new (Ok value) (with_devices before later) after → ((t : State) → Represents new after.devices t
+      → living_count t.inner ≡ 0) → ((t : State) → Represents new after.devices t → ticks ≡ t.inner.tick)
+      → MachineCall setup before after (Ended ticks)
   ran-ended value new after ticks ran none counted = record {
     comes = runs-whole value new after false ticks ran (λ t there. none-living t (none t there)) counted;
     judged = tt;
@@ -207,7 +243,10 @@ module _ (setup : Setup) (kernel : Kernel) (before : World) (started later : Out
     files_kept = ran.files_kept;
   }
 
-  ran-living : {Value : Type 0} (value : Value) (new : Kernel) (after : World) (ticks : ℕ) → RunsSlices setup.slices kernel new (Ok value) (with_devices before later) after → ((t : State) → Represents new after.devices t → living_count t.inner ≢ 0) → ((t : State) → Represents new after.devices t → ticks ≡ t.inner.tick) → MachineCall setup before after (Living ticks)
+  ran-living : {Value : Type 0} (value : Value) (new : Kernel) (after : World) (ticks : ℕ) → RunsSlices setup.slices
+      kernel new (Ok value) (with_devices before later) after → ((t : State) → Represents new after.devices t
+      → living_count t.inner ≢ 0) → ((t : State) → Represents new after.devices t → ticks ≡ t.inner.tick)
+      → MachineCall setup before after (Living ticks)
   ran-living value new after ticks ran some counted = record {
     comes = runs-whole value new after true ticks ran (λ t there. some-living t (some t there)) counted;
     judged = tt;
@@ -218,17 +257,24 @@ module _ (setup : Setup) (kernel : Kernel) (before : World) (started later : Out
   }
 
   -- to their end
-  pub called-whole : {Value : Type 0} (value : Value) (new : Kernel) (after : World) (living ticks : ℕ) (end : RunEnd) → RunsSlices setup.slices kernel new (Ok value) (with_devices before later) after → ((t : State) → Represents new after.devices t → living ≡ living_count t.inner) → ((t : State) → Represents new after.devices t → ticks ≡ t.inner.tick) → (living ≡ 0 → end ≡ Ended ticks) → (living ≢ 0 → end ≡ Living ticks) → MachineCall setup before after end
+  pub called-whole : {Value : Type 0} (value : Value) (new : Kernel) (after : World) (living ticks : ℕ) (end : RunEnd)
+      → RunsSlices setup.slices kernel new (Ok value) (with_devices before later) after
+      → ((t : State) → Represents new after.devices t → living ≡ living_count t.inner)
+      → ((t : State) → Represents new after.devices t → ticks ≡ t.inner.tick) → (living ≡ 0 → end ≡ Ended ticks)
+      → (living ≢ 0 → end ≡ Living ticks) → MachineCall setup before after end
   called-whole value new after zero ticks end ran alive counted idle lives =
       subst (MachineCall setup before after) (sym (idle refl)) (ran-ended value new after ticks ran (λ t there. sym (alive t there)) counted)
   called-whole value new after (suc living) ticks end ran alive counted idle lives =
       subst (MachineCall setup before after) (sym (lives (λ e. omega (arith, e)))) (ran-living value new after ticks ran (λ t there none. omega (arith, alive t there, none)) counted)
 
-  partly : (after : World) → ((s : State) → All IsObserved later.terms → Represents kernel later s → RunsPartly setup.slices s (with_devices before later) after) → All IsObserved before.devices.terms → RunsPartly setup.slices begun before after
+  partly : (after : World) → ((s : State) → All IsObserved later.terms → Represents kernel later s
+      → RunsPartly setup.slices s (with_devices before later) after) → All IsObserved before.devices.terms
+      → RunsPartly setup.slices begun before after
   partly after ran told = partly-from setup.slices begun before after later (ran begun (observed told) tied)
 
   -- in part, since the output could not be written
-  pub called-output : {Value : Type 0} (new : Kernel) (after : World) → RunsSlices {Value = Value} setup.slices kernel new (Err Output) (with_devices before later) after → MachineCall setup before after OutputFailed
+  pub called-output : {Value : Type 0} (new : Kernel) (after : World) → RunsSlices {Value = Value} setup.slices kernel
+      new (Err Output) (with_devices before later) after → MachineCall setup before after OutputFailed
   called-output new after ran = record {
     comes = λ told. record { s = begun; starts = starts-loaded; partly = partly after ran.partial told };
     judged = tt;
@@ -239,7 +285,9 @@ module _ (setup : Setup) (kernel : Kernel) (before : World) (started later : Out
   }
 
   -- or since memory was out
-  pub called-without_memory : {Value : Type 0} (new : Kernel) (after : World) → RunsSlices {Value = Value} setup.slices kernel new (Err RunFault.NoMemory) (with_devices before later) after → MachineCall setup before after NoMemory
+  pub called-without_memory : {Value : Type 0} (new : Kernel) (after : World) → RunsSlices {Value = Value}
+      setup.slices kernel new (Err RunFault.NoMemory) (with_devices before later) after → MachineCall setup before
+      after NoMemory
   called-without_memory new after ran = record {
     comes = λ told. inr (record { s = begun; starts = starts-loaded; partly = partly after ran.partial told });
     judged = tt;
@@ -268,7 +316,11 @@ where-refused (Boot fault) then it = λ e. then (it e)
 where-refused (Drive drive number) then it = tt
 
 -- the machine did not start
-pub called-refused : (setup : Setup) (config : Config) (world : World) (devices : Outside) (error : StartError) → config.blocks ≡ setup.blocks → length setup.images ≡ config.images → StartIsRefused config setup.file error → WhereRefused error (devices ≡ world.devices) → StartsDrives {A = Kernel} config.images (drive_fault (Err error)) world.devices.drives devices.drives → length devices.drives ≡ length world.devices.drives → devices.terms ≡ world.devices.terms → MachineCall setup world (with_devices world devices) (start_end error)
+pub called-refused : (setup : Setup) (config : Config) (world : World) (devices : Outside) (error : StartError)
+    → config.blocks ≡ setup.blocks → length setup.images ≡ config.images → StartIsRefused config setup.file error
+    → WhereRefused error (devices ≡ world.devices) → StartsDrives {A = Kernel} config.images (drive_fault (Err error))
+    world.devices.drives devices.drives → length devices.drives ≡ length world.devices.drives
+    → devices.terms ≡ world.devices.terms → MachineCall setup world (with_devices world devices) (start_end error)
 called-refused setup config world devices (Boot OutOfMemory) blocks images refused same moved count terms =
     called-nothing setup world devices moved.moves (media-kept world.devices.drives devices.drives count moved.media) terms
 called-refused setup config world devices (Boot (BadModule at error)) blocks images refused same moved count terms = record {

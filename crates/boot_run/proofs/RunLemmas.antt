@@ -50,14 +50,18 @@ pub terms-standing : (kernel : Kernel) (devices : Outside) (s : State) → Repre
 terms-standing kernel devices s tied = sym (ap (λ (s : State). s.terms) tied.is)
 
 -- where the bytes are taken from the terminals, the kernel stands for the state without them
-pub represents-taken : (kernel : Kernel) (mid now : Outside) (t : State) → now.drives ≡ mid.drives → now.terms ≡ terminals_emptied mid.terms → Represents kernel mid t → Represents kernel now (record t { terms = terminals_emptied t.terms })
+pub represents-taken : (kernel : Kernel) (mid now : Outside) (t : State) → now.drives ≡ mid.drives
+    → now.terms ≡ terminals_emptied mid.terms → Represents kernel mid t → Represents kernel now
+    (record t { terms = terminals_emptied t.terms })
 represents-taken kernel mid now t drives terms tied =
     let taken : Outside = record mid { terms = terminals_emptied mid.terms } in
     let is : taken ≡ now = λ i. record { drives = sym drives i; terms = sym terms i } in
     subst (λ (devices : Outside). Represents kernel devices (record t { terms = terminals_emptied t.terms })) is (represents-emptied kernel mid t tied)
 
 -- a slice that was run leaves a kernel that stands, also when the bytes are taken from the terminals
-pub stands-emptied : (n : ℕ) (old new : Kernel) (before mid now : Outside) (end : SliceEnd) → Stands old before → end ≢ SliceEnd.NoMemory → HasSlice n old new before mid end → now.drives ≡ mid.drives → now.terms ≡ terminals_emptied mid.terms → Stands new now
+pub stands-emptied : (n : ℕ) (old new : Kernel) (before mid now : Outside) (end : SliceEnd) → Stands old before
+    → end ≢ SliceEnd.NoMemory → HasSlice n old new before mid end → now.drives ≡ mid.drives
+    → now.terms ≡ terminals_emptied mid.terms → Stands new now
 stands-emptied n old new before mid now end (s, tied) more slice drives terms =
     let (states, t, steps, there, kept) = slice.step more s tied in
     (record t { terms = terminals_emptied t.terms }, represents-taken new mid now t drives terms there)
@@ -83,17 +87,26 @@ run-over [] s states written t idle run = run
 run-over (n ∷ ns) s states written t idle run = rw idle at run
 
 -- one slice is a run
-pub run-slice : (n : ℕ) (m t : State) (states : List State) (end : SliceEnd) → has_living m ≡ true → Slice n m states end t → Run (n ∷ []) m states (console_bytes t.terms) (record t { terms = terminals_emptied t.terms })
+pub run-slice : (n : ℕ) (m t : State) (states : List State) (end : SliceEnd) → has_living m ≡ true
+    → Slice n m states end t → Run (n ∷ []) m states (console_bytes t.terms)
+    (record t { terms = terminals_emptied t.terms })
 run-slice n m t states end lives slice =
     rw lives (end, t, states, [], [], slice, sym (append-nil states), sym (append-nil (console_bytes t.terms)), (refl, refl, refl))
 
 -- a run over the first slices, and one over the rest from where it came to, are a run
-pub run-append : (first rest : List ℕ) (s m t : State) (states others : List State) (written more : List ℕ) → Run first s states written m → Run rest m others more t → Run (first ++ rest) s (states ++ others) (written ++ more) t
+pub run-append : (first rest : List ℕ) (s m t : State) (states others : List State) (written more : List ℕ)
+    → Run first s states written m → Run rest m others more t → Run (first ++ rest) s (states ++ others)
+    (written ++ more) t
 run-append [] rest s m t states others written more (none, nothing, same) next = rw (none, nothing) (rw same at next)
 run-append (n ∷ first) rest s m t states others written more run next =
     by_living (has_living s) refl (λ mid later out after. run-append first rest mid m t later others out more after next) run
   where
-    by_living : (living : Bool) → has_living s ≡ living → ((mid : State) (later : List State) (out : List ℕ) → Run first mid later out m → Run (first ++ rest) mid (later ++ others) (out ++ more) t) → MatchBool living ((end : SliceEnd) × (mid : State) × (begun later : List State) × (out : List ℕ) × Slice n s begun end mid × (states ≡ begun ++ later) × (written ≡ console_bytes mid.terms ++ out) × Run first (record mid { terms = terminals_emptied mid.terms }) later out m) ((states ≡ []) × (written ≡ []) × (m ≡ s)) → Run (n ∷ (first ++ rest)) s (states ++ others) (written ++ more) t
+    by_living : (living : Bool) → has_living s ≡ living → ((mid : State) (later : List State) (out : List ℕ)
+        → Run first mid later out m → Run (first ++ rest) mid (later ++ others) (out ++ more) t)
+        → MatchBool living ((end : SliceEnd) × (mid : State) × (begun later : List State) × (out : List ℕ) × Slice n s
+        begun end mid × (states ≡ begun ++ later) × (written ≡ console_bytes mid.terms ++ out) × Run first
+        (record mid { terms = terminals_emptied mid.terms }) later out m) ((states ≡ []) × (written ≡ []) × (m ≡ s))
+        → Run (n ∷ (first ++ rest)) s (states ++ others) (written ++ more) t
     by_living true lives joined (end, mid, begun, later, out, slice, visited, all, after) =
         rw lives (
           end,
@@ -118,7 +131,9 @@ run-append (n ∷ first) rest s m t states others written more run next =
 -- wrote what the output gained, and kept the images that none of its events asked to change
 abbrev pub Reaches : List DriveView → List ℕ → Option (List ℕ) → List ℕ → State → Kernel → Outside → Option (List ℕ) → Type 0
 Reaches start slices first ran s kernel devices out =
-    (m : State) × (states : List State) × (written : List ℕ) × All IsObserved devices.terms × Represents kernel devices m × (out ≡ stream_with first written) × Run ran s states written m × KeepsImages (ComesInto slices s) states start devices.drives
+    (m : State) × (states : List State) × (written : List ℕ) × All IsObserved devices.terms × Represents kernel
+    devices m × (out ≡ stream_with first written) × Run ran s states written m × KeepsImages (ComesInto slices s)
+    states start devices.drives
 
 pub reaches-none : (slices : List ℕ) (first : Option (List ℕ)) (s : State) (kernel : Kernel) (devices : Outside) → All IsObserved devices.terms → Represents kernel devices s
     → Reaches devices.drives slices first [] s kernel devices first
@@ -183,16 +198,20 @@ reaches-more start slices count s n kernel after devices mid now first out next 
       written ++ console_bytes t.terms,
       subst (λ terms. All IsObserved terms) (sym emptied) (observed-emptied mid.terms told_mid),
       represents-taken after mid now t drives emptied left,
-      gained told_mid ∙ ap (λ stream. stream_with stream (console_bytes mid.terms)) is ∙ appended-twice first written (console_bytes mid.terms) ∙ ap (λ terms. stream_with first (written ++ console_bytes terms)) (sym there),
+      gained told_mid ∙ ap (λ stream. stream_with stream (console_bytes mid.terms)) is ∙ appended-twice first written
+          (console_bytes mid.terms) ∙ ap (λ terms. stream_with first (written ++ console_bytes terms)) (sym there),
       run-append (take count slices) (n ∷ []) s m (record t { terms = terminals_emptied t.terms }) states begun written (console_bytes t.terms) so_far (run-slice n m t begun end lives slice),
-      subst (λ (views : List DriveView). KeepsImages (ComesInto slices s) (states ++ begun) start views) (sym drives) (images-later slices count n s m states begun written start devices.drives mid.drives at lives so_far images kept),
+      subst (λ (views : List DriveView). KeepsImages (ComesInto slices s) (states ++ begun) start views) (sym drives)
+          (images-later slices count n s m states begun written start devices.drives mid.drives at lives so_far images
+          kept),
     )
 
 -- a run over these slices comes to a state that the kernel represents, the output gained what it writes, and the images
 -- that none of its events asked to change are as they were
 abbrev pub HasRun : List DriveView → Option (List ℕ) → List ℕ → State → Kernel → Outside → Option (List ℕ) → Type 0
 HasRun start first slices s kernel devices out =
-    (states : List State) × (written : List ℕ) × (t : State) × Run slices s states written t × Represents kernel devices t × (out ≡ stream_with first written) × KeepsImages (ComesInto slices s) states start devices.drives
+    (states : List State) × (written : List ℕ) × (t : State) × Run slices s states written t × Represents kernel
+    devices t × (out ≡ stream_with first written) × KeepsImages (ComesInto slices s) states start devices.drives
 
 pub reaches-idle : (start : List DriveView) (first out : Option (List ℕ)) (slices ran rest : List ℕ) (s : State) (kernel : Kernel) (devices : Outside) → ran ++ rest ≡ slices
     → Reaches start slices first ran s kernel devices out → ((m : State) → Represents kernel devices m → living_count m.inner ≡ 0) → HasRun start first slices s kernel devices out
@@ -225,7 +244,9 @@ partly-before start slices count n s kernel devices before after here (m, states
 -- if a slice was run and its bytes were not all passed on, the output holds those of the slices before it, and a prefix
 pub partly-after : (start : List DriveView) (slices : List ℕ) (count : ℕ) (s : State) (kernel later : Kernel) (devices mid : Outside) (before after : World) (out : Option (List ℕ)) (end : SliceEnd)
     → count < length slices → Reaches start slices before.out (take count slices) s kernel devices out → SomeLives kernel devices
-    → RunsSlice (get_or slices count 0) kernel devices end later mid → (All IsObserved mid.terms → GainsPrefix out (console_bytes mid.terms) after.out) → (All IsObserved mid.terms → console_bytes mid.terms ≢ [])
+    → RunsSlice (get_or slices count 0) kernel devices end later mid → (All IsObserved mid.terms
+    → GainsPrefix out (console_bytes mid.terms) after.out) → (All IsObserved mid.terms → console_bytes mid.terms ≢
+    [])
     → (taken : ℕ) × (after.devices.terms ≡ emptied_front taken mid.terms) → after.devices.drives ≡ mid.drives → RunsPartly slices s before after
 partly-after start slices count s kernel later devices mid before after out end within (m, states, written, told, tied, is, so_far, images) some steps gained filled (taken, left) drives =
     let (begun, t, slice, stands, kept) = steps m tied in
@@ -234,7 +255,8 @@ partly-after start slices count s kernel later devices mid before after out end 
     let there : t.terms ≡ mid.terms = ap (λ (s : State). s.terms) stands.is in
     let told_m : All IsObserved m.terms = subst (λ terms. All IsObserved terms) (sym here) told in
     let told_mid : All IsObserved mid.terms = subst (λ terms. All IsObserved terms) there (observed-slice n m begun end t slice told_m) in
-    let part : GainsPrefix (stream_with before.out written) (console_bytes mid.terms) after.out = subst (λ (o : Option (List ℕ)). GainsPrefix o (console_bytes mid.terms) after.out) is (gained told_mid) in
+    let part : GainsPrefix (stream_with before.out written) (console_bytes mid.terms) after.out = subst
+    (λ (o : Option (List ℕ)). GainsPrefix o (console_bytes mid.terms) after.out) is (gained told_mid) in
     record {
       count = count;
       states = states;

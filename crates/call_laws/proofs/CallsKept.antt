@@ -88,7 +88,10 @@ module _ (m : Inner) (p : ℕ) (end : EventEnd) where
   }
 
   -- a link is given up, where the process has other memory and things of its own
-  pub changed-unlinked : (memory : MemoryState) (own : List Own) (number : ℕ) → HaveMore m.memory.modules memory.modules → Grows m.memory (IsParameter m p) p memory → ((q : ℕ) → q ≢ p → slice_index_or own q no_own ≡ own_at m q) → ChangesLinks m p end (unlinked memory number) → Changed m p end (without_module_link (record m { memory = memory; own = own }) number)
+  pub changed-unlinked : (memory : MemoryState) (own : List Own) (number : ℕ) → HaveMore m.memory.modules
+      memory.modules → Grows m.memory (IsParameter m p) p memory → ((q : ℕ) → q ≢ p → slice_index_or own q no_own ≡
+      own_at m q) → ChangesLinks m p end (unlinked memory number)
+      → Changed m p end (without_module_link (record m { memory = memory; own = own }) number)
   changed-unlinked memory own number more grows same links = record {
     memory = record {
       objects = grows.kept.objects;
@@ -102,7 +105,10 @@ module _ (m : Inner) (p : ℕ) (end : EventEnd) where
     records = λ q differ. record-same m p end q (record_of m.records q);
     turns = refl;
     own =
-        λ q differ. subst (KeepsOwn m p (unlinked memory number) q (own_at m q)) (sym (still-at (unlinked memory number).modules own q ∙ ap (still_primary (unlinked memory number).modules) (same q differ))) (own-still m p end q (unlinked memory number) (own_at m q));
+        λ q differ. subst (KeepsOwn m p (unlinked memory number) q (own_at m q))
+        (sym (still-at (unlinked memory number).modules own q ∙ ap
+        (still_primary (unlinked memory number).modules) (same q differ)))
+        (own-still m p end q (unlinked memory number) (own_at m q));
     places = refl;
   }
 
@@ -112,9 +118,14 @@ module _ (m : Inner) (p : ℕ) (end : EventEnd) where
 module _ (m : Inner) (p status : ℕ) (records : List (Option Record)) (same : (q : ℕ) → q ≢ p → record_of records q ≡ record_of m.records q) (places : length records ≡ length m.records) where
   exit-left : (q : ℕ) → q ≢ p → RecordLeft m p Ended q (record_of m.records q) (record_of (after_exit records p status) q)
   exit-left q differ =
-      subst (RecordLeft m p Ended q (record_of m.records q)) (sym (exit-other records p status q differ ∙ ap (orphaned p) (same q differ) ∙ sym (exit-other m.records p status q differ))) (exit-record m p status q differ)
+      subst (RecordLeft m p Ended q (record_of m.records q))
+      (sym (exit-other records p status q differ ∙ ap (orphaned p) (same q differ) ∙ sym
+      (exit-other m.records p status q differ))) (exit-record m p status q differ)
 
-  ended-by : (memory : MemoryState) (own : List Own) → Kept m.memory (IsParameter m p) p p (cleared memory p) → KeepsToItself m.memory p (cleared memory p) → ((q : ℕ) → q ≢ p → KeepsOwn m p (cleared memory p) q (own_at m q) (slice_index_or own q no_own)) → ChangesLinks m p Ended (cleared memory p) → Left m p Ended (without_process (record m { memory = memory; records = records; own = own }) p status)
+  ended-by : (memory : MemoryState) (own : List Own) → Kept m.memory (IsParameter m p) p p (cleared memory p)
+      → KeepsToItself m.memory p (cleared memory p) → ((q : ℕ) → q ≢ p → KeepsOwn m p (cleared memory p) q
+      (own_at m q) (slice_index_or own q no_own)) → ChangesLinks m p Ended (cleared memory p)
+      → Left m p Ended (without_process (record m { memory = memory; records = records; own = own }) p status)
   ended-by memory own kept itself own_is links = left-by m p Ended (without_process (record m { memory = memory; records = records; own = own }) p status) (record {
     memory = kept;
     itself = itself;
@@ -132,18 +143,35 @@ module _ (m : Inner) (p status : ℕ) (records : List (Option Record)) (same : (
       kept = kept-map m.memory p p no_slots
 
       -- its primary module has a link less
-      loses : (memory : MemoryState) (primary : Option ModId) → (own_at m p).primary ≡ primary → memory.modules ≡ without_link m.memory.modules (option_map (λ (id : ModId). id.0) primary) → LosesPrimary m p Ended memory
+      loses : (memory : MemoryState) (primary : Option ModId) → (own_at m p).primary ≡ primary
+          → memory.modules ≡ without_link m.memory.modules (option_map (λ (id : ModId). id.0) primary)
+          → LosesPrimary m p Ended memory
       loses memory primary at less = record {
         ends = refl;
         less =
             less ∙ ap (λ (primary : Option ModId). without_link m.memory.modules (option_map (λ (id : ModId). id.0) primary)) (sym at);
       }
 
-      by_primary : (primary : Option ModId) → (own_at m p).primary ≡ primary → Left m p Ended (without_process (option_map_or (λ (id : ModId). without_module_link (with_records m records) id.0) primary (with_records m records)) p status)
-      by_primary None at = ended-by m.memory m.own kept (itself-cleared m.memory p) (λ q differ. own-same m p Ended q (cleared m.memory p) (own_at m q)) (inr (inr (inr (inr (loses (cleared m.memory p) None at refl)))))
+      by_primary : (primary : Option ModId) → (own_at m p).primary ≡ primary
+          → Left m p Ended (without_process
+          (option_map_or (λ (id : ModId). without_module_link (with_records m records) id.0) primary
+          (with_records m records)) p status)
+      by_primary None at = ended-by m.memory m.own kept (itself-cleared m.memory p) (λ q differ. own-same m p Ended q
+          (cleared m.memory p) (own_at m q)) (inr (inr (inr (inr (loses (cleared m.memory p) None at refl)))))
       by_primary (Some id) at =
-          ended-by (unlinked m.memory id.0) (map (still_primary (unlinked m.memory id.0).modules) m.own) (record { objects = kept.objects; maps = kept.maps; modules = keeps-unlinked m.memory.modules m.memory.modules id.0 (more-all m.memory.modules); new_objects = kept.new_objects; sizes = kept.sizes }) (itself-cleared m.memory p)
-          (λ q differ. subst (KeepsOwn m p (cleared (unlinked m.memory id.0) p) q (own_at m q)) (sym (still-at (unlinked m.memory id.0).modules m.own q)) (own-still m p Ended q (cleared (unlinked m.memory id.0) p) (own_at m q)))
+          ended-by (unlinked m.memory id.0) (map (still_primary (unlinked m.memory id.0).modules) m.own)
+          (record {
+            objects = kept.objects;
+            maps = kept.maps;
+            modules = keeps-unlinked m.memory.modules
+                m.memory.modules id.0 (more-all m.memory.modules);
+            new_objects = kept.new_objects;
+            sizes = kept.sizes;
+          })
+          (itself-cleared m.memory p)
+          (λ q differ. subst (KeepsOwn m p (cleared (unlinked m.memory id.0) p) q (own_at m q))
+          (sym (still-at (unlinked m.memory id.0).modules m.own q))
+          (own-still m p Ended q (cleared (unlinked m.memory id.0) p) (own_at m q)))
           (inr (inr (inr (inr (loses (cleared (unlinked m.memory id.0) p) (Some id) at refl)))))
 
 pub ended-left : (m : Inner) (p status : ℕ) → Left m p Ended (ended m p status)
@@ -173,7 +201,9 @@ module _ (m : Inner) (p : ℕ) where
   of-refuses true number next left = left-refused number
   of-refuses false number next left = left refl
 
-  pub of-changes : (change : Result MemoryState MemoryFault) (next : MemoryState → CallResult) → ((memory : MemoryState) → change ≡ Ok memory → AttemptLeft m p (next memory)) → AttemptLeft m p (changes change next)
+  pub of-changes : (change : Result MemoryState MemoryFault) (next : MemoryState → CallResult)
+      → ((memory : MemoryState) → change ≡ Ok memory → AttemptLeft m p (next memory))
+      → AttemptLeft m p (changes change next)
   of-changes (Ok memory) next left = left memory refl
   of-changes (Err fault) next left = left-refused _
 
@@ -183,14 +213,18 @@ module _ (m : Inner) (p : ℕ) where
   of-name (Err NoName) number next left = left-refused number
 
   -- registers alone
-  pub regs-changed : (end : EventEnd) (memory : MemoryState) (regs : Regs) → Grows m.memory (IsParameter m p) p memory → memory.modules ≡ m.memory.modules → Changed m p end (with_regs_of (with_memory m memory) p regs)
+  pub regs-changed : (end : EventEnd) (memory : MemoryState) (regs : Regs) → Grows m.memory (IsParameter m p) p memory
+      → memory.modules ≡ m.memory.modules → Changed m p end (with_regs_of (with_memory m memory) p regs)
   regs-changed end memory regs grows still =
       changed-self m p end memory (with_regs m.records p regs) m.own grows.kept grows.itself (inl still) (λ q differ. record-other m.records p _ q differ) (λ q differ. refl) (simp length-set)
 
   -- registers, and what the process has
-  pub own-changed : (end : EventEnd) (memory : MemoryState) (regs : Regs) (own : Own) → Grows m.memory (IsParameter m p) p memory → ChangesLinks m p end memory → Changed m p end (with_regs_of (with_own (with_memory m memory) p own) p regs)
+  pub own-changed : (end : EventEnd) (memory : MemoryState) (regs : Regs) (own : Own)
+      → Grows m.memory (IsParameter m p) p memory → ChangesLinks m p end memory
+      → Changed m p end (with_regs_of (with_own (with_memory m memory) p own) p regs)
   own-changed end memory regs own grows links =
-      changed-self m p end memory (with_regs m.records p regs) (slice_set m.own p own) grows.kept grows.itself links (λ q differ. record-other m.records p _ q differ) (λ q differ. own-other m p own q differ) (simp length-set)
+      changed-self m p end memory (with_regs m.records p regs) (slice_set m.own p own) grows.kept grows.itself links
+      (λ q differ. record-other m.records p _ q differ) (λ q differ. own-other m p own q differ) (simp length-set)
 
   pub same : Grows m.memory (IsParameter m p) p m.memory
   same = grows-same m.memory p
@@ -206,7 +240,9 @@ module _ (m : Inner) (p : ℕ) where
   entered-is None found is = cc
   entered-is (Some number) found is = by_entry (module_entry_at m.memory.modules number) refl is
     where
-      by_entry : (entry : Option ModuleEntry) → module_entry_at m.memory.modules number ≡ entry → option_map (λ (entry : ModuleEntry). let r : Entered = record { number = number; entry = entry } in r) entry ≡ Some found → module_entry_at m.memory.modules found.number ≡ Some found.entry
+      by_entry : (entry : Option ModuleEntry) → module_entry_at m.memory.modules number ≡ entry
+          → option_map (λ (entry : ModuleEntry). let r : Entered = record { number = number; entry = entry } in r)
+          entry ≡ Some found → module_entry_at m.memory.modules found.number ≡ Some found.entry
       by_entry None at is = cc
       by_entry (Some entry) at is = subst (λ (found : Entered). module_entry_at m.memory.modules found.number ≡ Some found.entry) (same_Some _ found is) at
 
@@ -220,13 +256,33 @@ module _ (m : Inner) (p : ℕ) where
   abbrev link-found : ℕ → Entered → CallResult
   link-found count found = refuses (has_most_links found.entry) E_MEMFUL (link-mapped count found)
 
-  link-done : AttemptsCall m p Call.Link → (count : ℕ) (found : Entered) (mapped : Mapped) → module_entry_at m.memory.modules found.number ≡ Some found.entry → mapped_group m.memory p found.entry.group ≡ Some mapped → AttemptLeft m p (done (after_link m p found mapped count))
+  link-done : AttemptsCall m p Call.Link → (count : ℕ) (found : Entered) (mapped : Mapped)
+      → module_entry_at m.memory.modules found.number ≡ Some found.entry → mapped_group m.memory p found.entry.group ≡
+      Some mapped → AttemptLeft m p (done (after_link m p found mapped count))
   link-done did count found mapped entered is =
       let grows : Grows m.memory (IsParameter m p) p mapped.memory = mapped-grows m.memory p found.number found.entry mapped entered is in
-      let more : HaveMore m.memory.modules (linked mapped.memory found.number).modules = subst (λ entries. HaveMore entries (linked mapped.memory found.number).modules) (mapped-modules m.memory p found.entry.group mapped is) (more-linked mapped.memory found.number) in
-      let gains : GainsLink m p (linked mapped.memory found.number) = record { call = inl did; number = found.number; more = linked-modules m.memory mapped.memory found.number (mapped-modules m.memory p found.entry.group mapped is) } in
+      let more : HaveMore m.memory.modules (linked mapped.memory found.number).modules = subst
+      (λ entries. HaveMore entries (linked mapped.memory found.number).modules)
+      (mapped-modules m.memory p found.entry.group mapped is) (more-linked mapped.memory found.number) in
+      let gains : GainsLink m p (linked mapped.memory found.number) = record {
+        call = inl did;
+        number = found.number;
+        more = linked-modules m.memory mapped.memory found.number (mapped-modules m.memory p found.entry.group
+            mapped is);
+      } in
       left-done (after_link m p found mapped count)
-      (own-changed Ran (linked mapped.memory found.number) _ _ (record { kept = record { objects = grows.kept.objects; maps = grows.kept.maps; modules = keeps-more m.memory.modules (linked mapped.memory found.number).modules more; new_objects = grows.kept.new_objects; sizes = grows.kept.sizes }; itself = grows.itself }) (inr (inl gains)))
+      (own-changed Ran (linked mapped.memory found.number) _ _
+      (record {
+        kept = record {
+          objects = grows.kept.objects;
+          maps = grows.kept.maps;
+          modules = keeps-more
+              m.memory.modules (linked mapped.memory found.number).modules more;
+          new_objects = grows.kept.new_objects;
+          sizes = grows.kept.sizes;
+        };
+        itself = grows.itself;
+      }) (inr (inl gains)))
 
   pub link-left : AttemptsCall m p Call.Link → AttemptLeft m p (f_link m p)
   link-left did =
@@ -272,7 +328,9 @@ module _ (m : Inner) (p : ℕ) where
   unload-left did =
       of-name (name_at (cells_at m p) (regs_at m p).x) E_BNAM (λ name. needs (found_entry m.memory.modules name (regs_at m p).a) E_MNF (λ found. done (without_module_link m found.number)))
       (λ name. of-needs (found_entry m.memory.modules name (regs_at m p).a) E_MNF (λ found. done (without_module_link m found.number))
-      (λ found is. left-done (without_module_link m found.number) (changed-unlinked m p Ran m.memory m.own found.number (more-all m.memory.modules) same (λ q differ. refl) (inr (inr (inl (record { call = inr did; number = found.number; less = refl })))))))
+      (λ found is. left-done (without_module_link m found.number) (changed-unlinked m p Ran m.memory m.own
+      found.number (more-all m.memory.modules) same (λ q differ. refl)
+      (inr (inr (inl (record { call = inr did; number = found.number; less = refl })))))))
 
   -- ---- F$Mem
 
@@ -297,7 +355,9 @@ module _ (m : Inner) (p : ℕ) where
   pages-left pages =
       of-refuses (nat_lt most_pages pages) E_MEMFUL (changes (resized m.memory p (blocks_of_pages pages)) (λ memory. done (with_size m p (256 * pages) memory)))
       (λ few. of-changes (resized m.memory p (blocks_of_pages pages)) (λ memory. done (with_size m p (256 * pages) memory))
-      (λ memory is. left-done (with_size m p (256 * pages) memory) (own-changed Ran memory _ _ (resized-grows (blocks_of_pages pages) memory is) (inl (resized-modules (blocks_of_pages pages) memory is)))))
+      (λ memory is. left-done (with_size m p (256 * pages) memory) (own-changed Ran memory _ _
+      (resized-grows (blocks_of_pages pages) memory is)
+      (inl (resized-modules (blocks_of_pages pages) memory is)))))
 
   pub mem-left : AttemptLeft m p (f_mem m p)
   mem-left = by_test (d_of (regs_at m p) == 0)
@@ -310,17 +370,24 @@ module _ (m : Inner) (p : ℕ) where
 
   pub crc-left : AttemptLeft m p (f_crc m p)
   crc-left =
-      of-needs (user_bytes (cells_at m p) (regs_at m p).x (regs_at m p).y) E_BPADDR (λ bytes. needs (user_bytes (cells_at m p) (regs_at m p).u 3) E_BPADDR (λ accumulator. done (with_memory m (stored m.memory p (regs_at m p).u (crc_continued accumulator bytes)))))
+      of-needs (user_bytes (cells_at m p) (regs_at m p).x (regs_at m p).y) E_BPADDR
+      (λ bytes. needs (user_bytes (cells_at m p) (regs_at m p).u 3) E_BPADDR
+      (λ accumulator. done (with_memory m (stored m.memory p (regs_at m p).u (crc_continued accumulator bytes)))))
       (λ bytes read. of-needs (user_bytes (cells_at m p) (regs_at m p).u 3) E_BPADDR (λ accumulator. done (with_memory m (stored m.memory p (regs_at m p).u (crc_continued accumulator bytes))))
       (λ accumulator read_too. left-done (with_memory m (stored m.memory p (regs_at m p).u (crc_continued accumulator bytes)))
-      (changed-self m p Ran (stored m.memory p (regs_at m p).u (crc_continued accumulator bytes)) m.records m.own (kept-written m.memory p (writes_from (regs_at m p).u (crc_continued accumulator bytes))) (itself-written m.memory p (writes_from (regs_at m p).u (crc_continued accumulator bytes))) (inl refl) (λ q differ. refl) (λ q differ. refl) refl)))
+      (changed-self m p Ran (stored m.memory p (regs_at m p).u (crc_continued accumulator bytes)) m.records m.own
+      (kept-written m.memory p (writes_from (regs_at m p).u (crc_continued accumulator bytes)))
+      (itself-written m.memory p (writes_from (regs_at m p).u (crc_continued accumulator bytes))) (inl refl)
+      (λ q differ. refl) (λ q differ. refl) refl)))
 
   pub prsnam-left : AttemptLeft m p (f_prsnam m p)
   prsnam-left = at-first (past_slash (cells_at m p) (regs_at m p).x)
     where
       at-first : (first : ℕ) → AttemptLeft m p (parses_name m p first)
       at-first first =
-          of-name (name_at (cells_at m p) first) E_BNAM (λ name. needs (user_cell (cells_at m p) (first + length name)) E_BPADDR (λ next. done (with_regs_of m p (name_regs (regs_at m p) first (length name) next))))
+          of-name (name_at (cells_at m p) first) E_BNAM
+          (λ name. needs (user_cell (cells_at m p) (first + length name)) E_BPADDR
+          (λ next. done (with_regs_of m p (name_regs (regs_at m p) first (length name) next))))
           (λ name. of-needs (user_cell (cells_at m p) (first + length name)) E_BPADDR (λ next. done (with_regs_of m p (name_regs (regs_at m p) first (length name) next)))
           (λ next is. left-done _ (regs-changed Ran m.memory (name_regs (regs_at m p) first (length name) next) same refl)))
 
@@ -341,7 +408,10 @@ module _ (m : Inner) (p : ℕ) where
   none-pending false None other free = refl
   none-pending false (Some signal) other free = absurd (false≢true (sym free))
 
-  gets-signal : AttemptsCall m p Call.Send → is_reached m.records (user_at m p) (regs_at m p).a ≡ true → (not ((regs_at m p).b == wake_signal) && is_some (record_at m.records (regs_at m p).a).signal) ≡ false → ((regs_at m p).b == wake_signal) ≡ false → GetsSignal m p (regs_at m p).a (record_at m.records (regs_at m p).a).signal (Some (regs_at m p).b)
+  gets-signal : AttemptsCall m p Call.Send → is_reached m.records (user_at m p) (regs_at m p).a ≡ true
+      → (not ((regs_at m p).b == wake_signal) && is_some (record_at m.records (regs_at m p).a).signal) ≡ false
+      → ((regs_at m p).b == wake_signal) ≡ false → GetsSignal m p (regs_at m p).a
+      (record_at m.records (regs_at m p).a).signal (Some (regs_at m p).b)
   gets-signal call reached free other = record {
     sent = sends-on call reached (regs_at m p).a refl;
     not_wake = λ same. false≢true (sym other ∙ ap (λ b. b == wake_signal) same);
@@ -350,7 +420,9 @@ module _ (m : Inner) (p : ℕ) where
     pending = refl;
   }
 
-  gets-wake : AttemptsCall m p Call.Send → is_reached m.records (user_at m p) (regs_at m p).a ≡ true → ((regs_at m p).b == wake_signal) ≡ true → is_asleep m (regs_at m p).a ≡ true → (q : ℕ) → q ≡ (regs_at m p).a → GetsWake m p q true
+  gets-wake : AttemptsCall m p Call.Send → is_reached m.records (user_at m p) (regs_at m p).a ≡ true
+      → ((regs_at m p).b == wake_signal) ≡ true → is_asleep m (regs_at m p).a ≡ true → (q : ℕ) → q ≡ (regs_at m p).a
+      → GetsWake m p q true
   gets-wake call reached wake sleeps q at = record {
     sent = sends-on call reached q at;
     wake = eqb-true _ _ wake;
@@ -358,10 +430,15 @@ module _ (m : Inner) (p : ℕ) where
     woken = refl;
   }
 
-  signal-changed : AttemptsCall m p Call.Send → is_reached m.records (user_at m p) (regs_at m p).a ≡ true → (not ((regs_at m p).b == wake_signal) && is_some (record_at m.records (regs_at m p).a).signal) ≡ false → Changed m p Ran (after_signal m (regs_at m p).a (regs_at m p).b)
+  signal-changed : AttemptsCall m p Call.Send → is_reached m.records (user_at m p) (regs_at m p).a ≡ true
+      → (not ((regs_at m p).b == wake_signal) && is_some (record_at m.records (regs_at m p).a).signal) ≡ false
+      → Changed m p Ran (after_signal m (regs_at m p).a (regs_at m p).b)
   signal-changed call reached free = by_wake ((regs_at m p).b == wake_signal) (is_asleep m (regs_at m p).a) refl refl
     where
-      by_wake : (wake asleep : Bool) → ((regs_at m p).b == wake_signal) ≡ wake → is_asleep m (regs_at m p).a ≡ asleep → Changed m p Ran (if wake then (if asleep then with_own m (regs_at m p).a (record (own_at m (regs_at m p).a) { woken = true }) else m) else with_records m (if wake then m.records else with_signal m.records (regs_at m p).a (Some (regs_at m p).b)))
+      by_wake : (wake asleep : Bool) → ((regs_at m p).b == wake_signal) ≡ wake → is_asleep m (regs_at m p).a ≡ asleep
+          → Changed m p Ran (if wake then (if asleep then with_own m (regs_at m p).a
+          (record (own_at m (regs_at m p).a) { woken = true }) else m) else with_records m
+          (if wake then m.records else with_signal m.records (regs_at m p).a (Some (regs_at m p).b)))
       by_wake true false is sleeps = changed-same m p Ran
       by_wake true true is sleeps = record {
         memory = same.kept;
@@ -393,7 +470,10 @@ module _ (m : Inner) (p : ℕ) where
       answer (Some NoProcess) = refused E_IPRCID
       answer (Some Pending) = refused E_USIGP
 
-      by_reached : (reached pending : Bool) → is_reached m.records (user_at m p) (regs_at m p).a ≡ reached → (not ((regs_at m p).b == wake_signal) && is_some (record_at m.records (regs_at m p).a).signal) ≡ pending → AttemptLeft m p (answer (if not reached then Some NoProcess else (if pending then Some Pending else None)))
+      by_reached : (reached pending : Bool) → is_reached m.records (user_at m p) (regs_at m p).a ≡ reached
+          → (not ((regs_at m p).b == wake_signal) && is_some (record_at m.records (regs_at m p).a).signal) ≡ pending
+          → AttemptLeft m p (answer (if not reached then Some NoProcess else (if pending then Some Pending else
+          None)))
       by_reached false pending is free = left-refused E_IPRCID
       by_reached true true is free = left-refused E_USIGP
       by_reached true false is free = left-done (after_signal m (regs_at m p).a (regs_at m p).b) (signal-changed call is free)
@@ -425,7 +505,10 @@ module _ (m : Inner) (p : ℕ) where
   pub sleep-left : AttemptLeft m p (f_sleep m p)
   sleep-left = by_tests (is_waiting (record_at m.records p).life) (may_wake m.tick (own_at m p))
     where
-      by_tests : (waiting wake : Bool) → AttemptLeft m p (if waiting then (if wake then done (with_regs_of m p (record (regs_at m p) { x = ticks_left m.tick (own_at m p) })) else waits m) else falls_asleep m p)
+      by_tests : (waiting wake : Bool)
+          → AttemptLeft m p (if waiting then
+          (if wake then done (with_regs_of m p (record (regs_at m p) { x = ticks_left m.tick (own_at m p) })) else
+          waits m) else falls_asleep m p)
       by_tests true true = left-done _ (regs-changed Ran m.memory _ same refl)
       by_tests true false = left-waits m (changed-same m p Waits)
       by_tests false wake =
@@ -457,6 +540,7 @@ module _ (m : Inner) (p : ℕ) where
 
       by_reap : (reap : Result (Pid × ℕ) Reap) → AttemptLeft m p (answer reap)
       by_reap (Ok child) =
-          left-done _ (changed-then m p Ran (with_records m (after_reap m.records p)) _ m.own (reap-changed call) (λ q differ. record-other (after_reap m.records p) p _ q differ) (λ q differ. refl) (simp length-set))
+          left-done _ (changed-then m p Ran (with_records m (after_reap m.records p)) _ m.own (reap-changed call)
+          (λ q differ. record-other (after_reap m.records p) p _ q differ) (λ q differ. refl) (simp length-set))
       by_reap (Err NoChild) = left-refused E_NOCHLD
       by_reap (Err NotYet) = left-waits m (changed-same m p Waits)

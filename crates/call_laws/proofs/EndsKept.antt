@@ -12,7 +12,15 @@ use Rattle.call_laws.proofs.CallsKept.{AttemptLeft, left-done, left-refused, lef
 -- a call on paths: it stores bytes where the process sees them, and may change the registers
 pub by-end : (m : Inner) (p : ℕ) (effect : IoEffect) (end : IoEnd) → AttemptLeft m p (result_by end m p effect)
 by-end m p effect (answers regs) =
-    left-done m p _ (regs-changed m p Ran (stored m.memory p effect.at effect.bytes) regs (record { kept = kept-written m.memory p (writes_from effect.at effect.bytes); itself = itself-written m.memory p (writes_from effect.at effect.bytes) }) refl)
+    left-done m p _ (regs-changed m p Ran (stored m.memory p effect.at effect.bytes) regs
+    (record {
+      kept = kept-written m.memory p (writes_from effect.at effect.bytes);
+      itself = itself-written
+          m.memory p (writes_from effect.at effect.bytes);
+    }) refl)
 by-end m p effect (fails number) = left-refused m p number
 by-end m p effect (keeps kept) =
-    left-waits m p _ (changed-self m p Waits (stored m.memory p effect.at effect.bytes) m.records m.own (kept-written m.memory p (writes_from effect.at effect.bytes)) (itself-written m.memory p (writes_from effect.at effect.bytes)) (inl refl) (λ q differ. refl) (λ q differ. refl) refl)
+    left-waits m p _ (changed-self m p Waits (stored m.memory p effect.at effect.bytes) m.records m.own
+    (kept-written m.memory p (writes_from effect.at effect.bytes))
+    (itself-written m.memory p (writes_from effect.at effect.bytes)) (inl refl) (λ q differ. refl)
+    (λ q differ. refl) refl)

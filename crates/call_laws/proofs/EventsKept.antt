@@ -23,9 +23,12 @@ use Rattle.call_laws.proofs.CallsKept.{Left, left-by, ended-left, ended-from, re
 
 pub instruction-left : (m : Inner) (p : ℕ) (outcome : Outcome) → Left m p (instruction_end outcome) (after_instruction m p outcome)
 instruction-left m p (Done effect) =
-    left-by m p Ran _ (regs-changed m p Ran (written m.memory p effect.writes) effect.regs (record { kept = kept-written m.memory p effect.writes; itself = itself-written m.memory p effect.writes }) refl)
+    left-by m p Ran _ (regs-changed m p Ran (written m.memory p effect.writes) effect.regs
+    (record { kept = kept-written m.memory p effect.writes; itself = itself-written m.memory p effect.writes })
+    refl)
 instruction-left m p (Calls code regs) =
-    left-by m p Ran _ (changed-self m p Ran m.memory _ _ (same m p).kept (same m p).itself (inl refl) (λ q differ. record-other m.records p _ q differ) (λ q differ. own-other m p _ q differ) (simp length-set))
+    left-by m p Ran _ (changed-self m p Ran m.memory _ _ (same m p).kept (same m p).itself (inl refl)
+    (λ q differ. record-other m.records p _ q differ) (λ q differ. own-other m p _ q differ) (simp length-set))
 instruction-left m p (Aborts status) = ended-left m p status
 
 -- ---- the delivery of a signal
@@ -38,13 +41,18 @@ module _ (m : Inner) (p signal : ℕ) (records : List (Option Record)) (same : (
   abbrev taken : Inner
   taken = with_records found (with_signal records p None)
 
-  frame-left : (intercept : Intercept) (regs interrupted : Regs) (frame : ℕ) (waits : Bool) → Left m p Ran (with_frame (if waits then goes_on taken p interrupted else taken) p intercept signal regs frame)
+  frame-left : (intercept : Intercept) (regs interrupted : Regs) (frame : ℕ) (waits : Bool)
+      → Left m p Ran (with_frame (if waits then goes_on taken p interrupted else taken) p intercept signal regs frame)
   frame-left intercept regs interrupted frame true =
-      left-by m p Ran _ (changed-self m p Ran (stored m.memory p frame (frame_bytes regs)) _ _ (kept-written m.memory p (writes_from frame (frame_bytes regs))) (itself-written m.memory p (writes_from frame (frame_bytes regs))) (inl refl)
+      left-by m p Ran _ (changed-self m p Ran (stored m.memory p frame (frame_bytes regs)) _ _
+      (kept-written m.memory p (writes_from frame (frame_bytes regs)))
+      (itself-written m.memory p (writes_from frame (frame_bytes regs))) (inl refl)
       (λ q differ. record-other _ p _ q differ ∙ record-other _ p _ q differ ∙ record-other _ p _ q differ ∙ record-other records p _ q differ ∙ same q differ)
       (λ q differ. own-other m p _ q differ) (simp length-set places))
   frame-left intercept regs interrupted frame false =
-      left-by m p Ran _ (changed-self m p Ran (stored m.memory p frame (frame_bytes regs)) _ m.own (kept-written m.memory p (writes_from frame (frame_bytes regs))) (itself-written m.memory p (writes_from frame (frame_bytes regs))) (inl refl)
+      left-by m p Ran _ (changed-self m p Ran (stored m.memory p frame (frame_bytes regs)) _ m.own
+      (kept-written m.memory p (writes_from frame (frame_bytes regs)))
+      (itself-written m.memory p (writes_from frame (frame_bytes regs))) (inl refl)
       (λ q differ. record-other _ p _ q differ ∙ record-other records p _ q differ ∙ same q differ)
       (λ q differ. refl) (simp length-set places))
 
@@ -55,7 +63,9 @@ module _ (m : Inner) (p signal : ℕ) (records : List (Option Record)) (same : (
   routine-left intercept =
       by_room (has_no_room found p (stack_top (regs_at found p).s)) (is_waiting (record_at records p).life)
     where
-      by_room : (none waits : Bool) → DeliveryLeft (if none then Err E_PRCABT else Ok (with_frame (if waits then goes_on taken p (interrupted_regs found p signal) else taken) p intercept signal (interrupted_regs found p signal) (stack_top (regs_at found p).s - 12)))
+      by_room : (none waits : Bool) → DeliveryLeft (if none then Err E_PRCABT else Ok
+          (with_frame (if waits then goes_on taken p (interrupted_regs found p signal) else taken) p intercept signal
+          (interrupted_regs found p signal) (stack_top (regs_at found p).s - 12)))
       by_room true waits = ended-from m p E_PRCABT records same places
       by_room false waits =
           frame-left intercept (interrupted_regs found p signal) (interrupted_regs found p signal) (stack_top (regs_at found p).s - 12) waits
@@ -76,7 +86,9 @@ module _ (m : Inner) (p signal : ℕ) (records : List (Option Record)) (same : (
       by_intercept (Some intercept) = by_zero intercept (signal == 0)
 
 -- the count of a call that is broken off is answered first
-pub broken-left : (m : Inner) (p signal : ℕ) (count : Option ℕ) → Left m p (delivery_end (delivered (broken_off m p count) p signal)) (after_delivery (broken_off m p count) p (delivered (broken_off m p count) p signal))
+pub broken-left : (m : Inner) (p signal : ℕ) (count : Option ℕ)
+    → Left m p (delivery_end (delivered (broken_off m p count) p signal)) (after_delivery (broken_off m p count) p
+    (delivered (broken_off m p count) p signal))
 broken-left m p signal None = delivery-left m p signal m.records (λ q differ. refl) refl
 broken-left m p signal (Some count) =
     delivery-left m p signal (with_regs m.records p (record (regs_at m p) { y = count })) (λ q differ. record-other m.records p _ q differ) (simp length-set)

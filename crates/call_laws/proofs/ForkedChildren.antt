@@ -67,12 +67,23 @@ module _ (m : Inner) (p : ℕ) where
         (λ found found_is. of-refuses (not (found.entry.info.kind == program_kind)) E_NEMOD (next (program-of found parameters (length name)))
         (names (program-of found parameters (length name))))))))
 
-  pub child-named : (program : Program) (child : ℕ) (memory : MemoryState) → IsLiving m.records p → free_process m.records ≡ Some child → (regs_at (with_regs_of (with_child m p child program memory) p (forked_regs (regs_at m p) child program)) p).a ≡ child
+  pub child-named : (program : Program) (child : ℕ) (memory : MemoryState) → IsLiving m.records p
+      → free_process m.records ≡ Some child
+      → (regs_at (with_regs_of (with_child m p child program memory) p (forked_regs (regs_at m p) child program)) p).a
+      ≡ child
   child-named program child memory lives free =
-      ap (λ (r : Record). r.regs.a) (record-put (with_child_record m.records p child program) p (record (record_at (with_child_record m.records p child program) p) { regs = forked_regs (regs_at m p) child program }) within)
+      ap (λ (r : Record). r.regs.a) (record-put (with_child_record m.records p child program) p
+      (record (record_at (with_child_record m.records p child program) p) {
+        regs = forked_regs (regs_at m p) child
+            program;
+      }) within)
     where
-      added : after_make m.records (record { 0 = p }) (record_at m.records p).user (record_at m.records p).priority ≡ with_record m.records child (new_record (record { 0 = p }) (record_at m.records p).user (record_at m.records p).priority)
-      added = ap (λ (found : Option ℕ). option_map_or (λ (q : ℕ). with_record m.records q (new_record (record { 0 = p }) (record_at m.records p).user (record_at m.records p).priority)) found m.records) free
+      added : after_make m.records (record { 0 = p }) (record_at m.records p).user (record_at m.records p).priority ≡
+          with_record m.records child (new_record (record { 0 = p }) (record_at m.records p).user
+          (record_at m.records p).priority)
+      added = ap (λ (found : Option ℕ). option_map_or (λ (q : ℕ). with_record m.records q
+          (new_record (record { 0 = p }) (record_at m.records p).user (record_at m.records p).priority)) found
+          m.records) free
 
       within : p < length (with_child_record m.records p child program)
       within =
@@ -81,7 +92,9 @@ module _ (m : Inner) (p : ℕ) where
 
   abbrev making : Program → ℕ → CallResult
   making program child =
-      changes (started m.memory child program.entered.number (blocks_of_pages program.pages)) (λ memory. done (with_regs_of (with_child m p child program memory) p (forked_regs (regs_at m p) child program)))
+      changes (started m.memory child program.entered.number (blocks_of_pages program.pages))
+      (λ memory. done (with_regs_of (with_child m p child program memory) p (forked_regs (regs_at m p) child
+      program)))
 
   abbrev forking : Program → CallResult
   forking program =
@@ -92,5 +105,7 @@ module _ (m : Inner) (p : ℕ) where
       program-names forking
       (λ program. of-needs (free_process m.records) E_PRCFUL (λ child. refuses (nat_lt most_pages program.pages) E_MEMFUL (making program child))
       (λ child free. of-refuses (nat_lt most_pages program.pages) E_MEMFUL (making program child)
-      (of-changes (started m.memory child program.entered.number (blocks_of_pages program.pages)) (λ memory. done (with_regs_of (with_child m p child program memory) p (forked_regs (regs_at m p) child program)))
+      (of-changes (started m.memory child program.entered.number (blocks_of_pages program.pages))
+      (λ memory. done (with_regs_of (with_child m p child program memory) p (forked_regs (regs_at m p) child
+      program)))
       (λ memory. free ∙ ap Some (sym (child-named program child memory lives free))))))

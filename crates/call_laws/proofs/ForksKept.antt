@@ -73,60 +73,110 @@ module _ (m : Inner) (p : ℕ) where
         (λ asks. of-needs m p (module_name (name_at_x m p)) E_BNAM (with-name parameters)
         (λ name name_is. of-needs m p (found_entry m.memory.modules name (regs_at m p).a) E_MNF (with-found parameters name)
         (λ found found_is. of-refuses m p (not (found.entry.info.kind == program_kind)) E_NEMOD (next (program-of found parameters (length name)))
-        (λ kind. left (program-of found parameters (length name)) (record { fits = room-of found.entry (regs_at m p).b (length parameters); given = λ k byte at. record { starts = starts; parameters = parameters; given = parameters_are; member = (k, at) } })))))))
+        (λ kind. left (program-of found parameters (length name))
+        (record {
+          fits = room-of found.entry (regs_at m p).b (length parameters);
+          given = λ k byte at. record
+              { starts = starts; parameters = parameters; given = parameters_are; member = (k, at) };
+        })))))))
 
-  begun-memory : (program : Program) (c : ℕ) (memory : MemoryState) → HasRoom program → started m.memory c program.entered.number (blocks_of_pages program.pages) ≡ Ok memory → Begun m.memory (IsParameter m p) p c (with_parameters (linked memory program.entered.number) c program)
+  begun-memory : (program : Program) (c : ℕ) (memory : MemoryState) → HasRoom program → started m.memory c
+      program.entered.number (blocks_of_pages program.pages) ≡ Ok memory → Begun m.memory (IsParameter m p) p c
+      (with_parameters (linked memory program.entered.number) c program)
   begun-memory program c memory room is =
-      started-kept m.memory (IsParameter m p) p c program.entered.number (blocks_of_pages program.pages) memory (parameters_at program) program.parameters room.given is (within-area program.pages (length program.parameters) room.fits)
+      started-kept m.memory (IsParameter m p) p c program.entered.number (blocks_of_pages program.pages) memory
+      (parameters_at program) program.parameters room.given is
+      (within-area program.pages (length program.parameters) room.fits)
 
   -- a process begins anew, and gives up the link of its primary module
-  pub chain-done : AttemptsCall m p Call.Chain → (program : Program) (memory : MemoryState) → HasRoom program → started m.memory p program.entered.number (blocks_of_pages program.pages) ≡ Ok memory → AttemptLeft m p (done (without_primary_link (begun_anew (with_program m p program memory) p program) (own_at m p)))
+  pub chain-done : AttemptsCall m p Call.Chain → (program : Program) (memory : MemoryState) → HasRoom program
+      → started m.memory p program.entered.number (blocks_of_pages program.pages) ≡ Ok memory
+      → AttemptLeft m p (done (without_primary_link (begun_anew (with_program m p program memory) p program)
+      (own_at m p)))
   chain-done did program memory room is = left-done m p _ (by_primary (own_at m p).primary refl)
     where
       begins : Begun m.memory (IsParameter m p) p p (with_parameters (linked memory program.entered.number) p program)
       begins = begun-memory program p memory room is
 
       more : HaveMore m.memory.modules (linked memory program.entered.number).modules
-      more = subst (λ entries. HaveMore entries (linked memory program.entered.number).modules) (started-modules m.memory p program.entered.number (blocks_of_pages program.pages) memory is) (more-linked memory program.entered.number)
+      more = subst (λ entries. HaveMore entries (linked memory program.entered.number).modules)
+          (started-modules m.memory p program.entered.number (blocks_of_pages program.pages) memory is)
+          (more-linked memory program.entered.number)
 
       grows : Grows m.memory (IsParameter m p) p (with_parameters (linked memory program.entered.number) p program)
       grows = record { kept = begins.kept; itself = λ object names. inr (begins.names object names) }
 
       -- the process begins anew, from a state of this memory and these things of its own
-      anew : (n : Inner) (own : List Own) → Changed m p Ran n → ((q : ℕ) → q ≢ p → slice_index_or own q no_own ≡ own_at n q) → n.records ≡ m.records → Changed m p Ran (record n { records = (begun_anew m p program).records; own = own })
+      anew : (n : Inner) (own : List Own) → Changed m p Ran n → ((q : ℕ) → q ≢ p → slice_index_or own q no_own ≡
+          own_at n q) → n.records ≡ m.records
+          → Changed m p Ran (record n { records = (begun_anew m p program).records; own = own })
       anew n own changed same still =
-          changed-then m p Ran n (begun_anew m p program).records own changed (λ q differ. record-other (with_regs m.records p (start_regs program)) p _ q differ ∙ record-other m.records p _ q differ ∙ sym (ap (λ records. record_of records q) still)) same (simp length-set (sym (ap length still)))
+          changed-then m p Ran n (begun_anew m p program).records own changed
+          (λ q differ. record-other (with_regs m.records p (start_regs program)) p _ q differ ∙ record-other
+          m.records p _ q differ ∙ sym (ap (λ records. record_of records q) still)) same
+          (simp length-set (sym (ap length still)))
 
       -- its modules' links
-      relinked : (n : MemoryState) (primary : Option ModId) → (own_at m p).primary ≡ primary → n.modules ≡ without_link (linked memory program.entered.number).modules (option_map (λ (id : ModId). id.0) primary) → ChangesPrimary m p n
+      relinked : (n : MemoryState) (primary : Option ModId) → (own_at m p).primary ≡ primary
+          → n.modules ≡ without_link (linked memory program.entered.number).modules (option_map (λ (id : ModId). id.0)
+          primary) → ChangesPrimary m p n
       relinked n primary at links = record {
         call = did;
         number = program.entered.number;
         relinked =
-            links ∙ ap (λ (modules : List (Option ModuleEntry)). without_link modules (option_map (λ (id : ModId). id.0) primary)) (linked-modules m.memory memory program.entered.number (started-modules m.memory p program.entered.number (blocks_of_pages program.pages) memory is))
+            links ∙ ap (λ (modules : List (Option ModuleEntry)). without_link modules
+            (option_map (λ (id : ModId). id.0) primary)) (linked-modules m.memory memory program.entered.number
+            (started-modules m.memory p program.entered.number (blocks_of_pages program.pages) memory is))
             ∙ ap (λ (primary : Option ModId). without_link (linked m.memory program.entered.number).modules (option_map (λ (id : ModId). id.0) primary)) (sym at);
       }
 
-      by_primary : (primary : Option ModId) → (own_at m p).primary ≡ primary → Changed m p Ran (option_map_or (λ (id : ModId). without_module_link (begun_anew (with_program m p program memory) p program) id.0) primary (begun_anew (with_program m p program memory) p program))
+      by_primary : (primary : Option ModId) → (own_at m p).primary ≡ primary
+          → Changed m p Ran (option_map_or (λ (id : ModId). without_module_link
+          (begun_anew (with_program m p program memory) p program) id.0) primary
+          (begun_anew (with_program m p program memory) p program))
       by_primary None at =
-          anew (with_program m p program memory) (slice_set m.own p (start_own program)) (changed-self m p Ran (with_parameters (linked memory program.entered.number) p program) m.records m.own grows.kept grows.itself (inr (inr (inr (inl (relinked (with_parameters (linked memory program.entered.number) p program) None at refl))))) (λ q differ. refl) (λ q differ. refl) refl)
+          anew (with_program m p program memory) (slice_set m.own p (start_own program))
+          (changed-self m p Ran (with_parameters (linked memory program.entered.number) p program) m.records m.own
+          grows.kept grows.itself (inr
+          (inr (inr (inl (relinked (with_parameters (linked memory program.entered.number) p program) None at
+          refl))))) (λ q differ. refl) (λ q differ. refl) refl)
           (λ q differ. own-other m p (start_own program) q differ) refl
       by_primary (Some id) at =
-          anew (without_module_link (record m { memory = with_parameters (linked memory program.entered.number) p program; own = slice_set m.own p (start_own program) }) id.0) (without_module_link (record m { memory = with_parameters (linked memory program.entered.number) p program; own = slice_set m.own p (start_own program) }) id.0).own (changed-unlinked m p Ran (with_parameters (linked memory program.entered.number) p program) (slice_set m.own p (start_own program)) id.0 more grows (λ q differ. own-other m p (start_own program) q differ) (inr (inr (inr (inl (relinked (unlinked (with_parameters (linked memory program.entered.number) p program) id.0) (Some id) at refl))))))
+          anew (without_module_link (record m {
+            memory = with_parameters (linked memory program.entered.number) p
+                program;
+            own = slice_set m.own p (start_own program);
+          }) id.0)
+          (without_module_link (record m {
+            memory = with_parameters (linked memory program.entered.number) p
+                program;
+            own = slice_set m.own p (start_own program);
+          }) id.0).own
+          (changed-unlinked m p Ran (with_parameters (linked memory program.entered.number) p program)
+          (slice_set m.own p (start_own program)) id.0 more grows (λ q differ. own-other m p (start_own program) q
+          differ) (inr (inr (inr (inl
+          (relinked (unlinked (with_parameters (linked memory program.entered.number) p program) id.0) (Some id)
+          at refl))))))
           (λ q differ. refl) refl
 
   chain-left : AttemptsCall m p Call.Chain → AttemptLeft m p (f_chain m p)
   chain-left call =
       reads-left (λ program. refuses (nat_lt most_pages program.pages) E_MEMFUL (chaining program)) (inr call)
       (λ program room. of-refuses m p (nat_lt most_pages program.pages) E_MEMFUL (chaining program)
-      (λ few. of-changes m p (started m.memory p program.entered.number (blocks_of_pages program.pages)) (λ memory. done (without_primary_link (begun_anew (with_program m p program memory) p program) (own_at m p)))
+      (λ few. of-changes m p (started m.memory p program.entered.number (blocks_of_pages program.pages))
+      (λ memory. done (without_primary_link (begun_anew (with_program m p program memory) p program)
+      (own_at m p)))
       (λ memory is. chain-done call program memory room is)))
     where
       chaining : Program → CallResult
-      chaining program = changes (started m.memory p program.entered.number (blocks_of_pages program.pages)) (λ memory. done (without_primary_link (begun_anew (with_program m p program memory) p program) (own_at m p)))
+      chaining program = changes (started m.memory p program.entered.number (blocks_of_pages program.pages))
+          (λ memory. done (without_primary_link (begun_anew (with_program m p program memory) p program)
+          (own_at m p)))
 
   -- a child begins
-  module _ (lives : IsLiving m.records p) (call : AttemptsCall m p Call.Fork) (program : Program) (child : ℕ) (memory : MemoryState) (room : HasRoom program) (free : free_process m.records ≡ Some child) (is : started m.memory child program.entered.number (blocks_of_pages program.pages) ≡ Ok memory) where
+  module _ (lives : IsLiving m.records p) (call : AttemptsCall m p Call.Fork) (program : Program) (child : ℕ)
+      (memory : MemoryState) (room : HasRoom program) (free : free_process m.records ≡ Some child)
+      (is : started m.memory child program.entered.number (blocks_of_pages program.pages) ≡ Ok memory) where
     abbrev made : Inner
     made = with_regs_of (with_child m p child program memory) p (forked_regs (regs_at m p) child program)
 
@@ -175,9 +225,22 @@ module _ (m : Inner) (p : ℕ) where
               (subst (λ k. ComesOf m p Ran forked k (record_of m.records k) (record_of (with_record (with_record m.records child new) child started-new) k)) (sym it)
               (subst (λ old. ComesOf m p Ran forked child old (record_of (with_record (with_record m.records child new) child started-new) child)) (sym is-free.none)
               (subst (ComesOf m p Ran forked child None) (sym child-made)
-              (record { call = call; number = free; child = refl; user = refl; priority = refl; runs = refl; no_intercept = refl; no_signal = refl; map = begins.names; parent_map = begins.kept.maps p not-child }))))
+              (record {
+                call = call;
+                number = free;
+                child = refl;
+                user = refl;
+                priority = refl;
+                runs = refl;
+                no_intercept = refl;
+                no_signal = refl;
+                map = begins.names;
+                parent_map = begins.kept.maps p not-child;
+              }))))
           | inr apart ↦
-              subst (ComesOf m p Ran forked q (record_of m.records q)) (sym (record-then q differ ∙ record-other (with_record m.records child new) child (Some started-new) q apart ∙ record-other m.records child (Some new) q apart))
+              subst (ComesOf m p Ran forked q (record_of m.records q))
+              (sym (record-then q differ ∙ record-other (with_record m.records child new) child (Some started-new)
+              q apart ∙ record-other m.records child (Some new) q apart))
               (comes-of m p Ran forked q (record_of m.records q) (record_of m.records q) (begins.kept.maps q apart)
               (subst (KeepsOwn m p forked.memory q (own_at m q)) (sym (own-other made p _ q differ ∙ own-other m child (start_own program) q apart)) (own-same m p Ran q forked.memory (own_at m q)))
               (record-same m p Ran q (record_of m.records q)))
@@ -195,7 +258,13 @@ module _ (m : Inner) (p : ℕ) where
         others = fork-others;
         modules = begins.kept.modules;
         links =
-            inr (inl (record { call = inr call; number = program.entered.number; more = linked-modules m.memory memory program.entered.number (started-modules m.memory child program.entered.number (blocks_of_pages program.pages) memory is) }));
+            inr (inl (record {
+              call = inr call;
+              number = program.entered.number;
+              more = linked-modules m.memory memory
+                  program.entered.number (started-modules m.memory child program.entered.number
+                  (blocks_of_pages program.pages) memory is);
+            }));
       };
       places = simp length-set (ap length added ∙ simp length-set);
     }
@@ -212,11 +281,15 @@ module _ (m : Inner) (p : ℕ) where
       reads-left forking (inl call)
       (λ program room. of-needs m p (free_process m.records) E_PRCFUL (λ child. refuses (nat_lt most_pages program.pages) E_MEMFUL (making program child))
       (λ child free. of-refuses m p (nat_lt most_pages program.pages) E_MEMFUL (making program child)
-      (λ few. of-changes m p (started m.memory child program.entered.number (blocks_of_pages program.pages)) (λ memory. done (with_regs_of (with_child m p child program memory) p (forked_regs (regs_at m p) child program)))
+      (λ few. of-changes m p (started m.memory child program.entered.number (blocks_of_pages program.pages))
+      (λ memory. done (with_regs_of (with_child m p child program memory) p (forked_regs (regs_at m p) child
+      program)))
       (λ memory is. fork-done lives call program child memory room free is))))
     where
       making : Program → ℕ → CallResult
-      making program child = changes (started m.memory child program.entered.number (blocks_of_pages program.pages)) (λ memory. done (with_regs_of (with_child m p child program memory) p (forked_regs (regs_at m p) child program)))
+      making program child = changes (started m.memory child program.entered.number (blocks_of_pages program.pages))
+          (λ memory. done (with_regs_of (with_child m p child program memory) p (forked_regs (regs_at m p) child
+          program)))
 
   -- ---- all calls
 

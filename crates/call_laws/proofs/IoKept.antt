@@ -61,7 +61,9 @@ FailsOn n before after = ChangesOneTerminal (λ before now. Rose before.faults n
 pub record EffectLeft (call : IoCall) (p : ℕ) (old new : Io) (before after : List TerminalState) : Type 0 where
   pub paths : PathsLeft p old.paths new.paths
   pub calls : (q : ℕ) → q ≢ p → kept_at new q ≡ kept_at old q
-  pub readings : (n q : ℕ) → q ≢ p → reader (terminal_at old n) ≡ Some (pid q) → KeepsReading (terminal_at old n) (terminal_at new n) ⊎ (direction_of_call call ≡ Some Writing) × FailsOn n before after × (terminal_at new n ≡ without_reading (used_by (pid p) (terminal_at old n)))
+  pub readings : (n q : ℕ) → q ≢ p → reader (terminal_at old n) ≡ Some (pid q) → KeepsReading (terminal_at old n)
+      (terminal_at new n) ⊎ (direction_of_call call ≡ Some Writing) × FailsOn n before after ×
+      (terminal_at new n ≡ without_reading (used_by (pid p) (terminal_at old n)))
 
 pub effect-by : (call : IoCall) (p : ℕ) (old new : Io) (before after : List TerminalState) → IoLeft p old new → EffectLeft call p old new before after
 effect-by call p old new before after left =
@@ -74,7 +76,9 @@ taken-by-other process t q differ is =
     ∙ ap not (ne_eqb process.0 q (λ same. differ (sym same)))
 
 -- it keeps a read waiting
-read-keeps : (request : Reading) (answer : Progress) (old new : Terminal) (before now : TerminalState) (q : ℕ) → q ≢ request.process.0 → reader old ≡ Some (pid q) → Reads request answer old new before now → KeepsReading old new
+read-keeps : (request : Reading) (answer : Progress) (old new : Terminal) (before now : TerminalState) (q : ℕ)
+    → q ≢ request.process.0 → reader old ≡ Some (pid q) → Reads request answer old new before now
+    → KeepsReading old new
 read-keeps request answer old new before now q differ is it = by_refusal (is_refused answer) it.outcome it.turn
   where
     taken : is_taken request.process old ≡ true
@@ -83,7 +87,9 @@ read-keeps request answer old new before now q differ is it = by_refusal (is_ref
     waits : (read_attempt request old).terminal ≡ used_by request.process old
     waits = rw taken refl
 
-    by_refusal : (refusal : Bool) → MatchBool refusal (BreaksOff request old new before now) (Attempted (read_attempt request old) answer new before now) → (refusal ≡ true → is_taken request.process old ≡ false) → KeepsReading old new
+    by_refusal : (refusal : Bool) → MatchBool refusal (BreaksOff request old new before now)
+        (Attempted (read_attempt request old) answer new before now) → (refusal ≡ true → is_taken request.process old
+        ≡ false) → KeepsReading old new
     by_refusal true broken turn = absurd (false≢true (sym (turn refl) ∙ taken))
     by_refusal false whole turn =
         let still : new ≡ used_by request.process old = whole.terminal ∙ waits in
@@ -93,7 +99,9 @@ read-keeps request answer old new before now q differ is it = by_refusal (is_ref
 record WriteKeeps (process : Pid) (old new : Terminal) (before now : TerminalState) : Type 0 where
   pub keeps : KeepsReading old new ⊎ Rose before.faults now.faults × (new ≡ without_reading (used_by process old))
 
-write-keeps : (write : TerminalWrite) (end : IoEnd) (process : Pid) (answer : Progress) (old new : Terminal) (before now : TerminalState) → write_ends write answer ≡ Some end → Writes process write.put write.count answer old new before now → WriteKeeps process old new before now
+write-keeps : (write : TerminalWrite) (end : IoEnd) (process : Pid) (answer : Progress) (old new : Terminal)
+    (before now : TerminalState) → write_ends write answer ≡ Some end → Writes process write.put write.count answer
+    old new before now → WriteKeeps process old new before now
 write-keeps write end process (Done count) old new before now ends it =
     let still : new ≡ used_by process old = it.outcome.terminal in
     record { keeps = inl (still ∙ ap (λ (t : Terminal). record old { user = t.user }) (sym still)) }
@@ -111,20 +119,28 @@ module _ (call : IoCall) (caller : Caller) (io : Io) (before after : List Termin
   read-leaves read effect it = subst (λ (effect : IoEffect). LeftBy effect.io) (sym it.effect_is) (record {
     paths = left-same caller.process.0 io.paths;
     calls = λ q differ. refl;
-    readings = λ n q differ is. inl (reading-set io read.terminal it.new (λ k. KeepsReading) (λ k apart. refl) q (λ here. read-keeps (request_of caller read) it.answer (terminal_at io read.terminal) it.new it.device.0 it.device.1 q differ here it.device.4) n is);
+    readings = λ n q differ is. inl (reading-set io read.terminal it.new (λ k. KeepsReading) (λ k apart. refl) q
+        (λ here. read-keeps (request_of caller read) it.answer (terminal_at io read.terminal) it.new it.device.0
+        it.device.1 q differ here it.device.4) n is);
   })
 
   write-leaves : (write : TerminalWrite) (effect : IoEffect) → direction_of_call call ≡ Some Writing → WritesTerminal caller io write effect before after → LeftBy effect.io
   write-leaves write effect direction it = subst (λ (effect : IoEffect). LeftBy effect.io) (sym it.effect_is) (record {
     paths = left-same caller.process.0 io.paths;
     calls = λ q differ. refl;
-    readings = λ n q differ is. reading-set io write.terminal it.new Comes (λ k apart. inl refl) q (λ here. comes_of (write-keeps write it.end caller.process it.answer (terminal_at io write.terminal) it.new it.device.0 it.device.1 it.ends it.device.4).keeps) n is;
+    readings = λ n q differ is. reading-set io write.terminal it.new Comes (λ k apart. inl refl) q
+        (λ here. comes_of (write-keeps write it.end caller.process it.answer (terminal_at io write.terminal) it.new
+        it.device.0 it.device.1 it.ends it.device.4).keeps) n is;
   })
     where
       Comes : ℕ → Terminal → Terminal → Type 0
       Comes n old new = KeepsReading old new ⊎ (direction_of_call call ≡ Some Writing) × FailsOn n before after × (new ≡ without_reading (used_by caller.process old))
 
-      comes_of : KeepsReading (terminal_at io write.terminal) it.new ⊎ Rose it.device.0.faults it.device.1.faults × (it.new ≡ without_reading (used_by caller.process (terminal_at io write.terminal))) → KeepsReading (terminal_at io write.terminal) it.new ⊎ (direction_of_call call ≡ Some Writing) × FailsOn write.terminal before after × (it.new ≡ without_reading (used_by caller.process (terminal_at io write.terminal)))
+      comes_of : KeepsReading (terminal_at io write.terminal) it.new ⊎ Rose it.device.0.faults it.device.1.faults ×
+          (it.new ≡ without_reading (used_by caller.process (terminal_at io write.terminal)))
+          → KeepsReading (terminal_at io write.terminal) it.new ⊎ (direction_of_call call ≡ Some Writing) × FailsOn
+          write.terminal before after ×
+          (it.new ≡ without_reading (used_by caller.process (terminal_at io write.terminal)))
       comes_of (inl stays) = inl stays
       comes_of (inr (rose, gone)) =
           inr (direction, (it.device.0, it.device.1, it.device.2, it.device.3, rose), gone)

@@ -108,7 +108,8 @@ has-put places first new block has =
     by_part (inr after) = inr (has-drop (first + length new) places block after)
 
 -- what stands before the places that were put
-pub before-put : (places : List (Option ℕ)) (first : ℕ) (new : List (Option ℕ)) (slot : ℕ) → slot < first → first ≤ length places → get_or (put_places places first new) slot None ≡ get_or places slot None
+pub before-put : (places : List (Option ℕ)) (first : ℕ) (new : List (Option ℕ)) (slot : ℕ) → slot < first
+    → first ≤ length places → get_or (put_places places first new) slot None ≡ get_or places slot None
 before-put places first new slot before fits =
     get_or_append_left (take first places) (new ++ drop (first + length new) places) None slot (rw (length-take-le first places fits) before) ∙ get_or-take first places slot None before
 

@@ -58,12 +58,21 @@ names-set m c slots object names =
     elim (cases_lt c (length m.maps)) [
       | inl within ↦ subst (λ slots. NamesBlock slots object) (get_or-set_same m.maps c slots no_slots within) names
       | inr past ↦
-          (let nothing : map_at (with_map m c slots) c ≡ no_slots = get_or_past (slice_set m.maps c slots) c no_slots (rw length-set past) in absurd (has-none 8 object (subst (λ slots. NamesBlock slots object) nothing names)))
+          (let nothing : map_at (with_map m c slots) c ≡ no_slots = get_or_past (slice_set m.maps c slots) c no_slots
+          (rw length-set past) in absurd (has-none 8 object (subst (λ slots. NamesBlock slots object) nothing
+          names)))
     ]
 
 pub kept-map : {Given : ℕ → Type 0} (m : MemoryState) (p c : ℕ) (slots : Slots ℕ) → Kept m Given p c (with_map m c slots)
 kept-map {Given = Given} m p c slots =
-    record { objects = λ object there unnamed. refl; maps = λ q differ. map-other m c slots q differ; modules = modules-same m.modules; new_objects = no-new Given m (with_map m c slots) refl; sizes = λ object there. refl }
+    record {
+      objects = λ object there unnamed. refl;
+      maps = λ q differ. map-other m c slots q differ;
+      modules =
+          modules-same m.modules;
+      new_objects = no-new Given m (with_map m c slots) refl;
+      sizes = λ object there. refl;
+    }
 
 -- ---- what maps name after changes
 
@@ -117,7 +126,9 @@ itself-unmapped m p group object names =
     inl (names-ungrouped (map_at m p) group object (names-set m p (map_ungrouped (map_at m p) group) object names))
 
 -- they are zeros
-zeros-from : (objects : List (List ℕ)) (count object : ℕ) (bytes : List ℕ) → length objects ≤ object → slice_get (objects ++ replicate count zero_object) object ≡ Some bytes → (k byte : ℕ) → slice_get bytes k ≡ Some byte → byte ≡ 0
+zeros-from : (objects : List (List ℕ)) (count object : ℕ) (bytes : List ℕ) → length objects ≤ object
+    → slice_get (objects ++ replicate count zero_object) object ≡ Some bytes → (k byte : ℕ) → slice_get bytes k ≡ Some
+    byte → byte ≡ 0
 zeros-from objects count object bytes late is k byte at =
     let found = right-some objects (replicate count zero_object) object bytes late is in
     let zeros : bytes ≡ zero_object = replicate-is count zero_object found.0 bytes found.1 in
@@ -141,7 +152,8 @@ is-new m count object (k, is) = range-from (length m.objects) count k object is
 appears-in : (m : MemoryState) (count object : ℕ) → (k : ℕ) × (slice_get (new_numbers m count) k ≡ Some object) → object < length (m.objects ++ replicate count zero_object)
 appears-in m count object (k, is) =
     let below = range-below (length m.objects) count k object is in
-    let long : length (m.objects ++ replicate count zero_object) ≡ length m.objects + count = length-append m.objects (replicate count zero_object) ∙ ap (λ n. length m.objects + n) (length-replicate count zero_object) in
+    let long : length (m.objects ++ replicate count zero_object) ≡ length m.objects + count = length-append m.objects
+    (replicate count zero_object) ∙ ap (λ n. length m.objects + n) (length-replicate count zero_object) in
     omega arith
 
 pub record Grows (m : MemoryState) (Given : ℕ → Type 0) (p : ℕ) (n : MemoryState) : Type 0 where
@@ -176,7 +188,9 @@ pub grown-modules : (m : MemoryState) (p count : ℕ) (n : MemoryState) → grow
 grown-modules m p count n is =
     by_tests (is_free_run (map_at m p) (map_at m p).low count) (wants_blocks m count) is
   where
-    by_tests : (free wants : Bool) → (if free then (if wants then Err NoRam else Ok (with_map (with_new_objects m count) p (with_low (map_at m p) (new_numbers m count)))) else Err MemFull) ≡ Ok n → n.modules ≡ m.modules
+    by_tests : (free wants : Bool)
+        → (if free then (if wants then Err NoRam else Ok (with_map (with_new_objects m count) p
+        (with_low (map_at m p) (new_numbers m count)))) else Err MemFull) ≡ Ok n → n.modules ≡ m.modules
     by_tests true false is =
         let same : with_map (with_new_objects m count) p (with_low (map_at m p) (new_numbers m count)) ≡ n = cc in
         ap (λ (n : MemoryState). n.modules) (sym same)
@@ -187,10 +201,12 @@ grown-modules m p count n is =
 
 module _ (places : List (Option ℕ)) (object : ℕ) where
   -- a byte that is written through a map leaves the objects that its slot does not name
-  cell-kept : (objects : List (List ℕ)) (address byte : ℕ) → ((number : ℕ) → slot_of places (address / 8192) ≡ Some number → object ≢ number) → slice_get (with_cell objects places address byte) object ≡ slice_get objects object
+  cell-kept : (objects : List (List ℕ)) (address byte : ℕ) → ((number : ℕ) → slot_of places (address / 8192) ≡ Some
+      number → object ≢ number) → slice_get (with_cell objects places address byte) object ≡ slice_get objects object
   cell-kept objects address byte differs = by_slot (slot_of places (address / 8192)) refl
     where
-      by_object : (number : ℕ) → object ≢ number → (found : Option (List ℕ)) → slice_get objects number ≡ found → slice_get (with_object_byte objects (address % 8192) byte (Some number)) object ≡ slice_get objects object
+      by_object : (number : ℕ) → object ≢ number → (found : Option (List ℕ)) → slice_get objects number ≡ found
+          → slice_get (with_object_byte objects (address % 8192) byte (Some number)) object ≡ slice_get objects object
       by_object number differ None is = rw is refl
       by_object number differ (Some bytes) is =
           rw is (slice_get-set_other objects number object (slice_set bytes (address % 8192) byte) differ)
@@ -206,7 +222,9 @@ module _ (places : List (Option ℕ)) (object : ℕ) where
       ∙ cell-kept objects write.0 write.1 (λ number is same. unnamed (write.0 / 8192, slot-has places (write.0 / 8192) number is ∙ ap Some (sym same)))
 
   -- bytes that are stored in slots below one, where these do not name it
-  stores-kept : (count : ℕ) → ((slot number : ℕ) → slot < count → slot_of places slot ≡ Some number → object ≢ number) → (objects : List (List ℕ)) (address : ℕ) (bytes : List ℕ) → address + length bytes ≤ 8192 * count → slice_get (with_writes objects places (writes_from address bytes)) object ≡ slice_get objects object
+  stores-kept : (count : ℕ) → ((slot number : ℕ) → slot < count → slot_of places slot ≡ Some number → object ≢ number)
+      → (objects : List (List ℕ)) (address : ℕ) (bytes : List ℕ) → address + length bytes ≤ 8192 * count
+      → slice_get (with_writes objects places (writes_from address bytes)) object ≡ slice_get objects object
   stores-kept count differs objects address [] within = refl
   stores-kept count differs objects address (byte ∷ bytes) within =
       stores-kept count differs (with_cell objects places address byte) (address + 1) bytes (omega arith)
@@ -230,19 +248,28 @@ writes-long places objects (write ∷ writes) =
     writes-long places (with_cell objects places write.0 write.1) writes ∙ cell-long places objects write.0 write.1
 
 -- and change the size of none
-cell-sizes : (places : List (Option ℕ)) (object : ℕ) (objects : List (List ℕ)) (address byte : ℕ) → option_map length (slice_get (with_cell objects places address byte) object) ≡ option_map length (slice_get objects object)
+cell-sizes : (places : List (Option ℕ)) (object : ℕ) (objects : List (List ℕ)) (address byte : ℕ) → option_map length
+    (slice_get (with_cell objects places address byte) object) ≡ option_map length (slice_get objects object)
 cell-sizes places object objects address byte = by_slot (slot_of places (address / 8192))
   where
-    by_place : (number : ℕ) (bytes : List ℕ) → slice_get objects number ≡ Some bytes → option_map length (slice_get (slice_set objects number (slice_set bytes (address % 8192) byte)) object) ≡ option_map length (slice_get objects object)
+    by_place : (number : ℕ) (bytes : List ℕ) → slice_get objects number ≡ Some bytes → option_map length
+        (slice_get (slice_set objects number (slice_set bytes (address % 8192) byte)) object) ≡ option_map length
+        (slice_get objects object)
     by_place number bytes is =
         elim (cases_eq object number) [
           | inl same ↦ (
-              let put : slice_get (slice_set objects number (slice_set bytes (address % 8192) byte)) object ≡ Some (slice_set bytes (address % 8192) byte) = ap (slice_get (slice_set objects number (slice_set bytes (address % 8192) byte))) same ∙ slice_get-set_same objects number (slice_set bytes (address % 8192) byte) (get-within objects number bytes is) in
+              let put : slice_get (slice_set objects number (slice_set bytes (address % 8192) byte)) object ≡ Some
+              (slice_set bytes (address % 8192) byte) = ap
+              (slice_get (slice_set objects number (slice_set bytes (address % 8192) byte))) same ∙
+              slice_get-set_same objects number (slice_set bytes (address % 8192) byte)
+              (get-within objects number bytes is) in
               ap (option_map length) put ∙ ap Some (length-set bytes (address % 8192) byte) ∙ sym (ap (option_map length) (ap (slice_get objects) same ∙ is)))
           | inr differ ↦ ap (option_map length) (slice_get-set_other objects number object (slice_set bytes (address % 8192) byte) differ)
         ]
 
-    by_object : (number : ℕ) (found : Option (List ℕ)) → slice_get objects number ≡ found → option_map length (slice_get (with_object_byte objects (address % 8192) byte (Some number)) object) ≡ option_map length (slice_get objects object)
+    by_object : (number : ℕ) (found : Option (List ℕ)) → slice_get objects number ≡ found → option_map length
+        (slice_get (with_object_byte objects (address % 8192) byte (Some number)) object) ≡ option_map length
+        (slice_get objects object)
     by_object number None is = rw is refl
     by_object number (Some bytes) is = rw is (by_place number bytes is)
 
@@ -250,7 +277,9 @@ cell-sizes places object objects address byte = by_slot (slot_of places (address
     by_slot None = refl
     by_slot (Some number) = by_object number (slice_get objects number) refl
 
-writes-sizes : (places : List (Option ℕ)) (object : ℕ) (objects : List (List ℕ)) (writes : List (ℕ × ℕ)) → option_map length (slice_get (with_writes objects places writes) object) ≡ option_map length (slice_get objects object)
+writes-sizes : (places : List (Option ℕ)) (object : ℕ) (objects : List (List ℕ)) (writes : List (ℕ × ℕ))
+    → option_map length (slice_get (with_writes objects places writes) object) ≡ option_map length
+    (slice_get objects object)
 writes-sizes places object objects [] = refl
 writes-sizes places object objects (write ∷ writes) =
     writes-sizes places object (with_cell objects places write.0 write.1) writes ∙ cell-sizes places object objects write.0 write.1
@@ -261,7 +290,8 @@ module _ (Passes : ℕ → Type 0) (from : ℕ) where
   AllPass objects =
       (object : ℕ) (bytes : List ℕ) → from ≤ object → slice_get objects object ≡ Some bytes → (k byte : ℕ) → slice_get bytes k ≡ Some byte → Passes byte
 
-  byte-passes : (bytes : List ℕ) (at byte : ℕ) → Passes byte → ((k other : ℕ) → slice_get bytes k ≡ Some other → Passes other) → (k other : ℕ) → slice_get (slice_set bytes at byte) k ≡ Some other → Passes other
+  byte-passes : (bytes : List ℕ) (at byte : ℕ) → Passes byte → ((k other : ℕ) → slice_get bytes k ≡ Some other
+      → Passes other) → (k other : ℕ) → slice_get (slice_set bytes at byte) k ≡ Some other → Passes other
   byte-passes bytes at byte passes all k other is =
       elim (cases_eq k at) [
         | inl same ↦ by_place same (cases_lt at (length bytes))
@@ -284,8 +314,12 @@ module _ (Passes : ℕ → Type 0) (from : ℕ) where
       by_place number found is within object bytes late there =
           elim (cases_eq object number) [
             | inl same ↦ (
-                let put : slice_get (slice_set objects number (slice_set found (address % 8192) byte)) number ≡ Some (slice_set found (address % 8192) byte) = slice_get-set_same objects number (slice_set found (address % 8192) byte) within in
-                let it : slice_set found (address % 8192) byte ≡ bytes = same_Some _ bytes (sym put ∙ ap (slice_get (slice_set objects number (slice_set found (address % 8192) byte))) (sym same) ∙ there) in
+                let put : slice_get (slice_set objects number (slice_set found (address % 8192) byte)) number ≡ Some
+                (slice_set found (address % 8192) byte) = slice_get-set_same objects number
+                (slice_set found (address % 8192) byte) within in
+                let it : slice_set found (address % 8192) byte ≡ bytes = same_Some _ bytes
+                (sym put ∙ ap (slice_get (slice_set objects number (slice_set found (address % 8192) byte)))
+                (sym same) ∙ there) in
                 λ k other at. byte-passes found (address % 8192) byte passes (all number found (rw (sym same) late) is) k other (subst (λ bytes. slice_get bytes k ≡ Some other) (sym it) at))
             | inr differ ↦
                 all object bytes late (sym (slice_get-set_other objects number object (slice_set found (address % 8192) byte) differ) ∙ there)
@@ -299,7 +333,9 @@ module _ (Passes : ℕ → Type 0) (from : ℕ) where
       by_slot None = all
       by_slot (Some number) = by_object number (slice_get objects number) refl
 
-  stores-pass : (places : List (Option ℕ)) (objects : List (List ℕ)) (address : ℕ) (bytes : List ℕ) → ((k byte : ℕ) → slice_get bytes k ≡ Some byte → Passes byte) → AllPass objects → AllPass (with_writes objects places (writes_from address bytes))
+  stores-pass : (places : List (Option ℕ)) (objects : List (List ℕ)) (address : ℕ) (bytes : List ℕ)
+      → ((k byte : ℕ) → slice_get bytes k ≡ Some byte → Passes byte) → AllPass objects
+      → AllPass (with_writes objects places (writes_from address bytes))
   stores-pass places objects address [] pass all = all
   stores-pass places objects address (byte ∷ bytes) pass all =
       stores-pass places (with_cell objects places address byte) (address + 1) bytes (λ k other is. pass (suc k) other is) (cell-passes places objects address byte (pass 0 byte refl) all)
@@ -325,7 +361,10 @@ pub record Started (m : MemoryState) (c number count : ℕ) (n : MemoryState) : 
 pub started-is : (m : MemoryState) (c number count : ℕ) (n : MemoryState) → started m c number count ≡ Ok n → Started m c number count n
 started-is m c number count n is = by_entry (module_entry_at m.modules number) refl is
   where
-    by_tests : (entry : ModuleEntry) → module_entry_at m.modules number ≡ Some entry → (most long wants : Bool) → nat_lt 8 (count + length entry.group) ≡ long → (if most || long then Err MemFull else (if wants then Err NoRam else Ok (with_first_slots m c entry.group count))) ≡ Ok n → Started m c number count n
+    by_tests : (entry : ModuleEntry) → module_entry_at m.modules number ≡ Some entry → (most long wants : Bool)
+        → nat_lt 8 (count + length entry.group) ≡ long
+        → (if most || long then Err MemFull else (if wants then Err NoRam else Ok (with_first_slots m c entry.group
+        count))) ≡ Ok n → Started m c number count n
     by_tests entry found_it true long wants test is = cc
     by_tests entry found_it false true wants test is = cc
     by_tests entry found_it false false true test is = cc
@@ -354,25 +393,40 @@ module _ (m : MemoryState) (c count : ℕ) (group : List ℕ) (fits : count + le
       let filled : length (filled_places (new_numbers m count)) ≡ count = simp length-map long in
       let eight : 8 - length group ≤ length low.places = simp (length-append, length-drop, length-replicate, filled) (omega arith) in
       let there : get_or low.places slot None ≡ Some object = sym (before-put low.places (8 - length group) (filled_places group) slot (omega arith) eight) ∙ is in
-      let front : get_or (filled_places (new_numbers m count)) slot None ≡ Some object = sym (get_or_append_left (filled_places (new_numbers m count)) (drop (0 + length (filled_places (new_numbers m count))) (replicate 8 None)) None slot (rw filled below)) ∙ there in
+      let front : get_or (filled_places (new_numbers m count)) slot None ≡ Some object = sym
+      (get_or_append_left (filled_places (new_numbers m count))
+      (drop (0 + length (filled_places (new_numbers m count))) (replicate 8 None)) None slot (rw filled below)) ∙
+      there in
       is-new m count object (has-filled (new_numbers m count) object (slot, front))
 
   area-new : (slot object : ℕ) → slot < count → slot_of (map_at begun c).places slot ≡ Some object → length m.objects ≤ object
   area-new slot object below is =
       elim (cases_lt c (length m.maps)) [
-        | inl within ↦ low-new slot object below (slot-has first.places slot object (subst (λ (slots : Slots ℕ). slot_of slots.places slot ≡ Some object) (get_or-set_same m.maps c first no_slots within) is))
+        | inl within ↦ low-new slot object below (slot-has first.places slot object
+            (subst (λ (slots : Slots ℕ). slot_of slots.places slot ≡ Some object) (get_or-set_same m.maps c first
+            no_slots within) is))
         | inr past ↦
-            (let nothing : map_at begun c ≡ no_slots = get_or_past (slice_set m.maps c first) c no_slots (rw length-set past) in absurd (has-none 8 object (slot, slot-has (replicate 8 None) slot object (subst (λ (slots : Slots ℕ). slot_of slots.places slot ≡ Some object) nothing is))))
+            (let nothing : map_at begun c ≡ no_slots = get_or_past (slice_set m.maps c first) c no_slots
+            (rw length-set past) in absurd (has-none 8 object (
+              slot,
+              slot-has (replicate 8 None) slot object
+                  (subst (λ (slots : Slots ℕ). slot_of slots.places slot ≡ Some object) nothing is),
+            )))
       ]
 
   -- bytes that are stored in its data area leave the old objects
-  pub old-kept : (number address : ℕ) (bytes : List ℕ) → address + length bytes ≤ 8192 * count → (object : ℕ) → object < length m.objects → slice_get (stored (linked begun number) c address bytes).objects object ≡ slice_get m.objects object
+  pub old-kept : (number address : ℕ) (bytes : List ℕ) → address + length bytes ≤ 8192 * count → (object : ℕ)
+      → object < length m.objects → slice_get (stored (linked begun number) c address bytes).objects object ≡
+      slice_get m.objects object
   old-kept number address bytes within object there =
-      stores-kept (map_at begun c).places object count (λ slot number below is same. let late = area-new slot number below is in absurd (omega arith)) (m.objects ++ replicate count zero_object) address bytes within
+      stores-kept (map_at begun c).places object count (λ slot number below is same. let late = area-new slot number
+      below is in absurd (omega arith)) (m.objects ++ replicate count zero_object) address bytes within
       ∙ slice_get-left m.objects (replicate count zero_object) object there
 
   -- what its memory leaves
-  begun-kept : (Given : ℕ → Type 0) (p number address : ℕ) (bytes : List ℕ) → ((k byte : ℕ) → slice_get bytes k ≡ Some byte → Given byte) → address + length bytes ≤ 8192 * count → Kept m Given p c (stored (linked begun number) c address bytes)
+  begun-kept : (Given : ℕ → Type 0) (p number address : ℕ) (bytes : List ℕ)
+      → ((k byte : ℕ) → slice_get bytes k ≡ Some byte → Given byte) → address + length bytes ≤ 8192 * count
+      → Kept m Given p c (stored (linked begun number) c address bytes)
   begun-kept Given p number address bytes given within = record {
     objects = λ object there unnamed. old-kept number address bytes within object there;
     sizes = λ object there. ap (option_map length) (old-kept number address bytes within object there);
@@ -384,14 +438,18 @@ module _ (m : MemoryState) (c count : ℕ) (group : List ℕ) (fits : count + le
   }
 
   -- what its map names is new, or of the group
-  pub begun-names : (object : ℕ) → NamesBlock (map_at begun c) object → ((length m.objects ≤ object) × (object < length (m.objects ++ replicate count zero_object))) ⊎ ((k : ℕ) × (slice_get group k ≡ Some object))
+  pub begun-names : (object : ℕ) → NamesBlock (map_at begun c) object
+      → ((length m.objects ≤ object) × (object < length (m.objects ++ replicate count zero_object))) ⊎
+      ((k : ℕ) × (slice_get group k ≡ Some object))
   begun-names object names =
       elim (names-group low (8 - length group) group object (names-set (with_new_objects m count) c first object names)) [
         | inl grouped ↦ inr grouped
         | inr area ↦ by_area (names-low no_slots (new_numbers m count) object area)
       ]
     where
-      by_area : ((k : ℕ) × (slice_get (new_numbers m count) k ≡ Some object)) ⊎ NamesBlock {Block = ℕ} no_slots object → ((length m.objects ≤ object) × (object < length (m.objects ++ replicate count zero_object))) ⊎ ((k : ℕ) × (slice_get group k ≡ Some object))
+      by_area : ((k : ℕ) × (slice_get (new_numbers m count) k ≡ Some object)) ⊎ NamesBlock {Block = ℕ} no_slots object
+          → ((length m.objects ≤ object) × (object < length (m.objects ++ replicate count zero_object))) ⊎
+          ((k : ℕ) × (slice_get group k ≡ Some object))
       by_area (inl new) = inl (is-new m count object new, appears-in m count object new)
       by_area (inr nothing) = absurd (has-none 8 object nothing)
 
@@ -400,7 +458,9 @@ pub record Begun (m : MemoryState) (Given : ℕ → Type 0) (p c : ℕ) (n : Mem
   pub kept : Kept m Given p c n
   pub names : (object : ℕ) → NamesBlock (map_at n c) object → IsNewOrShared m n object
 
-pub started-kept : (m : MemoryState) (Given : ℕ → Type 0) (p c number count : ℕ) (n : MemoryState) (address : ℕ) (bytes : List ℕ) → ((k byte : ℕ) → slice_get bytes k ≡ Some byte → Given byte) → started m c number count ≡ Ok n → address + length bytes ≤ 8192 * count → Begun m Given p c (stored (linked n number) c address bytes)
+pub started-kept : (m : MemoryState) (Given : ℕ → Type 0) (p c number count : ℕ) (n : MemoryState) (address : ℕ)
+    (bytes : List ℕ) → ((k byte : ℕ) → slice_get bytes k ≡ Some byte → Given byte) → started m c number count ≡ Ok n
+    → address + length bytes ≤ 8192 * count → Begun m Given p c (stored (linked n number) c address bytes)
 started-kept m Given p c number count n address bytes given is within =
     let begins : Started m c number count n = started-is m c number count n is in
     let group = begins.entry.group in
@@ -412,7 +472,11 @@ started-kept m Given p c number count n address bytes given is within =
     } in
     subst (λ n. Begun m Given p c (stored (linked n number) c address bytes)) (sym begins.memory) here
   where
-    by_names : (begins : Started m c number count n) (object : ℕ) → ((length m.objects ≤ object) × (object < length (m.objects ++ replicate count zero_object))) ⊎ ((k : ℕ) × (slice_get begins.entry.group k ≡ Some object)) → IsNewOrShared m (stored (linked (with_first_slots m c begins.entry.group count) number) c address bytes) object
+    by_names : (begins : Started m c number count n) (object : ℕ)
+        → ((length m.objects ≤ object) × (object < length (m.objects ++ replicate count zero_object))) ⊎
+        ((k : ℕ) × (slice_get begins.entry.group k ≡ Some object))
+        → IsNewOrShared m (stored (linked (with_first_slots m c begins.entry.group count) number) c address bytes)
+        object
     by_names begins object (inl (late, below)) =
         inl (late, rw (writes-long (map_at (with_first_slots m c begins.entry.group count) c).places (m.objects ++ replicate count zero_object) (writes_from address bytes)) below)
     by_names begins object (inr stands) = inr (record { number = number; entry = begins.entry; is = begins.is; stands = stands })
@@ -423,7 +487,9 @@ pub grows-same : {Given : ℕ → Type 0} (m : MemoryState) (p : ℕ) → Grows 
 grows-same m p = record { kept = kept-same m p p; itself = itself-same m p }
 
 -- the group of an entered module in a map
-pub mapped-grows : {Given : ℕ → Type 0} (m : MemoryState) (p number : ℕ) (entry : ModuleEntry) (mapped : Mapped) → module_entry_at m.modules number ≡ Some entry → mapped_group m p entry.group ≡ Some mapped → Grows m Given p mapped.memory
+pub mapped-grows : {Given : ℕ → Type 0} (m : MemoryState) (p number : ℕ) (entry : ModuleEntry) (mapped : Mapped)
+    → module_entry_at m.modules number ≡ Some entry → mapped_group m p entry.group ≡ Some mapped
+    → Grows m Given p mapped.memory
 mapped-grows {Given = Given} m p number entry mapped entered is =
     by_slot (group_slot (map_at m p) entry.group) (highest_free_run (map_at m p) (length entry.group)) is
   where
@@ -437,7 +503,12 @@ mapped-grows {Given = Given} m p number entry mapped entered is =
           ];
     }
 
-    by_slot : (slot run : Option ℕ) → option_map_or (λ (slot : ℕ). Some (let r : Mapped = record { slot = slot; memory = m } in r)) slot (option_map_or (λ (mapped : ℕ × MemoryState). Some (let r : Mapped = record { slot = mapped.0; memory = mapped.1 } in r)) (option_map (λ (first : ℕ). (first, with_map m p (with_group (map_at m p) first entry.group))) run) None) ≡ Some mapped → Grows m Given p mapped.memory
+    by_slot : (slot run : Option ℕ)
+        → option_map_or (λ (slot : ℕ). Some (let r : Mapped = record { slot = slot; memory = m } in r)) slot
+        (option_map_or (λ (mapped : ℕ × MemoryState). Some
+        (let r : Mapped = record { slot = mapped.0; memory = mapped.1 } in r))
+        (option_map (λ (first : ℕ). (first, with_map m p (with_group (map_at m p) first entry.group))) run) None) ≡
+        Some mapped → Grows m Given p mapped.memory
     by_slot (Some slot) run is = subst (Grows m Given p) (ap (λ (mapped : Mapped). mapped.memory) (same_Some _ mapped is)) (grows-same m p)
     by_slot None (Some first) is = subst (Grows m Given p) (ap (λ (mapped : Mapped). mapped.memory) (same_Some _ mapped is)) (grows first)
     by_slot None None is = cc
@@ -447,7 +518,12 @@ pub mapped-modules : (m : MemoryState) (p : ℕ) (group : List ℕ) (mapped : Ma
 mapped-modules m p group mapped is =
     by_slot (group_slot (map_at m p) group) (highest_free_run (map_at m p) (length group)) is
   where
-    by_slot : (slot run : Option ℕ) → option_map_or (λ (slot : ℕ). Some (let r : Mapped = record { slot = slot; memory = m } in r)) slot (option_map_or (λ (mapped : ℕ × MemoryState). Some (let r : Mapped = record { slot = mapped.0; memory = mapped.1 } in r)) (option_map (λ (first : ℕ). (first, with_map m p (with_group (map_at m p) first group))) run) None) ≡ Some mapped → mapped.memory.modules ≡ m.modules
+    by_slot : (slot run : Option ℕ)
+        → option_map_or (λ (slot : ℕ). Some (let r : Mapped = record { slot = slot; memory = m } in r)) slot
+        (option_map_or (λ (mapped : ℕ × MemoryState). Some
+        (let r : Mapped = record { slot = mapped.0; memory = mapped.1 } in r))
+        (option_map (λ (first : ℕ). (first, with_map m p (with_group (map_at m p) first group))) run) None) ≡ Some
+        mapped → mapped.memory.modules ≡ m.modules
     by_slot (Some slot) run is = sym (ap (λ (mapped : Mapped). mapped.memory.modules) (same_Some _ mapped is))
     by_slot None (Some first) is = sym (ap (λ (mapped : Mapped). mapped.memory.modules) (same_Some _ mapped is))
     by_slot None None is = cc

@@ -23,23 +23,31 @@ entry-within entries number entry is =
 
 pub entry-put : (entries : List (Option ModuleEntry)) (number : ℕ) (entry : ModuleEntry) → number < length entries → module_entry_at (with_module_entry entries number entry) number ≡ Some entry
 entry-put entries number entry within =
-    ap (option_and_then (λ (entry : Option ModuleEntry). entry)) (slice_get-get_or (slice_set entries number (Some entry)) number None (rw length-set within) ∙ ap Some (get_or-set_same entries number (Some entry) None within))
+    ap (option_and_then (λ (entry : Option ModuleEntry). entry))
+    (slice_get-get_or (slice_set entries number (Some entry)) number None (rw length-set within) ∙ ap Some
+    (get_or-set_same entries number (Some entry) None within))
 
-pub entry-other : (entries : List (Option ModuleEntry)) (number : ℕ) (entry : ModuleEntry) (other : ℕ) → other ≢ number → module_entry_at (with_module_entry entries number entry) other ≡ module_entry_at entries other
+pub entry-other : (entries : List (Option ModuleEntry)) (number : ℕ) (entry : ModuleEntry) (other : ℕ)
+    → other ≢ number → module_entry_at (with_module_entry entries number entry) other ≡ module_entry_at entries other
 entry-other entries number entry other differ =
     ap (option_and_then (λ (entry : Option ModuleEntry). entry)) (slice_get-set_other entries number other (Some entry) differ)
 
 -- a place of a list without a group
-entry-without : (group : List ℕ) (entries : List (Option ModuleEntry)) (number : ℕ) → module_entry_at (modules_without_group entries group) number ≡ place_without_group group (module_entry_at entries number)
+entry-without : (group : List ℕ) (entries : List (Option ModuleEntry)) (number : ℕ)
+    → module_entry_at (modules_without_group entries group) number ≡ place_without_group group
+    (module_entry_at entries number)
 entry-without group entries number =
     ap (option_and_then (λ (entry : Option ModuleEntry). entry)) (slice_get-map (place_without_group group) entries number) ∙ by_place (slice_get entries number)
   where
-    by_place : (place : Option (Option ModuleEntry)) → option_and_then (λ (entry : Option ModuleEntry). entry) (option_map (place_without_group group) place) ≡ place_without_group group (option_and_then (λ (entry : Option ModuleEntry). entry) place)
+    by_place : (place : Option (Option ModuleEntry)) → option_and_then (λ (entry : Option ModuleEntry). entry)
+        (option_map (place_without_group group) place) ≡ place_without_group group
+        (option_and_then (λ (entry : Option ModuleEntry). entry) place)
     by_place None = refl
     by_place (Some place) = refl
 
 -- where no entry passes a test
-none-passes : (test : ModuleEntry → Bool) (entries : List (Option ModuleEntry)) (number : ℕ) (entry : ModuleEntry) → some_entry test entries ≡ false → module_entry_at entries number ≡ Some entry → test entry ≡ false
+none-passes : (test : ModuleEntry → Bool) (entries : List (Option ModuleEntry)) (number : ℕ) (entry : ModuleEntry)
+    → some_entry test entries ≡ false → module_entry_at entries number ≡ Some entry → test entry ≡ false
 none-passes test [] number entry none is = cc
 none-passes test (place ∷ entries) zero entry none is =
     first-false (test entry) (some_entry test entries) (subst (λ place. (passes test place || some_entry test entries) ≡ false) is none)
@@ -90,7 +98,10 @@ more-all entries number = more-same (module_entry_at entries number)
 pub more-linked : (m : MemoryState) (number : ℕ) → HaveMore m.modules (linked m number).modules
 more-linked m number other = by_entry (module_entry_at m.modules number) refl
   where
-    by_entry : (place : Option ModuleEntry) → module_entry_at m.modules number ≡ place → HasMore (module_entry_at m.modules other) (module_entry_at (option_map_or (λ (entry : ModuleEntry). with_module_entry m.modules number (entry_linked entry)) place m.modules) other)
+    by_entry : (place : Option ModuleEntry) → module_entry_at m.modules number ≡ place
+        → HasMore (module_entry_at m.modules other)
+        (module_entry_at (option_map_or (λ (entry : ModuleEntry). with_module_entry m.modules number
+        (entry_linked entry)) place m.modules) other)
     by_entry None is = more-same (module_entry_at m.modules other)
     by_entry (Some entry) is =
         elim (cases_eq other number) [
@@ -191,7 +202,9 @@ module _ (entries base : List (Option ModuleEntry)) (more : HaveMore entries bas
               few = omega arith;
             })
         | inr differ ↦ (
-            let earlier : Was (module_entry_at entries other) left = was (module_entry_at entries other) (module_entry_at base other) left (more other) (sym (entry-other base number (entry_unlinked entry) other differ) ∙ at) in
+            let earlier : Was (module_entry_at entries other) left = was (module_entry_at entries other)
+            (module_entry_at base other) left (more other)
+            (sym (entry-other base number (entry_unlinked entry) other differ) ∙ at) in
             let more_links = earlier.more in
             record {
               before = earlier.entry;

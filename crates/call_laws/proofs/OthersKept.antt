@@ -52,11 +52,19 @@ module _ (m : Inner) (p : ℕ) (end : EventEnd) where
   pub own-still : (q : ℕ) (n : MemoryState) (own : Own) → KeepsOwn m p n q own (still_primary n.modules own)
   own-still q n own = record { woken = inl refl; primary = by_primary own.primary; others = refl }
     where
-      by_entry : (id : ModId) (entry : Option ModuleEntry) → module_entry_at n.modules id.0 ≡ entry → ((if is_some entry then Some id else None) ≡ Some id) ⊎ ((number : ℕ) × (Some id ≡ Some (record { 0 = number })) × (module_entry_at n.modules number ≡ None) × ((if is_some entry then Some id else None) ≡ None))
+      by_entry : (id : ModId) (entry : Option ModuleEntry) → module_entry_at n.modules id.0 ≡ entry
+          → ((if is_some entry then Some id else None) ≡ Some id) ⊎
+          ((number : ℕ) × (Some id ≡ Some (record { 0 = number })) × (module_entry_at n.modules number ≡ None) ×
+          ((if is_some entry then Some id else None) ≡ None))
       by_entry id None is = inr (id.0, refl, is, refl)
       by_entry id (Some entry) is = inl refl
 
-      by_primary : (primary : Option ModId) → (option_and_then (λ (id : ModId). if is_some (module_entry_at n.modules id.0) then Some id else None) primary ≡ primary) ⊎ ((number : ℕ) × (primary ≡ Some (record { 0 = number })) × (module_entry_at n.modules number ≡ None) × (option_and_then (λ (id : ModId). if is_some (module_entry_at n.modules id.0) then Some id else None) primary ≡ None))
+      by_primary : (primary : Option ModId)
+          → (option_and_then (λ (id : ModId). if is_some (module_entry_at n.modules id.0) then Some id else None)
+          primary ≡ primary) ⊎ ((number : ℕ) × (primary ≡ Some (record { 0 = number })) ×
+          (module_entry_at n.modules number ≡ None) ×
+          (option_and_then (λ (id : ModId). if is_some (module_entry_at n.modules id.0) then Some id else None)
+          primary ≡ None))
       by_primary None = inl refl
       by_primary (Some id) = by_entry id (module_entry_at n.modules id.0) refl
 
@@ -71,7 +79,9 @@ pub record Changed (m : Inner) (p : ℕ) (end : EventEnd) (n : Inner) : Type 0 w
   pub places : length n.records ≡ length m.records
 
 -- what comes of another process by the columns
-pub comes-of : (m : Inner) (p : ℕ) (end : EventEnd) (n : Inner) (q : ℕ) (old new : Option Record) → map_at n.memory q ≡ map_at m.memory q → KeepsOwn m p n.memory q (own_at m q) (own_at n q) → RecordLeft m p end q old new → ComesOf m p end n q old new
+pub comes-of : (m : Inner) (p : ℕ) (end : EventEnd) (n : Inner) (q : ℕ) (old new : Option Record) → map_at n.memory q
+    ≡ map_at m.memory q → KeepsOwn m p n.memory q (own_at m q) (own_at n q) → RecordLeft m p end q old new
+    → ComesOf m p end n q old new
 comes-of m p end n q (Some old) (Some new) map own left = record { map = map; own = own; record_is = left }
 comes-of m p end n q (Some old) None map own left = left
 comes-of m p end n q None (Some new) map own left = absurd left
@@ -99,7 +109,9 @@ pub own-other : (m : Inner) (p : ℕ) (own : Own) (q : ℕ) → q ≢ p → own_
 own-other m p own q differ = get_or-set_other m.own p q own no_own differ
 
 -- where a process has other memory, records and things of its own, and the columns of the others stay
-pub changed-self : (m : Inner) (p : ℕ) (end : EventEnd) (memory : MemoryState) (records : List (Option Record)) (own : List Own) → Kept m.memory (IsParameter m p) p p memory → KeepsToItself m.memory p memory → ChangesLinks m p end memory
+pub changed-self : (m : Inner) (p : ℕ) (end : EventEnd) (memory : MemoryState) (records : List (Option Record))
+    (own : List Own) → Kept m.memory (IsParameter m p) p p memory → KeepsToItself m.memory p memory
+    → ChangesLinks m p end memory
     → ((q : ℕ) → q ≢ p → record_of records q ≡ record_of m.records q) → ((q : ℕ) → q ≢ p → slice_index_or own q no_own ≡ own_at m q) → length records ≡ length m.records
     → Changed m p end (record m { memory = memory; records = records; own = own })
 changed-self m p end memory records own kept itself links same own_is places = record {
@@ -171,7 +183,9 @@ reached-lives records user q reached =
     by_test false other is reached = absurd (false≢true reached)
 
 -- its record is this one then
-pub named-record : (m : Inner) (p : ℕ) (end : EventEnd) (to user : ℕ) (new : Record) → is_reached m.records user to ≡ true → KeepsRecord m p end to (record_at m.records to) new → (q : ℕ) → RecordLeft m p end q (record_of m.records q) (record_of (with_record m.records to new) q)
+pub named-record : (m : Inner) (p : ℕ) (end : EventEnd) (to user : ℕ) (new : Record) → is_reached m.records user to ≡
+    true → KeepsRecord m p end to (record_at m.records to) new → (q : ℕ) → RecordLeft m p end q
+    (record_of m.records q) (record_of (with_record m.records to new) q)
 named-record m p end to user new reached keeps q =
     elim (cases_eq q to) [
       | inl same ↦ subst (λ q. RecordLeft m p end q (record_of m.records q) (record_of (with_record m.records to new) q)) (sym same) at_it
@@ -190,7 +204,8 @@ named-record m p end to user new reached keeps q =
         (subst (RecordLeft m p end to (Some (record_at m.records to))) (sym put) keeps)
 
 -- a wake that comes for it
-pub woken-own : (m : Inner) (p to : ℕ) (memory : MemoryState) → ((q : ℕ) → q ≡ to → GetsWake m p q true) → (q : ℕ) → KeepsOwn m p memory q (own_at m q) (own_at (with_own m to (record (own_at m to) { woken = true })) q)
+pub woken-own : (m : Inner) (p to : ℕ) (memory : MemoryState) → ((q : ℕ) → q ≡ to → GetsWake m p q true) → (q : ℕ)
+    → KeepsOwn m p memory q (own_at m q) (own_at (with_own m to (record (own_at m to) { woken = true })) q)
 woken-own m p to memory calls q =
     elim (cases_eq q to) [
       | inl same ↦ by_place same (cases_lt to (length m.own))
@@ -203,10 +218,13 @@ woken-own m p to memory calls q =
     by_place : q ≡ to → (to < length m.own) ⊎ (length m.own ≤ to) → KeepsOwn m p memory q (own_at m q) (own_at (with_own m to (record (own_at m to) { woken = true })) q)
     by_place same (inl within) =
         subst (λ k. KeepsOwn m p memory q (own_at m k) (own_at (with_own m to (record (own_at m to) { woken = true })) k)) (sym same)
-        (subst (KeepsOwn m p memory q (own_at m to)) (sym (get_or-set_same m.own to (record (own_at m to) { woken = true }) no_own within)) (record { woken = inr (calls q same); primary = inl refl; others = refl }))
+        (subst (KeepsOwn m p memory q (own_at m to))
+        (sym (get_or-set_same m.own to (record (own_at m to) { woken = true }) no_own within))
+        (record { woken = inr (calls q same); primary = inl refl; others = refl }))
     by_place same (inr past) =
         let before : own_at m q ≡ no_own = get_or_past m.own q no_own (rw same past) in
-        let after : own_at (with_own m to (record (own_at m to) { woken = true })) q ≡ no_own = get_or_past (slice_set m.own to (record (own_at m to) { woken = true })) q no_own (rw (length-set, same) past) in
+        let after : own_at (with_own m to (record (own_at m to) { woken = true })) q ≡ no_own = get_or_past
+        (slice_set m.own to (record (own_at m to) { woken = true })) q no_own (rw (length-set, same) past) in
         subst (λ own. KeepsOwn m p memory q own (own_at (with_own m to (record (own_at m to) { woken = true })) q)) (sym before)
         (subst (KeepsOwn m p memory q no_own) (sym after) (record { woken = inl refl; primary = inl refl; others = refl }))
 
@@ -263,7 +281,9 @@ pub exit-record : (m : Inner) (p status q : ℕ) → q ≢ p → RecordLeft m p 
 exit-record m p status q differ =
     subst (RecordLeft m p Ended q (record_of m.records q)) (sym (exit-other m.records p status q differ)) (by_place (record_of m.records q))
   where
-    by_tests : (r : Record) (child ended : Bool) → is_child p r ≡ child → has_ended r.life ≡ ended → RecordLeft m p Ended q (Some r) (if not child then Some r else (if ended then None else Some (record r { parent = record { 0 = 0 } })))
+    by_tests : (r : Record) (child ended : Bool) → is_child p r ≡ child → has_ended r.life ≡ ended
+        → RecordLeft m p Ended q (Some r) (if not child then Some r else (if ended then None else Some
+        (record r { parent = record { 0 = 0 } })))
     by_tests r false ended child_is ended_is = record-same m p Ended q (Some r)
     by_tests r true true child_is ended_is =
         record { child = eqb-true _ _ child_is; had_ended = ended_is; cause = inr refl }
@@ -296,7 +316,10 @@ module _ (m : Inner) (p : ℕ) where
       rw no refl
   turns-with (t ∷ order) pid priority none = by_test (is_other t) (turns-with order pid priority none)
     where
-      by_test : (test : Bool) → turns_of_others m p (with_turn order pid priority) ≡ turns_of_others m p order → (if test then t ∷ turns_of_others m p (with_turn order pid priority) else turns_of_others m p (with_turn order pid priority)) ≡ (if test then t ∷ turns_of_others m p order else turns_of_others m p order)
+      by_test : (test : Bool) → turns_of_others m p (with_turn order pid priority) ≡ turns_of_others m p order
+          → (if test then t ∷ turns_of_others m p (with_turn order pid priority) else turns_of_others m p
+          (with_turn order pid priority)) ≡ (if test then t ∷ turns_of_others m p order else turns_of_others m p
+          order)
       by_test true rest = ap (λ turns. t ∷ turns) rest
       by_test false rest = rest
 
@@ -305,7 +328,10 @@ module _ (m : Inner) (p : ℕ) where
   turns-without [] = refl
   turns-without (t ∷ order) = by_tests (t.process.0 == p) (is_some (record_of m.records t.process.0)) refl refl (turns-without order)
     where
-      by_tests : (it there : Bool) → (t.process.0 == p) ≡ it → is_some (record_of m.records t.process.0) ≡ there → turns_of_others m p (without_turn order p) ≡ turns_of_others m p order → turns_of_others m p (if not it then t ∷ without_turn order p else without_turn order p) ≡ (if not it && there then t ∷ turns_of_others m p order else turns_of_others m p order)
+      by_tests : (it there : Bool) → (t.process.0 == p) ≡ it → is_some (record_of m.records t.process.0) ≡ there
+          → turns_of_others m p (without_turn order p) ≡ turns_of_others m p order → turns_of_others m p
+          (if not it then t ∷ without_turn order p else without_turn order p) ≡ (if not it && there then t ∷
+          turns_of_others m p order else turns_of_others m p order)
       by_tests true there is_it is_there rest = rest
       by_tests false true is_it is_there rest = rw (is_it, is_there) (ap (λ turns. t ∷ turns) rest)
       by_tests false false is_it is_there rest = rw (is_it, is_there) rest

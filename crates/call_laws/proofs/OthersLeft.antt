@@ -29,7 +29,9 @@ module _ (call : IoCall) (m : Inner) (old new : Io) (drives p : ℕ) (result : C
   attempt-leaves = record {
     numbers = λ q differ. ap (λ (io : Io). numbers_of io.paths q) attempt.state ∙ effect-left.paths.numbers q differ;
     paths =
-        λ q n opened differ is. ap (λ (io : Io). open_path io q n) attempt.state ∙ open-stays old attempt.effect.io q n opened (effect-left.paths.numbers q differ) (λ path d named there. effect-left.paths.descs q n path d named differ there) is;
+        λ q n opened differ is. ap (λ (io : Io). open_path io q n) attempt.state ∙ open-stays old attempt.effect.io q
+        n opened (effect-left.paths.numbers q differ) (λ path d named there. effect-left.paths.descs q n path d
+        named differ there) is;
     calls =
         λ q differ. ap (λ (io : Io). kept_at io q) attempt.state ∙ get_or-set_other attempt.effect.io.calls p q (kept_in attempt.effect.end) None differ ∙ effect-left.calls q differ;
   }

@@ -38,7 +38,8 @@ pub left-then : (p : ℕ) (a b c : PathTable) → PathsLeft p a b → PathsLeft 
 left-then p a b c first next = record {
   numbers = λ q differ. next.numbers q differ ∙ first.numbers q differ;
   descs =
-      λ q n s d named differ there. next.descs q n s d (ap (λ (numbers : List (Option SysPath)). slice_index_or numbers n None) (first.numbers q differ) ∙ named) differ (first.descs q n s d named differ there);
+      λ q n s d named differ there. next.descs q n s d (ap (λ (numbers : List (Option SysPath)). slice_index_or
+      numbers n None) (first.numbers q differ) ∙ named) differ (first.descs q n s d named differ there);
 }
 
 -- its numbers change
@@ -49,7 +50,8 @@ left-numbers p paths numbers = record {
 }
 
 -- a descriptor that no process holds changes
-left-desc : (p : ℕ) (paths : PathTable) (s : ℕ) (desc : Option Desc) → ((q n : ℕ) (t : SysPath) (d : Desc) → slot_of paths q n ≡ Some t → desc_of paths t.0 ≡ Some d → t.0 ≢ s) → PathsLeft p paths (with_desc paths s desc)
+left-desc : (p : ℕ) (paths : PathTable) (s : ℕ) (desc : Option Desc) → ((q n : ℕ) (t : SysPath) (d : Desc)
+    → slot_of paths q n ≡ Some t → desc_of paths t.0 ≡ Some d → t.0 ≢ s) → PathsLeft p paths (with_desc paths s desc)
 left-desc p paths s desc apart = record {
   numbers = λ q differ. refl;
   descs =
@@ -159,7 +161,11 @@ io-call p io kept = record {
 }
 
 -- a terminal changes, and keeps what others read there
-pub reading-set : (io : Io) (n : ℕ) (terminal : Terminal) (Keeps : ℕ → Terminal → Terminal → Type 0) → ((k : ℕ) → k ≢ n → Keeps k (terminal_at io k) (terminal_at io k)) → (q : ℕ) → (reader (terminal_at io n) ≡ Some (pid q) → Keeps n (terminal_at io n) terminal) → (k : ℕ) → reader (terminal_at io k) ≡ Some (pid q) → Keeps k (terminal_at io k) (terminal_at (with_terminal io n terminal) k)
+pub reading-set : (io : Io) (n : ℕ) (terminal : Terminal) (Keeps : ℕ → Terminal → Terminal → Type 0)
+    → ((k : ℕ) → k ≢ n → Keeps k (terminal_at io k) (terminal_at io k)) → (q : ℕ)
+    → (reader (terminal_at io n) ≡ Some (pid q) → Keeps n (terminal_at io n) terminal) → (k : ℕ)
+    → reader (terminal_at io k) ≡ Some (pid q) → Keeps k (terminal_at io k) (terminal_at (with_terminal io n terminal)
+    k)
 reading-set io n terminal Keeps stays q keeps k is =
     elim (cases_eq k n) [
       | inl same ↦ subst (λ (k : ℕ). Keeps k (terminal_at io k) (terminal_at (with_terminal io n terminal) k)) (sym same) (at_it (ap (λ (k : ℕ). reader (terminal_at io k)) (sym same) ∙ is))
@@ -173,7 +179,8 @@ reading-set io n terminal Keeps stays q keeps k is =
           | inr past ↦ absurd (none-some (pid q) (sym (ap reader (get_or_past io.terminals n new_terminal past)) ∙ is))
         ]
 
-pub io-terminal : (p : ℕ) (io : Io) (n : ℕ) (terminal : Terminal) → ((q : ℕ) → q ≢ p → reader (terminal_at io n) ≡ Some (pid q) → KeepsReading (terminal_at io n) terminal) → IoLeft p io (with_terminal io n terminal)
+pub io-terminal : (p : ℕ) (io : Io) (n : ℕ) (terminal : Terminal) → ((q : ℕ) → q ≢ p → reader (terminal_at io n) ≡
+    Some (pid q) → KeepsReading (terminal_at io n) terminal) → IoLeft p io (with_terminal io n terminal)
 io-terminal p io n terminal keeps = record {
   paths = left-same p io.paths;
   calls = λ q differ. refl;
@@ -264,7 +271,9 @@ io-interrupted p io =
 -- ---- open paths
 
 -- a path that is open stays, where its number and its descriptor stay
-pub open-stays : (old new : Io) (q n : ℕ) (opened : OpenPath) → numbers_of new.paths q ≡ numbers_of old.paths q → ((s : SysPath) (d : Desc) → slot_of old.paths q n ≡ Some s → desc_of old.paths s.0 ≡ Some d → desc_of new.paths s.0 ≡ Some d) → open_path old q n ≡ Some opened → open_path new q n ≡ Some opened
+pub open-stays : (old new : Io) (q n : ℕ) (opened : OpenPath) → numbers_of new.paths q ≡ numbers_of old.paths q
+    → ((s : SysPath) (d : Desc) → slot_of old.paths q n ≡ Some s → desc_of old.paths s.0 ≡ Some d → desc_of new.paths
+    s.0 ≡ Some d) → open_path old q n ≡ Some opened → open_path new q n ≡ Some opened
 open-stays old new q n opened numbers descs is = by_slot (slot_of old.paths q n) refl is
   where
     with_place : SysPath → Option Desc → Option OpenPath

@@ -101,7 +101,9 @@ pub record Walk (P : Io → Type 0) (caller : Caller) (io : Io) (terms : ℕ) : 
   pub dup : P (with_paths io (paths_after_dup io.paths caller.process.0 caller.regs.a))
   pub close : P (after_close io caller.process.0 caller.regs.a)
   pub on_terminal : (terminal : ℕ) → terminal < terms → P (with_paths io (paths_after_begin io.paths caller.process.0 (new_desc (Term terminal) caller.regs.a)))
-  pub on_pipe : (pipe : ℕ) → free_pipe io.pipes ≡ Some pipe → P (with_paths (with_pipes io (pipes_after_begin io.pipes)) (paths_after_begin io.paths caller.process.0 (new_desc (Pipe pipe) caller.regs.a)))
+  pub on_pipe : (pipe : ℕ) → free_pipe io.pipes ≡ Some pipe
+      → P (with_paths (with_pipes io (pipes_after_begin io.pipes)) (paths_after_begin io.paths caller.process.0
+      (new_desc (Pipe pipe) caller.regs.a)))
 
 module _ (call : IoCall) (P : Io → Type 0) (caller : Caller) (io : Io) (terms : ℕ) (walk : Walk P caller io terms) where
   abbrev Left : IoStep → Type 0
@@ -109,7 +111,9 @@ module _ (call : IoCall) (P : Io → Type 0) (caller : Caller) (io : Io) (terms 
 
   -- ---- I$Dup and I$Close
 
-  dup-left : (path : Option SysPath) (free : Option ℕ) → Left (needs path E_BPNUM (λ path. needs free E_PTHFUL (λ number. done (record caller.regs { a = number }) (with_paths io (paths_after_dup io.paths caller.process.0 caller.regs.a)))))
+  dup-left : (path : Option SysPath) (free : Option ℕ)
+      → Left (needs path E_BPNUM (λ path. needs free E_PTHFUL (λ number. done (record caller.regs { a = number })
+      (with_paths io (paths_after_dup io.paths caller.process.0 caller.regs.a)))))
   dup-left None free = tt
   dup-left (Some path) None = tt
   dup-left (Some path) (Some number) = walk.dup
@@ -121,11 +125,16 @@ module _ (call : IoCall) (P : Io → Type 0) (caller : Caller) (io : Io) (terms 
   -- ---- I$Open and I$Create
 
   module _ (list : PathList) where
-    begins-left : (before : Io) (desc : Desc) (number : Option ℕ) → P (with_paths before (paths_after_begin before.paths caller.process.0 desc)) → Left (needs number E_PTHFUL (λ number. done (opened_regs caller.regs list number) (with_paths before (paths_after_begin before.paths caller.process.0 desc))))
+    begins-left : (before : Io) (desc : Desc) (number : Option ℕ)
+        → P (with_paths before (paths_after_begin before.paths caller.process.0 desc))
+        → Left (needs number E_PTHFUL (λ number. done (opened_regs caller.regs list number)
+        (with_paths before (paths_after_begin before.paths caller.process.0 desc))))
     begins-left before desc None given = tt
     begins-left before desc (Some number) given = given
 
-    pipe-left : (pipe : Option ℕ) → free_pipe io.pipes ≡ pipe → Left (needs pipe E_PTHFUL (λ pipe. begins caller (with_pipes io (pipes_after_begin io.pipes)) list (new_desc (Pipe pipe) caller.regs.a)))
+    pipe-left : (pipe : Option ℕ) → free_pipe io.pipes ≡ pipe
+        → Left (needs pipe E_PTHFUL (λ pipe. begins caller (with_pipes io (pipes_after_begin io.pipes)) list
+        (new_desc (Pipe pipe) caller.regs.a)))
     pipe-left None free = tt
     pipe-left (Some pipe) free =
         begins-left (with_pipes io (pipes_after_begin io.pipes)) (new_desc (Pipe pipe) caller.regs.a) (new_number io.paths caller.process.0) (walk.on_pipe pipe free)
@@ -136,7 +145,9 @@ module _ (call : IoCall) (P : Io → Type 0) (caller : Caller) (io : Io) (terms 
     lead-left to_pipe within = pipe-left (free_pipe io.pipes) refl
     lead-left (nowhere number) within = tt
 
-  list-left : (lead : PathList → Lead) → ((list : PathList) → LeadWithin terms (lead list)) → (list : Result PathList NameFault) (allowed : Bool) → Left (reads_list list allowed (λ list. opens_lead caller io list (lead list)))
+  list-left : (lead : PathList → Lead) → ((list : PathList) → LeadWithin terms (lead list))
+      → (list : Result PathList NameFault) (allowed : Bool)
+      → Left (reads_list list allowed (λ list. opens_lead caller io list (lead list)))
   list-left lead within (Ok list) true = lead-left list (lead list) (within list)
   list-left lead within (Ok list) false = tt
   list-left lead within (Err Unreadable) allowed = tt
@@ -145,7 +156,9 @@ module _ (call : IoCall) (P : Io → Type 0) (caller : Caller) (io : Io) (terms 
 
   -- ---- reads and writes
 
-  path-left : (number : ℕ) (is_allowed : ℕ → Bool) (next : OpenPath → IoStep) → ((opened : OpenPath) → open_path io caller.process.0 number ≡ Some opened → Left (next opened)) → Left (on_path caller io number is_allowed next)
+  path-left : (number : ℕ) (is_allowed : ℕ → Bool) (next : OpenPath → IoStep)
+      → ((opened : OpenPath) → open_path io caller.process.0 number ≡ Some opened → Left (next opened))
+      → Left (on_path caller io number is_allowed next)
   path-left number is_allowed next left = by_path (open_path io caller.process.0 number) refl
     where
       by_mode : (opened : OpenPath) → open_path io caller.process.0 number ≡ Some opened → (allowed : Bool) → Left (refuses (not allowed) E_BMODE (next opened))
@@ -160,18 +173,24 @@ module _ (call : IoCall) (P : Io → Type 0) (caller : Caller) (io : Io) (terms 
   nothing-left true next left = walk.same
   nothing-left false next left = left
 
-  read-target : direction_of_call call ≡ Some Reading → (kind : ReadKind) (now : Kept) (target : Target) → ((terminal : ℕ) → target ≡ Term terminal → HasPathOn caller io terminal) → Left (reads_target kind caller io now target)
+  read-target : direction_of_call call ≡ Some Reading → (kind : ReadKind) (now : Kept) (target : Target)
+      → ((terminal : ℕ) → target ≡ Term terminal → HasPathOn caller io terminal)
+      → Left (reads_target kind caller io now target)
   read-target direction kind now (File drive sector) on = tt
   read-target direction kind now (Folder drive sector) on = tt
   read-target direction kind now (Term terminal) on = (direction, on terminal refl)
   read-target direction Bytes now (Pipe pipe) on = walk.pipes _
   read-target direction WholeLine now (Pipe pipe) on = walk.pipes _
 
-  read-left : direction_of_call call ≡ Some Reading → (kind : ReadKind) (code : ℕ) (is_missing : Bool) → Left (refuses is_missing E_BPADDR (on_path caller io caller.regs.a can_read (λ opened. unless_nothing caller io (reads_target kind caller io (call_now caller io code opened caller.regs.y) opened.desc.target))))
+  read-left : direction_of_call call ≡ Some Reading → (kind : ReadKind) (code : ℕ) (is_missing : Bool)
+      → Left (refuses is_missing E_BPADDR (on_path caller io caller.regs.a can_read (λ opened. unless_nothing caller
+      io (reads_target kind caller io (call_now caller io code opened caller.regs.y) opened.desc.target))))
   read-left direction kind code true = tt
   read-left direction kind code false =
       path-left caller.regs.a can_read (λ opened. unless_nothing caller io (reads_target kind caller io (call_now caller io code opened caller.regs.y) opened.desc.target))
-      (λ opened is. nothing-left (caller.regs.y == 0) (reads_target kind caller io (call_now caller io code opened caller.regs.y) opened.desc.target) (read-target direction kind (call_now caller io code opened caller.regs.y) opened.desc.target (λ terminal on. (caller.regs.a, opened, is, on))))
+      (λ opened is. nothing-left (caller.regs.y == 0) (reads_target kind caller io (call_now caller io code opened
+      caller.regs.y) opened.desc.target) (read-target direction kind (call_now caller io code opened
+      caller.regs.y) opened.desc.target (λ terminal on. (caller.regs.a, opened, is, on))))
 
   module _ (direction : direction_of_call call ≡ Some Writing) where
     write-target : (sending : Sending) (now : Kept) (target : Target) → ((terminal : ℕ) → target ≡ Term terminal → HasPathOn caller io terminal) → Left (writes_target sending caller io now target)
@@ -181,11 +200,15 @@ module _ (call : IoCall) (P : Io → Type 0) (caller : Caller) (io : Io) (terms 
     write-target sending now (Pipe pipe) on = walk.pipes _
 
     -- the bytes are there, and are sent
-    send-left : (sending : List ℕ → Sending) (code : ℕ) (bytes : Option (List ℕ)) → Left (needs bytes E_BPADDR (λ bytes. on_path caller io caller.regs.a can_write (λ opened. unless_nothing caller io (sends_on (sending bytes) code caller io opened))))
+    send-left : (sending : List ℕ → Sending) (code : ℕ) (bytes : Option (List ℕ))
+        → Left (needs bytes E_BPADDR (λ bytes. on_path caller io caller.regs.a can_write
+        (λ opened. unless_nothing caller io (sends_on (sending bytes) code caller io opened))))
     send-left sending code None = tt
     send-left sending code (Some bytes) =
         path-left caller.regs.a can_write (λ opened. unless_nothing caller io (sends_on (sending bytes) code caller io opened))
-        (λ opened is. nothing-left (caller.regs.y == 0) (sends_on (sending bytes) code caller io opened) (write-target (sending bytes) (call_now caller io code opened (length (sending bytes).bytes)) opened.desc.target (λ terminal on. (caller.regs.a, opened, is, on))))
+        (λ opened is. nothing-left (caller.regs.y == 0) (sends_on (sending bytes) code caller io opened)
+        (write-target (sending bytes) (call_now caller io code opened (length (sending bytes).bytes))
+        opened.desc.target (λ terminal on. (caller.regs.a, opened, is, on))))
 
     error-left : Left (f_perr caller io)
     error-left =
@@ -202,7 +225,8 @@ module _ (call : IoCall) (P : Io → Type 0) (caller : Caller) (io : Io) (terms 
   ready-left target true = tt
   ready-left target false = walk.same
 
-  status-by : (target : Target) (opt ready end : Bool) → Left (if opt then gets_options caller io target else (if ready then gets_ready caller io target else (if end then gets_end caller io target else refused E_UNKSVC)))
+  status-by : (target : Target) (opt ready end : Bool) → Left (if opt then gets_options caller io target else
+      (if ready then gets_ready caller io target else (if end then gets_end caller io target else refused E_UNKSVC)))
   status-by target true ready end = options-left target (is_none (user_bytes caller.cells caller.regs.x OPTION_BYTES))
   status-by target false true end = ready-left target (ready_count io target == 0)
   status-by target false false true = walk.same
@@ -222,9 +246,13 @@ pub step-gives : (call : IoCall) (P : Io → Type 0) (caller : Caller) (io : Io)
 step-gives Call.Dup P caller io drives terms walk =
     dup-left Call.Dup P caller io terms walk (slot_of io.paths caller.process.0 caller.regs.a) (free_number io.paths caller.process.0)
 step-gives Call.Create P caller io drives terms walk =
-    list-left Call.Create P caller io terms walk (λ list. lead_of a_new_place drives terms list) (λ list. lead-within drives terms a_new_place list) (path_list caller.cells caller.regs.x) (can_write caller.regs.a)
+    list-left Call.Create P caller io terms walk (λ list. lead_of a_new_place drives terms list)
+    (λ list. lead-within drives terms a_new_place list) (path_list caller.cells caller.regs.x)
+    (can_write caller.regs.a)
 step-gives Call.Open P caller io drives terms walk =
-    list-left Call.Open P caller io terms walk (λ list. lead_of what_is_there drives terms list) (λ list. lead-within drives terms what_is_there list) (path_list caller.cells caller.regs.x) (is_mode caller.regs.a)
+    list-left Call.Open P caller io terms walk (λ list. lead_of what_is_there drives terms list)
+    (λ list. lead-within drives terms what_is_there list) (path_list caller.cells caller.regs.x)
+    (is_mode caller.regs.a)
 step-gives Call.Close P caller io drives terms walk =
     close-left Call.Close P caller io terms walk (slot_of io.paths caller.process.0 caller.regs.a)
 step-gives Call.Read P caller io drives terms walk =

@@ -93,7 +93,8 @@ before-months : (t : CivilTime) (m : ℕ) → AreParts t → t.month ≤ m → d
 before-months t m parts less =
     let year = 1900 + t.years in
     let days : days_of_months year (t.month - 1) + month_days year t.month ≤ days_of_months year m =
-    subst (λ (k : ℕ). days_of_months year (t.month - 1) + month_days year k ≤ days_of_months year m) (suc-back t.month parts.month_least) (months-later year (t.month - 1) m (omega (arith, parts.month_least))) in
+    subst (λ (k : ℕ). days_of_months year (t.month - 1) + month_days year k ≤ days_of_months year m)
+    (suc-back t.month parts.month_least) (months-later year (t.month - 1) m (omega (arith, parts.month_least))) in
     omega (arith, parts.day_least, parts.day_most)
 
 -- a date lies before the years that follow its own

@@ -15,12 +15,20 @@ use Rattle.command_files.specs.Reading.{HasBootFiles, HasRunFiles}
 use Rattle.command_files.specs.Setup.{script_of}
 
 -- the words name the file as this input, by a name that is known
-pub stopped-as : {Value : Type 0} (answer : Result Value End) (input : Input) (name : List ℕ) (given : Option (List ℕ)) (before after : Outside → World) (name_of : Input → Option (List ℕ)) → name_of input ≡ given → given ≡ Some name → IfErr answer (λ end. (devices : Outside) (name_of : Input → Option (List ℕ)) → name_of input ≡ Some name → StopsAtRead name_of (before devices) (after devices) end) → IfErr answer (λ end. (devices : Outside) → StopsAtRead name_of (before devices) (after devices) end)
+pub stopped-as : {Value : Type 0} (answer : Result Value End) (input : Input) (name : List ℕ)
+    (given : Option (List ℕ)) (before after : Outside → World) (name_of : Input → Option (List ℕ))
+    → name_of input ≡ given → given ≡ Some name → IfErr answer (λ end. (devices : Outside) (name_of : Input
+    → Option (List ℕ)) → name_of input ≡ Some name → StopsAtRead name_of (before devices) (after devices) end)
+    → IfErr answer (λ end. (devices : Outside) → StopsAtRead name_of (before devices) (after devices) end)
 stopped-as (Ok value) input name given before after name_of named is ended = tt
 stopped-as (Err end) input name given before after name_of named is ended = λ devices. ended devices name_of (named ∙ is)
 
 -- the three files were read
-pub has-files : (told : Option Files) (run : RunWords) (read : RunFiles) (name : List ℕ) → slice_get run.files 0 ≡ Some name → IfSome told (λ files. read.script.items ≡ script_of files run) → IfSome told (λ files. read.slices.items ≡ file_contents files run.slices) → IfSome told (λ files. read.modules.items ≡ file_contents files name) → IfSome told (λ files. HasRunFiles files run read)
+pub has-files : (told : Option Files) (run : RunWords) (read : RunFiles) (name : List ℕ) → slice_get run.files 0 ≡
+    Some name → IfSome told (λ files. read.script.items ≡ script_of files run)
+    → IfSome told (λ files. read.slices.items ≡ file_contents files run.slices)
+    → IfSome told (λ files. read.modules.items ≡ file_contents files name)
+    → IfSome told (λ files. HasRunFiles files run read)
 has-files None run read name named script slices modules = tt
 has-files (Some files) run read name named script slices modules = record {
   script = script;
@@ -29,12 +37,19 @@ has-files (Some files) run read name named script slices modules = record {
 }
 
 -- the files of a boot were read
-pub has-boot-files : (told : Option Files) (boot : RunWords) (read : BootFiles) → IfSome told (λ files. read.script.items ≡ script_of files boot) → IfSome told (λ files. read.slices.items ≡ file_contents files boot.slices) → IfSome told (λ files. read.images ≡ images_of files boot.files) → IfSome told (λ files. HasBootFiles files boot read)
+pub has-boot-files : (told : Option Files) (boot : RunWords) (read : BootFiles)
+    → IfSome told (λ files. read.script.items ≡ script_of files boot)
+    → IfSome told (λ files. read.slices.items ≡ file_contents files boot.slices)
+    → IfSome told (λ files. read.images ≡ images_of files boot.files) → IfSome told (λ files. HasBootFiles files boot
+    read)
 has-boot-files None boot read script slices images = tt
 has-boot-files (Some files) boot read script slices images = record { script = script; slices = slices; images = images }
 
 -- one image more was read
-pub images-more : (told : Option Files) (names images : List (List ℕ)) (place : ℕ) (name image : List ℕ) → slice_get names place ≡ Some name → IfSome told (λ files. images ≡ images_of files (take place names)) → IfSome told (λ files. image ≡ file_contents files name) → IfSome told (λ files. images ++ image ∷ [] ≡ images_of files (take (suc place) names))
+pub images-more : (told : Option Files) (names images : List (List ℕ)) (place : ℕ) (name image : List ℕ)
+    → slice_get names place ≡ Some name → IfSome told (λ files. images ≡ images_of files (take place names))
+    → IfSome told (λ files. image ≡ file_contents files name) → IfSome told (λ files. images ++ image ∷ [] ≡ images_of
+    files (take (suc place) names))
 images-more None names images place name image named so_far here = tt
 images-more (Some files) names images place name image named so_far here =
     rw (so_far, here) (by names place named)

@@ -45,8 +45,16 @@ stream-with-none (Some bytes) = ap Some (sym (append-nil bytes))
 
 -- ---- what is left
 
-module _ {Value : Type 0} (name bytes : List ℕ) (before after : World) (others : IfObserved (λ before now. (other : List ℕ) → other ≢ name → now other ≡ before other) before.files after.files) (part : IfObserved (λ before now. KeepsOrHoldsPrefix (before name) bytes (now name)) before.files after.files) (out : after.out ≡ before.out) (devices : after.devices ≡ before.devices) where
-  pub wrote-output : (answer : Result Value HostFault) → OnOk answer (IfObserved (λ before now. now name ≡ Some bytes) before.files after.files) → OnFailed answer (Rose before.faults after.faults) → OnFailed answer (after.failed_name ≡ Some name) → OnFailed answer (after.failed_in_read ≡ false) → UnlessFailed answer (after.faults ≡ before.faults) → UnlessFailed answer (after.failed_name ≡ before.failed_name) → UnlessFailed answer (after.failed_in_read ≡ before.failed_in_read) → WritesOutput name bytes answer before after
+module _ {Value : Type 0} (name bytes : List ℕ) (before after : World)
+    (others : IfObserved (λ before now. (other : List ℕ) → other ≢ name → now other ≡ before other) before.files
+    after.files) (part : IfObserved (λ before now. KeepsOrHoldsPrefix (before name) bytes (now name)) before.files
+    after.files) (out : after.out ≡ before.out) (devices : after.devices ≡ before.devices) where
+  pub wrote-output : (answer : Result Value HostFault) → OnOk answer (IfObserved (λ before now. now name ≡ Some bytes)
+      before.files after.files) → OnFailed answer (Rose before.faults after.faults)
+      → OnFailed answer (after.failed_name ≡ Some name) → OnFailed answer (after.failed_in_read ≡ false)
+      → UnlessFailed answer (after.faults ≡ before.faults) → UnlessFailed answer
+      (after.failed_name ≡ before.failed_name) → UnlessFailed answer (after.failed_in_read ≡ before.failed_in_read)
+      → WritesOutput name bytes answer before after
   wrote-output (Ok value) written rose named in_write count kept_name kept_read = record {
     written = written-one name bytes before.files after.files others written;
     part = tt;
@@ -72,7 +80,9 @@ module _ {Value : Type 0} (name bytes : List ℕ) (before after : World) (others
     devices = devices;
   }
 
-pub noted-output : {Value : Type 0} (name : List ℕ) (before after : Notes) → after.read ≡ before.read → after.err ≡ before.err → after.err_faults ≡ before.err_faults → (answer : Result Value HostFault) → NotesName answer name before.written after.written → NotesOutput name answer before after
+pub noted-output : {Value : Type 0} (name : List ℕ) (before after : Notes) → after.read ≡ before.read
+    → after.err ≡ before.err → after.err_faults ≡ before.err_faults → (answer : Result Value HostFault)
+    → NotesName answer name before.written after.written → NotesOutput name answer before after
 noted-output name before after read err err_faults (Ok value) written = noted-one name before after read err err_faults written
 noted-output name before after read err err_faults (Err Failed) written = noted-one name before after read err err_faults written
 noted-output name before after read err err_faults (Err OutOfMemory) written = noted-or-not name before after read err err_faults written

@@ -40,7 +40,9 @@ pub written-none : (notes : Notes) → HasWritten [] notes notes
 written-none notes = record { is = ap (λ names. with_names notes notes.read names) (sym (append-nil notes.written)) }
 
 -- the file of this name was read
-pub noted-read : (name : List ℕ) (before after : Notes) → after.read ≡ before.read ++ name ∷ [] → after.written ≡ before.written → after.err ≡ before.err → after.err_faults ≡ before.err_faults → HasRead (name ∷ []) before after
+pub noted-read : (name : List ℕ) (before after : Notes) → after.read ≡ before.read ++ name ∷ []
+    → after.written ≡ before.written → after.err ≡ before.err → after.err_faults ≡ before.err_faults
+    → HasRead (name ∷ []) before after
 noted-read name before after read written err err_faults =
     record { is = λ i. record { read = read i; written = written i; err = err i; err_faults = err_faults i } }
 
@@ -97,7 +99,9 @@ module _ (name_of : Input → Option (List ℕ)) (first next : Notes) where
     noted = noted;
   }
 
-  pub stop-memory : (name : List ℕ) → (next.read ≡ first.read) ⊎ (next.read ≡ first.read ++ name ∷ []) → next.written ≡ first.written → next.err ≡ first.err → next.err_faults ≡ first.err_faults → NotesStop name_of (name ∷ []) NoMemory first next
+  pub stop-memory : (name : List ℕ) → (next.read ≡ first.read) ⊎ (next.read ≡ first.read ++ name ∷ [])
+      → next.written ≡ first.written → next.err ≡ first.err → next.err_faults ≡ first.err_faults → NotesStop name_of
+      (name ∷ []) NoMemory first next
   stop-memory name (inl read) written err err_faults =
       let same : next ≡ first = λ i. record { read = read i; written = written i; err = err i; err_faults = err_faults i } in
       record { read = []; stops = (name ∷ [], refl); noted = record { is = same ∙ (read-none first).is } }
@@ -124,9 +128,12 @@ module _ (n : ℕ) (names : List (List ℕ)) (name : List ℕ) (named : slice_ge
       subst (λ front. HasRead front first next) (sym (take-suc n names name named)) (read-then (take n names) (name ∷ []) first mid next one two)
 
   -- one of them could not be read
-  pub stop-at : (name_of : Input → Option (List ℕ)) (end : End) (first mid next : Notes) → HasRead (take n names) first mid → NotesStop name_of (name ∷ []) end mid next → NotesStop name_of names end first next
+  pub stop-at : (name_of : Input → Option (List ℕ)) (end : End) (first mid next : Notes) → HasRead (take n names)
+      first mid → NotesStop name_of (name ∷ []) end mid next → NotesStop name_of names end first next
   stop-at name_of end first mid next one stopped =
-      subst (λ names. NotesStop name_of names end first next) (sym parts-at) (stop-before name_of first next (take n names ++ name ∷ []) (drop (suc n) names) end (stop-behind name_of first mid next (take n names) (name ∷ []) end one stopped))
+      subst (λ names. NotesStop name_of names end first next) (sym parts-at) (stop-before name_of first next
+      (take n names ++ name ∷ []) (drop (suc n) names) end (stop-behind name_of first mid next (take n names)
+      (name ∷ []) end one stopped))
 
   -- memory was out behind the read of one of them
   pub stop-behind-read : (name_of : Input → Option (List ℕ)) (first mid next : Notes) → HasRead (take n names) first mid → HasRead (name ∷ []) mid next → NotesStop name_of names NoMemory first next
@@ -161,10 +168,14 @@ module _ {Value : Type 0} (answer : Result Value End) (run : RunWords) (name : L
       by (Ok value) noted = subst (λ names. HasRead names first next) (sym script-is) noted
       by (Err end) noted = tt
 
-  pub script-stopped : IfErr answer (λ end. (name_of : Input → Option (List ℕ)) → name_of Script ≡ Some name → NotesStop name_of (name ∷ []) end first next) → IfErr answer (λ end. NotesStop (run_file_name run) (script_names run) end first next)
+  pub script-stopped : IfErr answer (λ end. (name_of : Input → Option (List ℕ)) → name_of Script ≡ Some name
+      → NotesStop name_of (name ∷ []) end first next) → IfErr answer (λ end. NotesStop (run_file_name run)
+      (script_names run) end first next)
   script-stopped stopped = by answer stopped
     where
-      by : (answer : Result Value End) → IfErr answer (λ end. (name_of : Input → Option (List ℕ)) → name_of Script ≡ Some name → NotesStop name_of (name ∷ []) end first next) → IfErr answer (λ end. NotesStop (run_file_name run) (script_names run) end first next)
+      by : (answer : Result Value End) → IfErr answer (λ end. (name_of : Input → Option (List ℕ))
+          → name_of Script ≡ Some name → NotesStop name_of (name ∷ []) end first next)
+          → IfErr answer (λ end. NotesStop (run_file_name run) (script_names run) end first next)
       by (Ok value) stopped = tt
       by (Err end) stopped =
           subst (λ names. NotesStop (run_file_name run) names end first next) (sym script-is) (stopped (run_file_name run) is)

@@ -55,7 +55,8 @@ out-of-memory boot typed from to before after same = record {
     by (Some files) = inl (still-undone before after same)
 
 -- an image could not be read, or memory was out
-pub console-stopped : (boot : RunWords) (typed : Typed) (keyboard : KeyboardState) (before after : World) (end : End) → StopsAtRead (run_file_name boot) before after end → ConsoleCall boot typed end keyboard keyboard before after
+pub console-stopped : (boot : RunWords) (typed : Typed) (keyboard : KeyboardState) (before after : World) (end : End)
+    → StopsAtRead (run_file_name boot) before after end → ConsoleCall boot typed end keyboard keyboard before after
 console-stopped boot typed keyboard before after (CannotRead input) (name, named, it) = record {
   comes = by before.files;
   may = tt;
@@ -72,14 +73,19 @@ console-stopped boot typed keyboard before after NoMemory same = out-of-memory b
 console-stopped boot typed keyboard before after end stops = absurd stops
 
 -- what follows of the images that were read
-of-files : (told : Option Files) (boot : RunWords) (images : List (List ℕ)) (fact : Files → Type 0) → IfSome told (λ files. images ≡ images_of files boot.files) → ((files : Files) → images ≡ images_of files boot.files → fact files) → IfSome told fact
+of-files : (told : Option Files) (boot : RunWords) (images : List (List ℕ)) (fact : Files → Type 0)
+    → IfSome told (λ files. images ≡ images_of files boot.files)
+    → ((files : Files) → images ≡ images_of files boot.files → fact files) → IfSome told fact
 of-files None boot images fact has follows = tt
 of-files (Some files) boot images fact has follows = follows files has
 
 -- the images were refused
-pub console-refused : (boot : RunWords) (typed : Typed) (keyboard : KeyboardState) (before after : World) (end : End) (images : List (List ℕ)) → after ≡ before → IfSome before.files (λ files. images ≡ images_of files boot.files) → RefusesImages images end → ConsoleCall boot typed end keyboard keyboard before after
+pub console-refused : (boot : RunWords) (typed : Typed) (keyboard : KeyboardState) (before after : World) (end : End)
+    (images : List (List ℕ)) → after ≡ before → IfSome before.files (λ files. images ≡ images_of files boot.files)
+    → RefusesImages images end → ConsoleCall boot typed end keyboard keyboard before after
 console-refused boot typed keyboard before after (BadImage number fault) images same has refused = record {
-  comes = of-files before.files boot images (λ files. ConsoleComesTo files boot typed keyboard keyboard before after (BadImage number fault)) has (λ files is. subst (λ images. IsFirstFault images number fault) is refused);
+  comes = of-files before.files boot images (λ files. ConsoleComesTo files boot typed keyboard keyboard before after
+      (BadImage number fault)) has (λ files is. subst (λ images. IsFirstFault images number fault) is refused);
   may = tt;
   keyboard = refl;
   devices = still-silent before after same;
@@ -115,7 +121,9 @@ may-end (TerminalFailed n) of = absurd of
 may-end end of = tt
 
 -- what was written behind it is not part of the session
-leaves-then : (setup : Setup) (images : List (List ℕ)) (typed : Typed) (before mid after : World) (turns : List TypedTurn) (t : State) → after.out ≡ mid.out → after.devices ≡ mid.devices → LeavesSession setup images typed before mid turns t → LeavesSession setup images typed before after turns t
+leaves-then : (setup : Setup) (images : List (List ℕ)) (typed : Typed) (before mid after : World)
+    (turns : List TypedTurn) (t : State) → after.out ≡ mid.out → after.devices ≡ mid.devices → LeavesSession setup
+    images typed before mid turns t → LeavesSession setup images typed before after turns t
 leaves-then setup images typed before mid after turns t out devices it = record {
   s = it.s;
   starts = it.starts;
@@ -125,7 +133,10 @@ leaves-then setup images typed before mid after turns t out devices it = record 
   volumes = it.volumes;
 }
 
-stops-then : (setup : Setup) (images : List (List ℕ)) (typed : Typed) (lives : Bool) (stop : Stop) (from to : KeyboardState) (before mid after : World) → after.out ≡ mid.out → after.devices ≡ mid.devices → StopsSession (LeavesSession setup images typed before mid) lives stop from to → StopsSession (LeavesSession setup images typed before after) lives stop from to
+stops-then : (setup : Setup) (images : List (List ℕ)) (typed : Typed) (lives : Bool) (stop : Stop)
+    (from to : KeyboardState) (before mid after : World) → after.out ≡ mid.out → after.devices ≡ mid.devices
+    → StopsSession (LeavesSession setup images typed before mid) lives stop from to
+    → StopsSession (LeavesSession setup images typed before after) lives stop from to
 stops-then setup images typed lives stop from to before mid after out devices it = record {
   turns = it.turns;
   t = it.t;
@@ -142,7 +153,9 @@ module _ (setup : Setup) (typed : Typed) (names images : List (List ℕ)) (from 
   none-refused TooLargeFault = tt
 
   -- it ran to its end, and its images were written
-  ends-as : (lives : Bool) → (All IsObserved before.devices.terms → StopsSession (LeavesSession setup images typed before mid) lives Stop.Over from to) → after.out ≡ mid.out → after.devices ≡ mid.devices → IfObserved (WritesAll names images) mid.files after.files
+  ends-as : (lives : Bool) → (All IsObserved before.devices.terms → StopsSession (LeavesSession setup images typed
+      before mid) lives Stop.Over from to) → after.out ≡ mid.out → after.devices ≡ mid.devices
+      → IfObserved (WritesAll names images) mid.files after.files
       → All IsObserved before.devices.terms → EndsAsSession setup names typed lives from to before after
   ends-as lives it out devices wrote told = record {
     images = images;
@@ -151,7 +164,9 @@ module _ (setup : Setup) (typed : Typed) (names images : List (List ℕ)) (from 
   }
 
   -- or up to one
-  ends-part : (lives : Bool) → (All IsObserved before.devices.terms → StopsSession (LeavesSession setup images typed before mid) lives Stop.Over from to) → after.out ≡ mid.out → after.devices ≡ mid.devices → (number : ℕ) → IfObserved (WritesUpTo number names images) mid.files after.files
+  ends-part : (lives : Bool) → (All IsObserved before.devices.terms → StopsSession (LeavesSession setup images typed
+      before mid) lives Stop.Over from to) → after.out ≡ mid.out → after.devices ≡ mid.devices → (number : ℕ)
+      → IfObserved (WritesUpTo number names images) mid.files after.files
       → All IsObserved before.devices.terms → EndsUnwritten setup names typed number from to before after
   ends-part lives it out devices number wrote told = record {
     lives = lives;
@@ -161,16 +176,22 @@ module _ (setup : Setup) (typed : Typed) (names images : List (List ℕ)) (from 
   }
 
   was-written : (end : End) → (after.out ≡ mid.out → after.devices ≡ mid.devices → IfObserved (WritesAll names images) mid.files after.files → WasSession setup names typed from to before after end)
-      → (after.out ≡ mid.out → after.devices ≡ mid.devices → (number : ℕ) → IfObserved (WritesUpTo number names images) mid.files after.files → WasSession setup names typed from to before after (CannotWriteImage number))
+      → (after.out ≡ mid.out → after.devices ≡ mid.devices → (number : ℕ)
+      → IfObserved (WritesUpTo number names images) mid.files after.files → WasSession setup names typed from to
+      before after (CannotWriteImage number))
       → WritesBack names images end answer mid after → WasSession setup names typed from to before after answer
   was-written end was part wrote = by wrote.files
     where
-      by : ((answer ≡ end) × HasNoFault mid after × IfObserved (WritesAll names images) mid.files after.files) ⊎ ((number : ℕ) × StopsAt names images number answer mid after) → WasSession setup names typed from to before after answer
+      by : ((answer ≡ end) × HasNoFault mid after × IfObserved (WritesAll names images) mid.files after.files) ⊎
+          ((number : ℕ) × StopsAt names images number answer mid after) → WasSession setup names typed from to before
+          after answer
       by (inl (is, kept, all)) = subst (WasSession setup names typed from to before after) (sym is) (was wrote.out_kept wrote.devices_kept all)
       by (inr (number, (written, inl (is, failed)))) = subst (WasSession setup names typed from to before after) (sym is) (part wrote.out_kept wrote.devices_kept number written)
       by (inr (number, (written, inr (is, kept)))) = subst (WasSession setup names typed from to before after) (sym is) tt
 
-  was-session : (end : RunEnd) → (All IsObserved before.devices.terms → IsSessionTo (LeavesSession setup images typed before mid) (OfRun end) from to) → EndsBoot names images end answer mid after → WasSession setup names typed from to before after answer
+  was-session : (end : RunEnd) → (All IsObserved before.devices.terms → IsSessionTo (LeavesSession setup images typed
+      before mid) (OfRun end) from to) → EndsBoot names images end answer mid after → WasSession setup names typed
+      from to before after answer
   was-session (Run.Ended begun) it ends = was-written Ended (λ out devices wrote. ends-as false it out devices wrote) (λ out devices number wrote. ends-part false it out devices number wrote) ends
   was-session (Run.Living begun) it ends = was-written Living (λ out devices wrote. ends-as true it out devices wrote) (λ out devices number wrote. ends-part true it out devices number wrote) ends
   was-session (Run.Refused fault) it (is, same) = subst (WasSession setup names typed from to before after) (sym is) (none-refused fault)
@@ -184,7 +205,8 @@ module _ (names images : List (List ℕ)) (from to : KeyboardState) (mid after :
   written-asked : (end : End) → LeavesKeyboard end from to → WritesBack names images end answer mid after → LeavesKeyboard answer from to
   written-asked end asked wrote = by wrote.files
     where
-      by : ((answer ≡ end) × HasNoFault mid after × IfObserved (WritesAll names images) mid.files after.files) ⊎ ((number : ℕ) × StopsAt names images number answer mid after) → LeavesKeyboard answer from to
+      by : ((answer ≡ end) × HasNoFault mid after × IfObserved (WritesAll names images) mid.files after.files) ⊎
+          ((number : ℕ) × StopsAt names images number answer mid after) → LeavesKeyboard answer from to
       by (inl (is, kept, all)) = subst (λ end. LeavesKeyboard end from to) (sym is) asked
       by (inr (number, (written, inl (is, failed)))) = subst (λ end. LeavesKeyboard end from to) (sym is) tt
       by (inr (number, (written, inr (is, kept)))) = subst (λ end. LeavesKeyboard end from to) (sym is) tt
@@ -208,7 +230,9 @@ module _ (files : Files) (boot : RunWords) (typed : Typed) (setup : Setup) (from
   machine-is : (end : End) → MachineComesTo setup boot.files before after end → WasSession setup boot.files typed from to before after end → MachineIsSession files boot typed from to before after end
   machine-is end comes was = record { setup = setup; sets = sets; comes = comes; session = was }
 
-  console-comes : (end : End) → IsOfMachine end → EndsSo setup boot.files before after end → WasSession setup boot.files typed from to before after end → ConsoleComesTo files boot typed from to before after end
+  console-comes : (end : End) → IsOfMachine end → EndsSo setup boot.files before after end
+      → WasSession setup boot.files typed from to before after end → ConsoleComesTo files boot typed from to before
+      after end
   console-comes (CannotRead input) of comes was = tt
   console-comes (BadText input line) of comes was = absurd of
   console-comes (BadImage number fault) of comes was = absurd of
@@ -228,7 +252,9 @@ boot_setup boot file images typed = record {
   slices = kept_slices typed;
 }
 
-sets-up : (files : Files) (boot : RunWords) (typed : Typed) (file : List ℕ) (images : List (List ℕ)) → All IsVolume images → IsBootFile images file → images ≡ images_of files boot.files → SetsUpSession files boot typed (boot_setup boot file images typed)
+sets-up : (files : Files) (boot : RunWords) (typed : Typed) (file : List ℕ) (images : List (List ℕ))
+    → All IsVolume images → IsBootFile images file → images ≡ images_of files boot.files → SetsUpSession files boot
+    typed (boot_setup boot file images typed)
 sets-up files boot typed file images volumes whole is = record {
   keys = refl;
   slices = refl;
@@ -240,14 +266,20 @@ sets-up files boot typed file images volumes whole is = record {
 }
 
 -- the machine was run with the images, and they were written if it came to its end
-pub console-ended : (boot : RunWords) (typed : Typed) (file : List ℕ) (images new : List (List ℕ)) (from to : KeyboardState) (before mid after : World) (end : RunEnd) (answer : End) → length images ≡ length boot.files → All IsVolume images
-    → IsBootFile images file → IfSome before.files (λ files. images ≡ images_of files boot.files) → RunsConsole (boot_setup boot file images typed) typed new (OfRun end) from to before mid → EndsBoot boot.files new end answer mid after → ConsoleCall boot typed answer from to before after
+pub console-ended : (boot : RunWords) (typed : Typed) (file : List ℕ) (images new : List (List ℕ))
+    (from to : KeyboardState) (before mid after : World) (end : RunEnd) (answer : End) → length images ≡ length
+    boot.files → All IsVolume images
+    → IsBootFile images file → IfSome before.files (λ files. images ≡ images_of files boot.files)
+    → RunsConsole (boot_setup boot file images typed) typed new (OfRun end) from to before mid
+    → EndsBoot boot.files new end answer mid after → ConsoleCall boot typed answer from to before after
 console-ended boot typed file images new from to before mid after end answer many volumes whole has ran ends =
     let setup : Setup = boot_setup boot file images typed in
     let it = machine-ends setup boot.files new before mid after end answer ran.machine ends in
     let was : WasSession setup boot.files typed from to before after answer = was-session setup typed boot.files new from to before mid after answer ran.machine.files_kept end ran.session ends in
     record {
-      comes = of-files before.files boot images (λ files. ConsoleComesTo files boot typed from to before after answer) has (λ files is. console-comes files boot typed setup from to before after (sets-up files boot typed file images volumes whole is) answer it.kind it.comes was);
+      comes = of-files before.files boot images (λ files. ConsoleComesTo files boot typed from to before after answer)
+          has (λ files is. console-comes files boot typed setup from to before after (sets-up files boot typed file
+          images volumes whole is) answer it.kind it.comes was);
       may = may-end answer it.kind;
       keyboard = keyboard-left boot.files new from to mid after answer end ran.keyboard ends;
       devices = subst (λ count. LeavesDevices count before after answer) many it.devices;
@@ -257,7 +289,9 @@ console-ended boot typed file images new from to before mid after end answer man
 
 -- or it came to a line for which memory was out
 pub console-lost : (boot : RunWords) (typed : Typed) (file : List ℕ) (images new : List (List ℕ)) (from to : KeyboardState) (before after : World) → All IsVolume images → IsBootFile images file
-    → IfSome before.files (λ files. images ≡ images_of files boot.files) → (end : RunEnd) → RunsConsole (boot_setup boot file images typed) typed new (LineLost end) from to before after → ConsoleCall boot typed NoMemory from to before after
+    → IfSome before.files (λ files. images ≡ images_of files boot.files) → (end : RunEnd)
+    → RunsConsole (boot_setup boot file images typed) typed new (LineLost end) from to before after
+    → ConsoleCall boot typed NoMemory from to before after
 console-lost boot typed file images new from to before after volumes whole has end ran =
     let setup : Setup = boot_setup boot file images typed in
     record {

@@ -15,7 +15,8 @@ pub still-written : (notes : Notes) → notes ≡ having_written [] notes
 still-written notes = λ i. record notes { written = sym (append-nil notes.written) i }
 
 -- the reads of its images stopped
-pub notes-stopped : (boot : RunWords) (end : End) (first next : Notes) → NotesStop (run_file_name boot) boot.files end first next → NotesFiles (run_file_name boot) boot.files (BootWrites boot.files) end first next
+pub notes-stopped : (boot : RunWords) (end : End) (first next : Notes) → NotesStop (run_file_name boot) boot.files end
+    first next → NotesFiles (run_file_name boot) boot.files (BootWrites boot.files) end first next
 notes-stopped boot (CannotRead input) first next stopped = record {
   read = stopped.read;
   reads = stopped.stops;
@@ -38,7 +39,9 @@ all-read boot NoMemory behind = ([], sym (append-nil boot.files))
 all-read boot end behind = refl
 
 -- all images were read, and then these were written
-pub notes-after : (boot : RunWords) (end : End) (first mid next : Notes) → IsBehindReads end → HasRead boot.files first mid → (written : List (List ℕ)) → BootWrites boot.files end written → HasWritten written mid next → NotesFiles (run_file_name boot) boot.files (BootWrites boot.files) end first next
+pub notes-after : (boot : RunWords) (end : End) (first mid next : Notes) → IsBehindReads end → HasRead boot.files
+    first mid → (written : List (List ℕ)) → BootWrites boot.files end written → HasWritten written mid next
+    → NotesFiles (run_file_name boot) boot.files (BootWrites boot.files) end first next
 notes-after boot end first mid next behind read written writes noted = record {
   read = boot.files;
   reads = all-read boot end behind;

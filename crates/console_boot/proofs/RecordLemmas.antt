@@ -26,7 +26,9 @@ use Rattle.console_boot.specs.declared.words.ConsoleWords.{ConsoleWords}
 -- ---- two files are written
 
 module _ (first second one two : List ℕ) where
-  both-written : (before mid after : Option Files) → IfObserved (WritesAll (first ∷ []) (one ∷ [])) before mid → IfObserved (WritesAll (second ∷ []) (two ∷ [])) mid after → IfObserved (WritesAll (first ∷ second ∷ []) (one ∷ two ∷ [])) before after
+  both-written : (before mid after : Option Files) → IfObserved (WritesAll (first ∷ []) (one ∷ [])) before mid
+      → IfObserved (WritesAll (second ∷ []) (two ∷ [])) mid after
+      → IfObserved (WritesAll (first ∷ second ∷ []) (one ∷ two ∷ [])) before after
   both-written None mid after wrote next = subst (λ (files : Option Files). IfObserved (WritesAll (second ∷ []) (two ∷ [])) files after) wrote next
   both-written (Some before) None after wrote next = absurd wrote
   both-written (Some before) (Some mid) None wrote next = absurd next
@@ -45,7 +47,9 @@ module _ (first second one two : List ℕ) where
     part = wrote.part;
   }
 
-  second-part : (before mid after : Option Files) → IfObserved (WritesAll (first ∷ []) (one ∷ [])) before mid → IfObserved (WritesUpTo 0 (second ∷ []) (two ∷ [])) mid after → IfObserved (WritesUpTo 1 (first ∷ second ∷ []) (one ∷ two ∷ [])) before after
+  second-part : (before mid after : Option Files) → IfObserved (WritesAll (first ∷ []) (one ∷ [])) before mid
+      → IfObserved (WritesUpTo 0 (second ∷ []) (two ∷ [])) mid after → IfObserved (WritesUpTo 1 (first ∷ second ∷ [])
+      (one ∷ two ∷ [])) before after
   second-part None mid after wrote next = subst (λ (files : Option Files). IfObserved (WritesUpTo 0 (second ∷ []) (two ∷ [])) files after) wrote next
   second-part (Some before) None after wrote next = absurd wrote
   second-part (Some before) (Some mid) None wrote next = absurd next
@@ -67,7 +71,9 @@ module _ (boot : RunWords) (typed : Typed) (name script slices : List ℕ) (name
   names-are : name ∷ boot.slices ∷ [] ≡ record_names boot
   names-are = ap (λ (found : Option (List ℕ)). unwrap_or found [] ∷ boot.slices ∷ []) (sym named)
 
-  pub record-written : {One Two : Type 0} (one : One) (two : Two) (before mid after : World) → WritesOutput name script (Ok one) before mid → WritesOutput boot.slices slices (Ok two) mid after → RecordsSession boot typed Written before after
+  pub record-written : {One Two : Type 0} (one : One) (two : Two) (before mid after : World) → WritesOutput name
+      script (Ok one) before mid → WritesOutput boot.slices slices (Ok two) mid after → RecordsSession boot typed
+      Written before after
   record-written one two before mid after first second = (
     fits,
     record {
@@ -87,10 +93,13 @@ module _ (boot : RunWords) (typed : Typed) (name script slices : List ℕ) (name
     slices = slices;
     give = give;
     files =
-        subst (λ (names : List (List ℕ)). IfObserved (WritesUpTo 0 names (script ∷ slices ∷ [])) before.files after.files) names-are (first-part name boot.slices script slices before.files after.files part);
+        subst (λ (names : List (List ℕ)). IfObserved (WritesUpTo 0 names (script ∷ slices ∷ [])) before.files
+        after.files) names-are (first-part name boot.slices script slices before.files after.files part);
   }
 
-  second-partly : (before mid after : World) → IfObserved (WritesAll (name ∷ []) (script ∷ [])) before.files mid.files → IfObserved (WritesUpTo 0 (boot.slices ∷ []) (slices ∷ [])) mid.files after.files → WritesPartly boot typed 1 before after
+  second-partly : (before mid after : World) → IfObserved (WritesAll (name ∷ []) (script ∷ [])) before.files mid.files
+      → IfObserved (WritesUpTo 0 (boot.slices ∷ []) (slices ∷ [])) mid.files after.files → WritesPartly boot typed 1
+      before after
   second-partly before mid after wrote part = record {
     script = script;
     slices = slices;
@@ -108,12 +117,16 @@ module _ (boot : RunWords) (typed : Typed) (name script slices : List ℕ) (name
   script-memory before after it = (fits, it.no_fault, inr (0, first-partly before after it.part))
 
   -- it was, and the slices were not
-  pub slices-failed : {One Two : Type 0} (one : One) (before mid after : World) → WritesOutput name script (Ok one) before mid → WritesOutput {Value = Two} boot.slices slices (Err Host.Failed) mid after → RecordsSession boot typed (Unwritten Slices) before after
+  pub slices-failed : {One Two : Type 0} (one : One) (before mid after : World) → WritesOutput name script (Ok one)
+      before mid → WritesOutput {Value = Two} boot.slices slices (Err Host.Failed) mid after → RecordsSession boot
+      typed (Unwritten Slices) before after
   slices-failed one before mid after first second =
       let failed : FailsToWriteFile boot.slices before after = (subst (λ (count : ℕ). Rose count after.faults) first.no_fault.0 second.failed.0, second.failed.1, second.failed.2) in
       (fits, record { text = tt; name = boot.slices; named = refl; failed = failed; partly = second-partly before mid after first.written second.part })
 
-  pub slices-memory : {One Two : Type 0} (one : One) (before mid after : World) → WritesOutput name script (Ok one) before mid → WritesOutput {Value = Two} boot.slices slices (Err Host.OutOfMemory) mid after → RecordsSession boot typed NoMemory before after
+  pub slices-memory : {One Two : Type 0} (one : One) (before mid after : World) → WritesOutput name script (Ok one)
+      before mid → WritesOutput {Value = Two} boot.slices slices (Err Host.OutOfMemory) mid after
+      → RecordsSession boot typed NoMemory before after
   slices-memory one before mid after first second =
       (fits, none-then before mid after first.no_fault second.no_fault, inr (1, second-partly before mid after first.written second.part))
 
@@ -131,13 +144,16 @@ written-then one two before mid after first second =
     record { is = second.is ∙ ap (having_written two) first.is ∙ (λ i. record before { written = append_assoc before.written one two i }) }
 
 -- memory was out for the script
-pub script-unnoted : (boot : RunWords) (name : List ℕ) (before after : Notes) → boot.script ≡ Some name → HasWritten [] before after ⊎ HasWritten (name ∷ []) before after → HasWrittenRecord boot NoMemory before after
+pub script-unnoted : (boot : RunWords) (name : List ℕ) (before after : Notes) → boot.script ≡ Some name
+    → HasWritten [] before after ⊎ HasWritten (name ∷ []) before after → HasWrittenRecord boot NoMemory before after
 script-unnoted boot name before after named (inl none) = ([], (record_names boot, refl), none)
 script-unnoted boot name before after named (inr one) =
     (name ∷ [], (boot.slices ∷ [], ap (λ (found : Option (List ℕ)). unwrap_or found [] ∷ boot.slices ∷ []) named), one)
 
 -- or for the slices
-pub slices-unnoted : (boot : RunWords) (name : List ℕ) (before mid after : Notes) → boot.script ≡ Some name → HasWritten (name ∷ []) before mid → HasWritten [] mid after ⊎ HasWritten (boot.slices ∷ []) mid after → HasWrittenRecord boot NoMemory before after
+pub slices-unnoted : (boot : RunWords) (name : List ℕ) (before mid after : Notes) → boot.script ≡ Some name
+    → HasWritten (name ∷ []) before mid → HasWritten [] mid after ⊎ HasWritten (boot.slices ∷ []) mid after
+    → HasWrittenRecord boot NoMemory before after
 slices-unnoted boot name before mid after named first (inl none) =
     (name ∷ [], (boot.slices ∷ [], ap (λ (found : Option (List ℕ)). unwrap_or found [] ∷ boot.slices ∷ []) named), written-then (name ∷ []) [] before mid after first none)
 slices-unnoted boot name before mid after named first (inr one) =
@@ -149,7 +165,9 @@ pub asked-at : (words : ConsoleWords) (end : End) → (end ≡ Ended) ⊎ (end �
 asked-at words end (inl is) asked = ap (is_recorded words) is ∙ asked
 asked-at words end (inr is) asked = ap (is_recorded words) is ∙ asked
 
-pub recorded-so : (words : ConsoleWords) (typed : Typed) (end : End) (recording : Recording) (before after : World) → is_recorded words end ≡ true → RecordsSession words.boot typed recording before after → IsSilent before after → Records words typed end recording before after
+pub recorded-so : (words : ConsoleWords) (typed : Typed) (end : End) (recording : Recording) (before after : World)
+    → is_recorded words end ≡ true → RecordsSession words.boot typed recording before after → IsSilent before after
+    → Records words typed end recording before after
 recorded-so words typed end recording before after asked it silent = record {
   unasked = λ none. absurd (false≢true (sym none ∙ asked));
   asked = λ yes. it;

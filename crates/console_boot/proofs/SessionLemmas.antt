@@ -31,7 +31,10 @@ use Rattle.console_run.specs.declared.turns.Stop.{Stop}
 use Rattle.console_boot.specs.Images.{LeavesSession}
 
 -- the devices as they are before a call, with the images in the drives, and at the end
-module _ (setup : Setup) (typed : Typed) (before ran : World) (inside left : Outside) (new : List (List ℕ)) (as_many : length new ≡ length setup.images) (taken : TakesImages new ran.devices.drives left.drives) (put : inside.drives ≡ holding setup.images before.devices.drives) (terms_put : inside.terms ≡ before.devices.terms) (terms_left : left.terms ≡ ran.devices.terms) where
+module _ (setup : Setup) (typed : Typed) (before ran : World) (inside left : Outside) (new : List (List ℕ))
+    (as_many : length new ≡ length setup.images) (taken : TakesImages new ran.devices.drives left.drives)
+    (put : inside.drives ≡ holding setup.images before.devices.drives) (terms_put : inside.terms ≡
+    before.devices.terms) (terms_left : left.terms ≡ ran.devices.terms) where
   abbrev held : World
   held = record before { devices = inside }
 
@@ -65,7 +68,8 @@ module _ (setup : Setup) (typed : Typed) (before ran : World) (inside left : Out
           volumes = record { as_many = as_many; each = image-of };
         }
 
-  stopped : (lives : Bool) (stop : Stop) (from to : KeyboardState) → StopsSession (LeadsSession setup typed held ran) lives stop from to → StopsSession (LeavesSession setup new typed before after) lives stop from to
+  stopped : (lives : Bool) (stop : Stop) (from to : KeyboardState) → StopsSession (LeadsSession setup typed held ran)
+      lives stop from to → StopsSession (LeavesSession setup new typed before after) lives stop from to
   stopped lives stop from to it = record {
     turns = it.turns;
     t = it.t;
@@ -74,7 +78,8 @@ module _ (setup : Setup) (typed : Typed) (before ran : World) (inside left : Out
     stops = it.stops;
   }
 
-  pub session-between : (end : SessionEnd) (from to : KeyboardState) → IsSessionTo (LeadsSession setup typed held ran) end from to → IsSessionTo (LeavesSession setup new typed before after) end from to
+  pub session-between : (end : SessionEnd) (from to : KeyboardState) → IsSessionTo (LeadsSession setup typed held ran)
+      end from to → IsSessionTo (LeavesSession setup new typed before after) end from to
   session-between (OfRun (Ended begun)) from to it = stopped false Stop.Over from to it
   session-between (OfRun (Living begun)) from to it = stopped true Stop.Over from to it
   session-between (OfRun end) from to it = tt

@@ -22,7 +22,9 @@ use Rattle.console_boot.specs.declared.record.Recording.TheVariants.{Unasked}
 use Rattle.console_boot.specs.declared.words.ConsoleWords.{ConsoleWords}
 
 -- the files of a session, and then those of its record
-notes-then : (words : ConsoleWords) (end : End) (recording : Recording) (noted half done : Notes) → NotesFiles (run_file_name words.boot) words.boot.files (BootWrites words.boot.files) end noted half → HasWrittenRecord words.boot recording half done → NotesConsole words.boot end recording noted done
+notes-then : (words : ConsoleWords) (end : End) (recording : Recording) (noted half done : Notes)
+    → NotesFiles (run_file_name words.boot) words.boot.files (BootWrites words.boot.files) end noted half
+    → HasWrittenRecord words.boot recording half done → NotesConsole words.boot end recording noted done
 notes-then words end recording noted half done files (texts, records, wrote) =
     let read : Notes = having_read files.read noted in
     record {
@@ -36,8 +38,12 @@ notes-then words end recording noted half done files (texts, records, wrote) =
     }
 
 -- a session ended and was recorded or not, and then only the error stream was written
-pub console-reported : (words : ConsoleWords) (typed : Typed) (from to : KeyboardState) (before mid between after : World) (noted half done notes : Notes) (end : End) (recording : Recording) (status : ℕ) → after ≡ between → status ≡ console_status end recording
-    → ConsoleCall words.boot typed end from to before mid → NotesFiles (run_file_name words.boot) words.boot.files (BootWrites words.boot.files) end noted half → Records words typed end recording mid between → HasWrittenRecord words.boot recording half done
+pub console-reported : (words : ConsoleWords) (typed : Typed) (from to : KeyboardState) (before mid between after :
+    World) (noted half done notes : Notes) (end : End) (recording : Recording) (status : ℕ) → after ≡ between
+    → status ≡ console_status end recording
+    → ConsoleCall words.boot typed end from to before mid → NotesFiles (run_file_name words.boot) words.boot.files
+    (BootWrites words.boot.files) end noted half → Records words typed end recording mid between
+    → HasWrittenRecord words.boot recording half done
     → Reports (console_line words.boot end recording) done notes → ConsoleReport words from to before after noted notes status
 console-reported words typed from to before mid between after noted half done notes end recording status same is call files recorded wrote line = record {
   typed = typed;
@@ -54,7 +60,8 @@ console-reported words typed from to before mid between after noted half done no
 
 module _ (words : List (List ℕ)) (from to : KeyboardState) (before after : World) (noted notes : Notes) where
   -- the words are a command line
-  pub top-spelled : (read : ConsoleWords) (status : ℕ) → console_of words ≡ Some read → ConsoleReport read from to before after noted notes status → TopConsole words from to before after noted notes status
+  pub top-spelled : (read : ConsoleWords) (status : ℕ) → console_of words ≡ Some read → ConsoleReport read from to
+      before after noted notes status → TopConsole words from to before after noted notes status
   top-spelled read status spelled report = rw spelled report
 
   -- they are not

@@ -25,7 +25,9 @@ module _ (name : List ℕ) (files : List (List ℕ)) (place : ℕ) (word : List 
 -- ---- the boot that gives a session again
 
 -- a name that was given, or another
-pub named-so : {Word : Type 0} (text : Word → List ℕ) (found : Option Word) (other name : Word) (value : Option (List ℕ)) → name ≡ unwrap_or found other → option_map text found ≡ value → text name ≡ unwrap_or value (text other)
+pub named-so : {Word : Type 0} (text : Word → List ℕ) (found : Option Word) (other name : Word)
+    (value : Option (List ℕ)) → name ≡ unwrap_or found other → option_map text found ≡ value → text name ≡ unwrap_or
+    value (text other)
 named-so text None other name value is kept = ap text is ∙ ap (λ (value : Option (List ℕ)). unwrap_or value (text other)) kept
 named-so text (Some word) other name value is kept = ap text is ∙ ap (λ (value : Option (List ℕ)). unwrap_or value (text other)) kept
 

@@ -16,7 +16,9 @@ use Rattle.console_run.proofs.KeyLemmas.{loaded-none}
 use Rattle.console_run.proofs.LineLemmas.{takes-none}
 
 -- a process does not wait for keys: nothing is typed
-pub types-nothing : (last : SliceEnd) (kernel : Kernel) (typed : Typed) (keyboard : KeyboardState) (before after : Outside) → ((s : State) → Represents kernel before s → ¬ WaitsForLine last s) → after ≡ before → TypesLine last kernel typed typed keyboard keyboard before after
+pub types-nothing : (last : SliceEnd) (kernel : Kernel) (typed : Typed) (keyboard : KeyboardState)
+    (before after : Outside) → ((s : State) → Represents kernel before s → ¬ WaitsForLine last s) → after ≡ before
+    → TypesLine last kernel typed typed keyboard keyboard before after
 types-nothing last kernel typed keyboard before after others same = record {
   line = None;
   asked = λ s tied. (λ is. absurd (cc is), λ waits. absurd (others s tied waits));
@@ -30,7 +32,9 @@ types-nothing last kernel typed keyboard before after others same = record {
 }
 
 -- every process does: a line is
-pub types-line : (last : SliceEnd) (kernel : Kernel) (old new : Typed) (line : List ℕ) (from to : KeyboardState) (before mid after : Outside) → AllWait last kernel before → TakesLines (line ∷ []) from to → mid ≡ before → LoadsKeys (keys_of_line (ticks kernel + 1) line) old new mid.terms after.terms → after.drives ≡ mid.drives
+pub types-line : (last : SliceEnd) (kernel : Kernel) (old new : Typed) (line : List ℕ) (from to : KeyboardState)
+    (before mid after : Outside) → AllWait last kernel before → TakesLines (line ∷ []) from to → mid ≡ before
+    → LoadsKeys (keys_of_line (ticks kernel + 1) line) old new mid.terms after.terms → after.drives ≡ mid.drives
     → TypesLine last kernel old new from to before after
 types-line last kernel old new line from to before mid after waits taken same loaded drives = record {
   line = Some line;
@@ -41,6 +45,8 @@ types-line last kernel old new line from to before mid after waits taken same lo
 }
 
 -- or there is none
-pub types-none : (last : SliceEnd) (kernel : Kernel) (old new : Typed) (before mid after : Outside) → AllWait last kernel before → IsKept old new → mid ≡ before → after ≡ mid → TypesNone last kernel old new before after
+pub types-none : (last : SliceEnd) (kernel : Kernel) (old new : Typed) (before mid after : Outside)
+    → AllWait last kernel before → IsKept old new → mid ≡ before → after ≡ mid → TypesNone last kernel old new before
+    after
 types-none last kernel old new before mid after waits typed same kept =
     record { waits = waits; typed = typed; devices = kept ∙ same }

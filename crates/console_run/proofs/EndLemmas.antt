@@ -49,7 +49,9 @@ keys-still typed now same = ap keys_of_lines same.lines
 pub of-term-still : (typed now : Typed) → IsKept typed now → All IsOfTerm (kept_keys typed) → All IsOfTerm (kept_keys now)
 of-term-still typed now same all = subst (λ (keys : List ScriptKey). All IsOfTerm keys) (sym (keys-still typed now same)) all
 
-has-still : (start : List DriveView) (first : Option (List ℕ)) (typed now : Typed) (last : SliceEnd) (from to : KeyboardState) (s : State) (kernel : Kernel) (devices : Outside) (out : Option (List ℕ)) → IsKept typed now → HasCome start first typed last from to s kernel devices out
+has-still : (start : List DriveView) (first : Option (List ℕ)) (typed now : Typed) (last : SliceEnd)
+    (from to : KeyboardState) (s : State) (kernel : Kernel) (devices : Outside) (out : Option (List ℕ))
+    → IsKept typed now → HasCome start first typed last from to s kernel devices out
     → HasCome start first now last from to s kernel devices out
 has-still start first typed now last from to s kernel devices out same come = record {
   m = come.m;
@@ -68,17 +70,21 @@ has-still start first typed now last from to s kernel devices out same come = re
   };
   goes = λ more extra later.
       subst (λ (count : ℕ). GoesWith start devices.drives (keys_for 0 (kept_keys now)) (replicate count SLICE) s come.m come.written more extra) (sym same.slices)
-      (subst (λ (keys : List ScriptKey). GoesWith start devices.drives (keys_for 0 keys) (kept_slices typed) s come.m come.written more extra) (sym (keys-still typed now same)) (come.goes more extra later));
+      (subst (λ (keys : List ScriptKey). GoesWith start devices.drives (keys_for 0 keys) (kept_slices typed) s come.m
+      come.written more extra) (sym (keys-still typed now same)) (come.goes more extra later));
 }
 
 -- and so is what is seen of the devices
-pub comes-still : (typed now : Typed) (last : SliceEnd) (from to : KeyboardState) (kernel later : Kernel) (before mid : World) (devices : Outside) → IsKept typed now → devices ≡ mid.devices → ComesFrom typed last from to kernel later before mid → ComesFrom now last from to kernel later before (record mid { devices = devices })
+pub comes-still : (typed now : Typed) (last : SliceEnd) (from to : KeyboardState) (kernel later : Kernel)
+    (before mid : World) (devices : Outside) → IsKept typed now → devices ≡ mid.devices → ComesFrom typed last from to
+    kernel later before mid → ComesFrom now last from to kernel later before (record mid { devices = devices })
 comes-still typed now last from to kernel later before mid devices same seen comes =
     subst (λ (devices : Outside). ComesFrom now last from to kernel later before (record mid { devices = devices })) (sym seen)
     (λ s told tied. has-still before.devices.drives before.out typed now last from to s later mid.devices mid.out same (comes s told tied))
 
 -- every process waits where nothing was typed
-pub waits-there : {Old New : Typed} (last : SliceEnd) (kernel : Kernel) (before after : Outside) → TypesNone last kernel Old New before after → (m : State) → Represents kernel after m → WaitsForLine last m
+pub waits-there : {Old New : Typed} (last : SliceEnd) (kernel : Kernel) (before after : Outside)
+    → TypesNone last kernel Old New before after → (m : State) → Represents kernel after m → WaitsForLine last m
 waits-there last kernel before after none m tied = none.waits m (subst (λ (devices : Outside). Represents kernel devices m) none.devices tied)
 
 -- its slices are a run, of terminals that were loaded with its keys before it
@@ -102,7 +108,8 @@ partly-from slices s before after devices ran = record {
 }
 
 -- a kernel stood, at terminals without keys; these keys of TERM were typed later
-module _ (typed : Typed) (last : SliceEnd) (from to : KeyboardState) (kernel later : Kernel) (before after : World) (of_term : All IsOfTerm (kept_keys typed)) (unloaded : All HasNoKeys before.devices.terms) where
+module _ (typed : Typed) (last : SliceEnd) (from to : KeyboardState) (kernel later : Kernel) (before after : World)
+    (of_term : All IsOfTerm (kept_keys typed)) (unloaded : All HasNoKeys before.devices.terms) where
   abbrev laden : World
   laden = with_typed (kept_keys typed) before
 
@@ -140,18 +147,23 @@ module _ (typed : Typed) (last : SliceEnd) (from to : KeyboardState) (kernel lat
           come.tied,
           come.gained,
           subst (λ (from : State). KeepsImages (ComesInto (kept_slices typed) from) it.states before.devices.drives after.devices.drives) loads
-              (subst (λ (slices : List ℕ). KeepsImages (ComesInto slices (with_keys s (load_of (kept_keys typed)))) it.states before.devices.drives after.devices.drives) (append-nil (kept_slices typed)) it.images),
+              (subst (λ (slices : List ℕ). KeepsImages (ComesInto slices (with_keys s (load_of (kept_keys typed))))
+              it.states before.devices.drives after.devices.drives) (append-nil (kept_slices typed)) it.images),
         )
 
     -- or of the first of them
-    pub runs-part : ((s : State) → All IsObserved before.devices.terms → Represents kernel before.devices s → RunsPartly (kept_slices typed) (with_keys s (load_of (kept_keys typed))) before after) → RunsPartly (kept_slices typed) laden_state laden after
+    pub runs-part : ((s : State) → All IsObserved before.devices.terms → Represents kernel before.devices s
+        → RunsPartly (kept_slices typed) (with_keys s (load_of (kept_keys typed))) before after)
+        → RunsPartly (kept_slices typed) laden_state laden after
     runs-part partly =
         subst (λ (from : State). RunsPartly (kept_slices typed) from laden after) loads
         (partly-from (kept_slices typed) (with_keys s (load_of (kept_keys typed))) before after laden.devices (partly s (observed-before told) stood))
 
 -- from the state for which it stood it was a session
 pub session-all : (stop : Stop) (typed : Typed) (last : SliceEnd) (from mid to : KeyboardState) (s : State) (later : Kernel) (before after : World)
-    → (come : HasCome before.devices.drives before.out typed last from mid s later after.devices after.out) → (TakesLines (lines_of come.turns.turns) from mid → StopsFor stop come.turns.turns come.m from to) → RunsSession stop s later typed from to before after
+    → (come : HasCome before.devices.drives before.out typed last from mid s later after.devices after.out)
+    → (TakesLines (lines_of come.turns.turns) from mid → StopsFor stop come.turns.turns come.m from to)
+    → RunsSession stop s later typed from to before after
 session-all stop typed last from mid to s later before after come stops =
     let it : HasTurns typed last from mid s come.m come.written = come.turns in
     let gone : GoesWith before.devices.drives after.devices.drives (keys_for 0 (kept_keys typed)) (kept_slices typed) s come.m come.written [] [] = come.goes [] [] tt in
@@ -173,14 +185,18 @@ session-all stop typed last from mid to s later before after come stops =
     }
 
 -- it is over; what is taken behind it is nothing
-pub stops-over : (turns : List TypedTurn) (last : SliceEnd) (t : State) (from mid to : KeyboardState) → last_end at_start turns ≡ last → IsOver last t to → TakesLines [] mid to → TakesLines (lines_of turns) from mid → StopsFor Stop.Over turns t from to
+pub stops-over : (turns : List TypedTurn) (last : SliceEnd) (t : State) (from mid to : KeyboardState)
+    → last_end at_start turns ≡ last → IsOver last t to → TakesLines [] mid to → TakesLines (lines_of turns) from mid
+    → StopsFor Stop.Over turns t from to
 stops-over turns last t from mid to same over none taken = (
   subst (λ (lines : List (List ℕ)). TakesLines lines from to) (append-nil (lines_of turns)) (takes-then (lines_of turns) [] from mid to taken none),
   subst (λ (end : SliceEnd). IsOver end t to) (sym same) over,
 )
 
 -- memory was out for a line
-pub stops-lost : (turns : List TypedTurn) (last : SliceEnd) (t : State) (from mid to : KeyboardState) → last_end at_start turns ≡ last → WaitsForLine last t → has_living t ≡ true → (lost : Option (List ℕ)) × TakesLines (line_list lost) mid to → TakesLines (lines_of turns) from mid → StopsFor Stop.LineLost turns t from to
+pub stops-lost : (turns : List TypedTurn) (last : SliceEnd) (t : State) (from mid to : KeyboardState)
+    → last_end at_start turns ≡ last → WaitsForLine last t → has_living t ≡ true → (lost : Option (List ℕ)) ×
+    TakesLines (line_list lost) mid to → TakesLines (lines_of turns) from mid → StopsFor Stop.LineLost turns t from to
 stops-lost turns last t from mid to same waits lives (lost, took) taken = (
   lost,
   takes-then (lines_of turns) (line_list lost) from mid to taken took,
@@ -191,13 +207,15 @@ stops-lost turns last t from mid to same waits lives (lost, took) taken = (
 -- ---- faults of the host
 
 -- it failed in the last turn, at the output
-pub fails-then : {Value : Type 0} (answer : Result Value RunFault) (origin mid after : World) → HasNoFault origin mid → OnOutputFault answer (FailsToWrite mid after) → OnOutputFault answer (FailsToWrite origin after)
+pub fails-then : {Value : Type 0} (answer : Result Value RunFault) (origin mid after : World) → HasNoFault origin mid
+    → OnOutputFault answer (FailsToWrite mid after) → OnOutputFault answer (FailsToWrite origin after)
 fails-then (Ok value) origin mid after none fails = tt
 fails-then (Err Output) origin mid after none fails = (rw (← none.0) fails.0, fails.1, fails.2)
 fails-then (Err NoMemory) origin mid after none fails = tt
 
 -- or not at all
-pub kept-then : {Value : Type 0} (answer : Result Value RunFault) (origin mid after : World) → HasNoFault origin mid → UnlessOutputFault answer (HasNoFault mid after) → UnlessOutputFault answer (HasNoFault origin after)
+pub kept-then : {Value : Type 0} (answer : Result Value RunFault) (origin mid after : World) → HasNoFault origin mid
+    → UnlessOutputFault answer (HasNoFault mid after) → UnlessOutputFault answer (HasNoFault origin after)
 kept-then (Ok value) origin mid after none kept = (kept.0 ∙ none.0, kept.1 ∙ none.1, kept.2 ∙ none.2)
 kept-then (Err Output) origin mid after none kept = tt
 kept-then (Err NoMemory) origin mid after none kept = (kept.0 ∙ none.0, kept.1 ∙ none.1, kept.2 ∙ none.2)

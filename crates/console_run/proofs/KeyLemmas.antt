@@ -90,7 +90,8 @@ keys-more keys load =
 -- ---- one terminal of a list was loaded
 
 -- the keys of the first driver of a list are those of TERM
-pub first-keys : {Driver : Type 0} (screen : Driver → TerminalState) (drivers : List Driver) (here : Driver) → 0 < length drivers → here ≡ get_or drivers 0 here → term_keys (map screen drivers) ≡ (screen here).keys
+pub first-keys : {Driver : Type 0} (screen : Driver → TerminalState) (drivers : List Driver) (here : Driver)
+    → 0 < length drivers → here ≡ get_or drivers 0 here → term_keys (map screen drivers) ≡ (screen here).keys
 first-keys screen [] here some is = absurd (omega (arith, some))
 first-keys screen (driver ∷ drivers) here some is = ap (λ driver. (screen driver).keys) (sym is)
 
@@ -100,7 +101,8 @@ loads-empty keys old new none loaded put faults =
     let same : new.keys ≡ old.keys ++ keys = loaded ∙ ap (λ (front : List Key). front ++ keys) (sym none) in
     λ i. record { keys = same i; put = put i; faults = faults i }
 
-pub first-loaded : (keys : List Key) (before now : List TerminalState) → ChangesOneTerminal (λ old new. new ≡ record old { keys = old.keys ++ keys }) 0 before now → now ≡ keys_loaded before (keys ∷ [])
+pub first-loaded : (keys : List Key) (before now : List TerminalState) → ChangesOneTerminal
+    (λ old new. new ≡ record old { keys = old.keys ++ keys }) 0 before now → now ≡ keys_loaded before (keys ∷ [])
 first-loaded keys [] now (old, new, here, set, changed) = absurd (none-some old here)
 first-loaded keys (term ∷ terms) now (old, new, here, set, changed) =
     set ∙ (λ i. changed i ∷ terms) ∙ ap (λ (at : TerminalState). record at { keys = at.keys ++ keys } ∷ terms) (sym (same_Some term old here))
@@ -111,7 +113,9 @@ first-kept (term ∷ terms) now (old, new, here, set, changed) =
     set ∙ (λ i. changed i ∷ terms) ∙ ap (λ (at : TerminalState). at ∷ terms) (sym (same_Some term old here))
 
 -- no keys were loaded: it has those that it had
-pub keeps-keys : (took : Bool) (old new : TerminalState) → (IsTrue took → new.keys ≡ []) → (IsTrue took → old.keys ≡ []) → (IsFalse took → new.keys ≡ old.keys) → new.put ≡ old.put → new.faults ≡ old.faults → new ≡ old
+pub keeps-keys : (took : Bool) (old new : TerminalState) → (IsTrue took → new.keys ≡ [])
+    → (IsTrue took → old.keys ≡ []) → (IsFalse took → new.keys ≡ old.keys) → new.put ≡ old.put
+    → new.faults ≡ old.faults → new ≡ old
 keeps-keys true old new loaded was kept put faults =
     let same : new.keys ≡ old.keys = loaded refl ∙ sym (was refl) in
     λ i. record { keys = same i; put = put i; faults = faults i }

@@ -32,16 +32,20 @@ next-taken line (Some []) after first rest = absurd (none-some line (sym first))
 next-taken line (Some (next ∷ lines)) after first rest =
     (lines, ap (λ (line : List ℕ). line ∷ lines) (sym (same_Some line next first)), rest)
 
-pub takes-line : (line : List ℕ) (before after : KeyboardState) → IfSome before.lines (λ lines. Some line ≡ slice_get lines 0) → after.lines ≡ option_map (drop 1) before.lines → TakesLines (line ∷ []) before after
+pub takes-line : (line : List ℕ) (before after : KeyboardState) → IfSome before.lines (λ lines. Some line ≡ slice_get
+    lines 0) → after.lines ≡ option_map (drop 1) before.lines → TakesLines (line ∷ []) before after
 takes-line line before after first rest = next-taken line before.lines after.lines first rest
 
 -- the end is
-end-taken : (before after : Option (List (List ℕ))) → IfSome before (λ lines. None ≡ slice_get lines 0) → after ≡ option_map (drop 1) before → Takes [] before after × IfSome after (λ lines. lines ≡ [])
+end-taken : (before after : Option (List (List ℕ))) → IfSome before (λ lines. None ≡ slice_get lines 0)
+    → after ≡ option_map (drop 1) before → Takes [] before after × IfSome after (λ lines. lines ≡ [])
 end-taken None after first rest = (tt, subst (λ (after : Option (List (List ℕ))). IfSome after (λ lines. lines ≡ [])) (sym rest) tt)
 end-taken (Some []) after first rest = (([], refl, rest), subst (λ (after : Option (List (List ℕ))). IfSome after (λ lines. lines ≡ [])) (sym rest) refl)
 end-taken (Some (next ∷ lines)) after first rest = absurd (none-some next first)
 
-pub takes-end : (before after : KeyboardState) → IfSome before.lines (λ lines. None ≡ slice_get lines 0) → after.lines ≡ option_map (drop 1) before.lines → after.is_over ≡ true → IsAtEnd after × TakesLines [] before after
+pub takes-end : (before after : KeyboardState) → IfSome before.lines (λ lines. None ≡ slice_get lines 0)
+    → after.lines ≡ option_map (drop 1) before.lines → after.is_over ≡ true → IsAtEnd after × TakesLines [] before
+    after
 takes-end before after first rest over =
     let (taken, none) = end-taken before.lines after.lines first rest in
     (record { over = over; none = none }, taken)
@@ -53,7 +57,9 @@ takes-kept before after kept = subst (λ (lines : Option (List (List ℕ))). Tak
 -- ---- lines in memory
 
 -- the line at a place is the next one
-pub next-line : {Line : Type 0} (bytes : Line → List ℕ) (lines : List Line) (place : ℕ) (d line : Line) → place < length lines → line ≡ get_or lines place d → slice_get (drop place (map bytes lines)) 0 ≡ Some (bytes line)
+pub next-line : {Line : Type 0} (bytes : Line → List ℕ) (lines : List Line) (place : ℕ) (d line : Line)
+    → place < length lines → line ≡ get_or lines place d → slice_get (drop place (map bytes lines)) 0 ≡ Some
+    (bytes line)
 next-line bytes [] place d line below is = absurd (omega (arith, below))
 next-line bytes (first ∷ lines) zero d line below is = ap (λ here. Some (bytes here)) (sym is)
 next-line bytes (first ∷ lines) (suc place) d line below is = next-line bytes lines place d line (omega (arith, below)) is

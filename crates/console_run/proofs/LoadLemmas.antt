@@ -23,7 +23,9 @@ pub unladen : (terms : List TerminalState) (keys : Keys) → All IsObserved (key
 unladen terms [] observed = observed
 unladen [] (k ∷ ks) observed = observed
 unladen (term ∷ terms) (k ∷ ks) observed =
-    All-cons IsObserved term terms (All-head IsObserved (record term { keys = term.keys ++ k }) (keys_loaded terms ks) observed) (unladen terms ks (All-tail IsObserved (record term { keys = term.keys ++ k }) (keys_loaded terms ks) observed))
+    All-cons IsObserved term terms (All-head IsObserved (record term { keys = term.keys ++ k }) (keys_loaded terms ks)
+    observed) (unladen terms ks (All-tail IsObserved (record term { keys = term.keys ++ k })
+    (keys_loaded terms ks) observed))
 
 -- ---- a kernel and its devices
 
@@ -32,7 +34,9 @@ running-loaded s terms count running =
     running-then s (record s { terms = terms }) running running.kept running.in_calls running.places running.on count running.kinds running.clock
 
 -- it stands for the state with the terminals that are there now
-pub represents-with : (kernel : Kernel) (devices now : Outside) (s : State) → now.drives ≡ devices.drives → length now.terms ≡ length devices.terms → Represents kernel devices s → Represents kernel now (record s { terms = now.terms })
+pub represents-with : (kernel : Kernel) (devices now : Outside) (s : State) → now.drives ≡ devices.drives
+    → length now.terms ≡ length devices.terms → Represents kernel devices s → Represents kernel now
+    (record s { terms = now.terms })
 represents-with kernel devices now s drives count tied =
     let there : s.terms ≡ devices.terms = ap (λ (s : State). s.terms) tied.is in
     let here : Outside = record devices { terms = now.terms } in
@@ -46,7 +50,9 @@ represents-with kernel devices now s drives count tied =
     })
 
 -- where keys were loaded
-pub represents-loaded : (kernel : Kernel) (devices now : Outside) (s : State) (keys : Keys) → now.drives ≡ devices.drives → now.terms ≡ keys_loaded devices.terms keys → Represents kernel devices s → Represents kernel now (with_keys s keys)
+pub represents-loaded : (kernel : Kernel) (devices now : Outside) (s : State) (keys : Keys)
+    → now.drives ≡ devices.drives → now.terms ≡ keys_loaded devices.terms keys → Represents kernel devices s
+    → Represents kernel now (with_keys s keys)
 represents-loaded kernel devices now s keys drives loaded tied =
     let there : s.terms ≡ devices.terms = ap (λ (s : State). s.terms) tied.is in
     let count : length now.terms ≡ length devices.terms = ap length loaded ∙ count-loaded devices.terms keys in

@@ -31,7 +31,8 @@ module _ (old new : Kernel) (before after : World) (sliced : Outside) (end : Sli
     observed-then told = subst (λ (terms : List TerminalState). All IsObserved terms) (terms-standing old before.devices u tied) told
 
     -- its bytes were passed on
-    pub passes-slice : after.devices.terms ≡ terminals_emptied sliced.terms → (All IsObserved sliced.terms → after.out ≡ stream_with before.out (console_bytes sliced.terms)) → PassesSlice u new before after end
+    pub passes-slice : after.devices.terms ≡ terminals_emptied sliced.terms → (All IsObserved sliced.terms
+        → after.out ≡ stream_with before.out (console_bytes sliced.terms)) → PassesSlice u new before after end
     passes-slice taken gained =
         let (states, t, ran, there, kept) = slice.step more u tied in
         let is : t.terms ≡ sliced.terms = ap (λ (s : State). s.terms) there.is in

@@ -71,7 +71,10 @@ loaded-nothing : (terms : List TerminalState) → All HasNoKeys terms → loaded
 loaded-nothing terms none = loaded-typed [] terms (All-nil IsOfTerm) none ∙ loaded-none terms
 
 -- a kernel stood where nothing was typed yet, and there was a session
-module _ (setup : Setup) (typed : Typed) (from to : KeyboardState) (kernel later : Kernel) (before after : World) (started : Outside) (unloaded : All HasNoKeys before.devices.terms) (none_failed : NoneFailed (drive_states before.devices.drives) (drive_states started.drives)) (terms : started.terms ≡ before.devices.terms) (begins : Begins setup kernel started) where
+module _ (setup : Setup) (typed : Typed) (from to : KeyboardState) (kernel later : Kernel) (before after : World)
+    (started : Outside) (unloaded : All HasNoKeys before.devices.terms)
+    (none_failed : NoneFailed (drive_states before.devices.drives) (drive_states started.drives))
+    (terms : started.terms ≡ before.devices.terms) (begins : Begins setup kernel started) where
   abbrev began : World
   began = with_devices before started
 
@@ -82,7 +85,9 @@ module _ (setup : Setup) (typed : Typed) (from to : KeyboardState) (kernel later
       (subst (λ (terms : List TerminalState). Starts (boot_with (untyped setup) (drive_states started.drives) terms) begins.0) same begins.1)
 
   -- it stopped
-  pub session-stopped : (stop : Stop) (lives : Bool) → ((s : State) → All IsObserved started.terms → Represents kernel started s → RunsSession stop s later typed from to began after) → ((t : State) → Represents later after.devices t → has_living t ≡ lives) → All IsObserved before.devices.terms
+  pub session-stopped : (stop : Stop) (lives : Bool) → ((s : State) → All IsObserved started.terms → Represents kernel
+      started s → RunsSession stop s later typed from to began after) → ((t : State) → Represents later after.devices
+      t → has_living t ≡ lives) → All IsObserved before.devices.terms
       → StopsSession (LeadsSession setup typed before after) lives stop from to
   session-stopped stop lives session living told =
       let told_started : All IsObserved started.terms = subst (λ (terms : List TerminalState). All IsObserved terms) (sym terms) told in
@@ -102,16 +107,23 @@ module _ (setup : Setup) (typed : Typed) (from to : KeyboardState) (kernel later
       }
 
   -- to its end
-  pub session-over : (living ticks : ℕ) (end : RunEnd) → ((s : State) → All IsObserved started.terms → Represents kernel started s → RunsSession Stop.Over s later typed from to began after) → ((t : State) → Represents later after.devices t → living ≡ living_count t.inner) → (living ≡ 0 → end ≡ Ended ticks) → (living ≢ 0 → end ≡ Living ticks)
+  pub session-over : (living ticks : ℕ) (end : RunEnd) → ((s : State) → All IsObserved started.terms
+      → Represents kernel started s → RunsSession Stop.Over s later typed from to began after)
+      → ((t : State) → Represents later after.devices t → living ≡ living_count t.inner)
+      → (living ≡ 0 → end ≡ Ended ticks) → (living ≢ 0 → end ≡ Living ticks)
       → All IsObserved before.devices.terms → IsSessionTo (LeadsSession setup typed before after) (OfRun end) from to
   session-over zero ticks end session alive idle lives told =
-      subst (λ (end : RunEnd). IsSessionTo (LeadsSession setup typed before after) (OfRun end) from to) (sym (idle refl)) (session-stopped Stop.Over false session (λ t there. none-living t (sym (alive t there))) told)
+      subst (λ (end : RunEnd). IsSessionTo (LeadsSession setup typed before after) (OfRun end) from to)
+      (sym (idle refl)) (session-stopped Stop.Over false session (λ t there. none-living t (sym (alive t there)))
+      told)
   session-over (suc living) ticks end session alive idle lives told =
       subst (λ (end : RunEnd). IsSessionTo (LeadsSession setup typed before after) (OfRun end) from to) (sym (lives (λ e. omega (arith, e))))
       (session-stopped Stop.Over true session (λ t there. some-living t (λ none. omega (arith, alive t there, none))) told)
 
   -- to a line for which memory was out; a process lives then
-  pub session-lost : (end : RunEnd) → ((s : State) → All IsObserved started.terms → Represents kernel started s → RunsSession Stop.LineLost s later typed from to began after) → All IsObserved before.devices.terms → IsSessionTo (LeadsSession setup typed before after) (LineLost end) from to
+  pub session-lost : (end : RunEnd) → ((s : State) → All IsObserved started.terms → Represents kernel started s
+      → RunsSession Stop.LineLost s later typed from to began after) → All IsObserved before.devices.terms
+      → IsSessionTo (LeadsSession setup typed before after) (LineLost end) from to
   session-lost end session told =
       let told_started : All IsObserved started.terms = subst (λ (terms : List TerminalState). All IsObserved terms) (sym terms) told in
       let it : RunsSession Stop.LineLost begins.0 later typed from to began after = session begins.0 told_started begins.2 in

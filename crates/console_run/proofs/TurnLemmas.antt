@@ -65,7 +65,9 @@ asks-with drive at keys it = record {
   deed = it.deed;
 }
 
-begins-at-with : (n : ℕ) (u at : State) (states : List State) (keys : Keys) → AreLater (u.inner.tick + 1) keys → BeginsAt (BeginsSlice n u) states at → BeginsAt (BeginsSlice n (with_keys u keys)) (each_with keys states) (with_keys at keys)
+begins-at-with : (n : ℕ) (u at : State) (states : List State) (keys : Keys) → AreLater (u.inner.tick + 1) keys
+    → BeginsAt (BeginsSlice n u) states at → BeginsAt (BeginsSlice n (with_keys u keys)) (each_with keys states)
+    (with_keys at keys)
 begins-at-with n u at states keys later it = record {
   first = each_with keys it.first;
   there = begins-with n u at it.first keys later it.there;
@@ -76,7 +78,9 @@ begins-at-with n u at states keys later it = record {
   all = ap (each_with keys) it.all ∙ map-append (λ (s : State). with_keys s keys) it.first (it.next ∷ it.later);
 }
 
-keeps-with : (n : ℕ) (u : State) (states : List State) (keys : Keys) (before after : List DriveView) → AreLater (u.inner.tick + 1) keys → KeepsImages (BeginsSlice n u) states before after → KeepsImages (BeginsSlice n (with_keys u keys)) (each_with keys states) before after
+keeps-with : (n : ℕ) (u : State) (states : List State) (keys : Keys) (before after : List DriveView)
+    → AreLater (u.inner.tick + 1) keys → KeepsImages (BeginsSlice n u) states before after
+    → KeepsImages (BeginsSlice n (with_keys u keys)) (each_with keys states) before after
 keeps-with n u states keys before after later kept drive none =
     kept drive (λ at it asks. none (with_keys at keys) (begins-at-with n u at states keys later it) (asks-with drive at keys asks))
 
@@ -99,7 +103,8 @@ pub record HasTurns (typed : Typed) (last : SliceEnd) (from to : KeyboardState) 
   pub taken : TakesLines (lines_of turns) from to
 
 -- from s it has come to a state that is represented now, and the output gained what it wrote
-pub record HasCome (start : List DriveView) (first : Option (List ℕ)) (typed : Typed) (last : SliceEnd) (from to : KeyboardState) (s : State) (kernel : Kernel) (devices : Outside) (out : Option (List ℕ)) : Type 0 where
+pub record HasCome (start : List DriveView) (first : Option (List ℕ)) (typed : Typed) (last : SliceEnd)
+    (from to : KeyboardState) (s : State) (kernel : Kernel) (devices : Outside) (out : Option (List ℕ)) : Type 0 where
   pub m : State
   pub written : List ℕ
   pub told : All IsObserved devices.terms
@@ -116,7 +121,8 @@ goes-none start s more extra = record { states = []; run = (refl, refl, sym (beg
     begun [] = ap (λ (terms : List TerminalState). record s { terms = terms }) (loaded-none s.terms)
     begun (keys ∷ more) = refl
 
-pub comes-untyped : (first : Option (List ℕ)) (typed : Typed) (keyboard : KeyboardState) (s : State) (kernel : Kernel) (devices : Outside) → IsUntyped typed → All IsObserved devices.terms → Represents kernel devices s
+pub comes-untyped : (first : Option (List ℕ)) (typed : Typed) (keyboard : KeyboardState) (s : State) (kernel : Kernel)
+    (devices : Outside) → IsUntyped typed → All IsObserved devices.terms → Represents kernel devices s
     → HasCome devices.drives first typed at_start keyboard keyboard s kernel devices first
 comes-untyped first typed keyboard s kernel devices untyped told tied =
     let none : kept_keys typed ≡ [] = none-kept typed untyped.lines in
@@ -146,19 +152,24 @@ pub tick-tied : (kernel : Kernel) (devices : Outside) (m : State) → Represents
 tick-tied kernel devices m tied = ap (λ (inner : Inner). inner.tick) tied.inner.is
 
 -- one turn
-types-one : (last : SliceEnd) (m t : State) (turn : TypedTurn) (first : List State) → has_living m ≡ true → turn.tick ≡ m.inner.tick + 1 → (IsSome turn.line ↔ WaitsForLine last m) → Slice SLICE (with_keys m (turn_of turn).load) first turn.end t
+types-one : (last : SliceEnd) (m t : State) (turn : TypedTurn) (first : List State) → has_living m ≡ true
+    → turn.tick ≡ m.inner.tick + 1 → (IsSome turn.line ↔ WaitsForLine last m)
+    → Slice SLICE (with_keys m (turn_of turn).load) first turn.end t
     → TypedTurns last (turn ∷ []) m first (console_bytes t.terms) (record t { terms = terminals_emptied t.terms })
 types-one last m t turn first lives tick asked slice =
     (lives, tick, asked, t, first, [], [], slice, sym (append-nil first), sym (append-nil (console_bytes t.terms)), (refl, refl, refl))
 
 -- turns with one more
-types-more : (last : SliceEnd) (turns : List TypedTurn) (s m t : State) (turn : TypedTurn) (states first : List State) (written : List ℕ) → TypedTurns last turns s states written m → has_living m ≡ true → turn.tick ≡ m.inner.tick + 1
+types-more : (last : SliceEnd) (turns : List TypedTurn) (s m t : State) (turn : TypedTurn) (states first : List State)
+    (written : List ℕ) → TypedTurns last turns s states written m → has_living m ≡ true → turn.tick ≡ m.inner.tick + 1
     → (IsSome turn.line ↔ WaitsForLine (last_end last turns) m) → Slice SLICE (with_keys m (turn_of turn).load) first turn.end t
     → TypedTurns last (turns ++ turn ∷ []) s (states ++ first) (written ++ console_bytes t.terms) (record t { terms = terminals_emptied t.terms })
 types-more last [] s m t turn states first written (none, nothing, same) lives tick asked slice =
     subst (λ (s : State). TypedTurns last (turn ∷ []) s (states ++ first) (written ++ console_bytes t.terms) (record t { terms = terminals_emptied t.terms })) same
     (subst (λ (states : List State). TypedTurns last (turn ∷ []) m (states ++ first) (written ++ console_bytes t.terms) (record t { terms = terminals_emptied t.terms })) (sym none)
-    (subst (λ (written : List ℕ). TypedTurns last (turn ∷ []) m first (written ++ console_bytes t.terms) (record t { terms = terminals_emptied t.terms })) (sym nothing) (types-one last m t turn first lives tick asked slice)))
+    (subst (λ (written : List ℕ). TypedTurns last (turn ∷ []) m first (written ++ console_bytes t.terms)
+    (record t { terms = terminals_emptied t.terms })) (sym nothing) (types-one last m t turn first lives tick
+    asked slice)))
 types-more last (here ∷ turns) s m t turn states first written (alive, ticked, was_asked, next, passed, later, rest, ran, all, bytes, types) lives tick asked slice = (
   alive,
   ticked,
@@ -200,67 +211,97 @@ take-front : (ran extra : List ℕ) → take (length ran) (ran ++ extra) ≡ ran
 take-front [] extra = refl
 take-front (first ∷ ran) extra = ap (λ (rest : List ℕ). first ∷ rest) (take-front ran extra)
 
-module _ (start : List DriveView) (keys load : List Key) (ran : List ℕ) (s m : State) (written : List ℕ) (kernel after : Kernel) (before now : World) (tied : Represents kernel before.devices m) (alive : has_living m ≡ true) (goes : (more : Keys) (extra : List ℕ) → AreLater m.inner.tick more → GoesWith start before.devices.drives keys ran s m written more extra) (due : AreLater m.inner.tick (load ∷ [])) where
-  -- a slice was run from there, with the keys that were loaded
-  module _ (end : SliceEnd) (passes : PassesSlice (with_keys m (load ∷ [])) after before now end) (count : ticks after ≡ ticks kernel + 1) where
-    abbrev u : State
-    u = with_keys m (load ∷ [])
+module _ (start : List DriveView) (keys load : List Key) (ran : List ℕ) (s m : State) (written : List ℕ)
+    (kernel after : Kernel) (before now : World) (tied : Represents kernel before.devices m)
+    (alive : has_living m ≡ true) (goes : (more : Keys) (extra : List ℕ) → AreLater m.inner.tick more
+    → GoesWith start before.devices.drives keys ran s m written more extra) (due : AreLater m.inner.tick (load ∷ []))
+  where
+    -- a slice was run from there, with the keys that were loaded
+    module _ (end : SliceEnd) (passes : PassesSlice (with_keys m (load ∷ [])) after before now end) (count : ticks after ≡ ticks kernel + 1) where
+      abbrev u : State
+      u = with_keys m (load ∷ [])
 
-    abbrev t : State
-    t = passes.t
+      abbrev t : State
+      t = passes.t
 
-    abbrev emptied : State
-    emptied = record t { terms = terminals_emptied t.terms }
+      abbrev emptied : State
+      emptied = record t { terms = terminals_emptied t.terms }
 
-    pub ticked : t.inner.tick ≡ m.inner.tick + 1
-    ticked = tick-tied after now.devices emptied passes.there ∙ count ∙ ap (λ (tick : ℕ). tick + 1) (sym (tick-tied kernel before.devices m tied))
+      pub ticked : t.inner.tick ≡ m.inner.tick + 1
+      ticked = tick-tied after now.devices emptied passes.there ∙ count ∙ ap (λ (tick : ℕ). tick + 1) (sym (tick-tied kernel before.devices m tied))
 
-    pub goes-on : (more : Keys) (extra : List ℕ) → AreLater t.inner.tick more → GoesWith start now.devices.drives (keys ++ load) (ran ++ SLICE ∷ []) s emptied (written ++ console_bytes t.terms) more extra
-    goes-on more extra later =
-        let due_more : AreLater (m.inner.tick + 1) more = subst (λ (tick : ℕ). AreLater tick more) ticked later in
-        let behind : Keys = keys_then (load ∷ []) more in
-        let it : GoesWith start before.devices.drives keys ran s m written behind (SLICE ∷ extra) = goes behind (SLICE ∷ extra) (later-then m.inner.tick (load ∷ []) more due (later-before m.inner.tick more due_more)) in
-        let loaded : with_keys m behind ≡ with_keys u more = ap (λ (terms : List TerminalState). record m { terms = terms }) (load-then m.terms (load ∷ []) more) in
-        let slice : Slice SLICE (with_keys u more) (each_with more passes.states) end (with_keys t more) = slice-with SLICE u t passes.states end more due_more passes.slice in
-        let one : Run (SLICE ∷ []) (with_keys u more) (each_with more passes.states) (console_bytes (keys_loaded t.terms more)) (record (with_keys t more) { terms = terminals_emptied (keys_loaded t.terms more) }) = run-slice SLICE (with_keys u more) (with_keys t more) (each_with more passes.states) end alive slice in
-        let one_bytes : Run (SLICE ∷ []) (with_keys u more) (each_with more passes.states) (console_bytes t.terms) (record (with_keys t more) { terms = terminals_emptied (keys_loaded t.terms more) }) = subst (λ (bytes : List ℕ). Run (SLICE ∷ []) (with_keys u more) (each_with more passes.states) bytes (record (with_keys t more) { terms = terminals_emptied (keys_loaded t.terms more) })) (load-bytes t.terms more) one in
-        let one_to : Run (SLICE ∷ []) (with_keys u more) (each_with more passes.states) (console_bytes t.terms) (with_keys emptied more) = subst (λ (terms : List TerminalState). Run (SLICE ∷ []) (with_keys u more) (each_with more passes.states) (console_bytes t.terms) (record t { terms = terms })) (load-emptied t.terms more) one_bytes in
-        let from : State = with_keys s (keys_then (keys ∷ []) behind) in
-        let so_far : Run ran from it.states written (with_keys u more) = subst (λ (u : State). Run ran from it.states written u) loaded it.run in
-        let whole : Run (ran ++ SLICE ∷ []) from (it.states ++ each_with more passes.states) (written ++ console_bytes t.terms) (with_keys emptied more) = run-append ran (SLICE ∷ []) from (with_keys u more) (with_keys emptied more) it.states (each_with more passes.states) written (console_bytes t.terms) so_far one_to in
-        let front : Run (take (length ran) (ran ++ SLICE ∷ extra)) from it.states written (with_keys u more) = subst (λ (slices : List ℕ). Run slices from it.states written (with_keys u more)) (sym (take-front ran (SLICE ∷ extra))) so_far in
-        let kept : KeepsImages (ComesInto (ran ++ SLICE ∷ extra) from) (it.states ++ each_with more passes.states) start now.devices.drives = images-later (ran ++ SLICE ∷ extra) (length ran) SLICE from (with_keys u more) it.states (each_with more passes.states) written start before.devices.drives now.devices.drives (get-behind ran extra SLICE) alive front it.images (keeps-with SLICE u passes.states more before.devices.drives now.devices.drives due_more passes.images) in
-        let same : from ≡ with_keys s (keys_then ((keys ++ load) ∷ []) more) = ap (with_keys s) (then-then keys load more) in
+      pub goes-on : (more : Keys) (extra : List ℕ) → AreLater t.inner.tick more → GoesWith start now.devices.drives
+          (keys ++ load) (ran ++ SLICE ∷ []) s emptied (written ++ console_bytes t.terms) more extra
+      goes-on more extra later =
+          let due_more : AreLater (m.inner.tick + 1) more = subst (λ (tick : ℕ). AreLater tick more) ticked later in
+          let behind : Keys = keys_then (load ∷ []) more in
+          let it : GoesWith start before.devices.drives keys ran s m written behind (SLICE ∷ extra) = goes behind
+          (SLICE ∷ extra) (later-then m.inner.tick (load ∷ []) more due (later-before m.inner.tick more due_more))
+          in
+          let loaded : with_keys m behind ≡ with_keys u more = ap (λ (terms : List TerminalState). record m { terms = terms }) (load-then m.terms (load ∷ []) more) in
+          let slice : Slice SLICE (with_keys u more) (each_with more passes.states) end (with_keys t more) = slice-with SLICE u t passes.states end more due_more passes.slice in
+          let one : Run (SLICE ∷ []) (with_keys u more) (each_with more passes.states)
+          (console_bytes (keys_loaded t.terms more))
+          (record (with_keys t more) { terms = terminals_emptied (keys_loaded t.terms more) }) = run-slice SLICE
+          (with_keys u more) (with_keys t more) (each_with more passes.states) end alive slice in
+          let one_bytes : Run (SLICE ∷ []) (with_keys u more) (each_with more passes.states) (console_bytes t.terms)
+          (record (with_keys t more) { terms = terminals_emptied (keys_loaded t.terms more) }) = subst
+          (λ (bytes : List ℕ). Run (SLICE ∷ []) (with_keys u more) (each_with more passes.states) bytes
+          (record (with_keys t more) { terms = terminals_emptied (keys_loaded t.terms more) }))
+          (load-bytes t.terms more) one in
+          let one_to : Run (SLICE ∷ []) (with_keys u more) (each_with more passes.states) (console_bytes t.terms)
+          (with_keys emptied more) = subst (λ (terms : List TerminalState). Run (SLICE ∷ []) (with_keys u more)
+          (each_with more passes.states) (console_bytes t.terms) (record t { terms = terms }))
+          (load-emptied t.terms more) one_bytes in
+          let from : State = with_keys s (keys_then (keys ∷ []) behind) in
+          let so_far : Run ran from it.states written (with_keys u more) = subst (λ (u : State). Run ran from it.states written u) loaded it.run in
+          let whole : Run (ran ++ SLICE ∷ []) from (it.states ++ each_with more passes.states)
+          (written ++ console_bytes t.terms) (with_keys emptied more) = run-append ran (SLICE ∷ []) from
+          (with_keys u more) (with_keys emptied more) it.states (each_with more passes.states) written
+          (console_bytes t.terms) so_far one_to in
+          let front : Run (take (length ran) (ran ++ SLICE ∷ extra)) from it.states written (with_keys u more) = subst
+          (λ (slices : List ℕ). Run slices from it.states written (with_keys u more))
+          (sym (take-front ran (SLICE ∷ extra))) so_far in
+          let kept : KeepsImages (ComesInto (ran ++ SLICE ∷ extra) from) (it.states ++ each_with more passes.states)
+          start now.devices.drives = images-later (ran ++ SLICE ∷ extra) (length ran) SLICE from (with_keys u more)
+          it.states (each_with more passes.states) written start before.devices.drives now.devices.drives
+          (get-behind ran extra SLICE) alive front it.images (keeps-with SLICE u passes.states more
+          before.devices.drives now.devices.drives due_more passes.images) in
+          let same : from ≡ with_keys s (keys_then ((keys ++ load) ∷ []) more) = ap (with_keys s) (then-then keys load more) in
+          record {
+            states = it.states ++ each_with more passes.states;
+            run = subst (λ (from : State). Run (ran ++ SLICE ∷ []) from (it.states ++ each_with more passes.states) (written ++ console_bytes t.terms) (with_keys emptied more)) same whole;
+            images =
+                subst (λ (from : State). KeepsImages (ComesInto ((ran ++ SLICE ∷ []) ++ extra) from) (it.states ++ each_with more passes.states) start now.devices.drives) same
+                (subst (λ (slices : List ℕ). KeepsImages (ComesInto slices from) (it.states ++ each_with more passes.states) start now.devices.drives) (sym (append_assoc ran (SLICE ∷ []) extra)) kept);
+          }
+
+    -- or it was not run to its end
+    pub comes-partly : (origin : World) (first : Option (List ℕ)) → origin.out ≡ first → before.out ≡ stream_with first
+        written → HasNoFault origin before → StopsTurn (with_keys m (load ∷ [])) before now
+        → RunsPartly (ran ++ SLICE ∷ []) (with_keys s ((keys ++ load) ∷ [])) origin now
+    comes-partly origin first out gained_first none stops =
+        let it : GoesWith start before.devices.drives keys ran s m written (load ∷ []) (SLICE ∷ []) = goes (load ∷ []) (SLICE ∷ []) due in
         record {
-          states = it.states ++ each_with more passes.states;
-          run = subst (λ (from : State). Run (ran ++ SLICE ∷ []) from (it.states ++ each_with more passes.states) (written ++ console_bytes t.terms) (with_keys emptied more)) same whole;
-          images =
-              subst (λ (from : State). KeepsImages (ComesInto ((ran ++ SLICE ∷ []) ++ extra) from) (it.states ++ each_with more passes.states) start now.devices.drives) same
-              (subst (λ (slices : List ℕ). KeepsImages (ComesInto slices from) (it.states ++ each_with more passes.states) start now.devices.drives) (sym (append_assoc ran (SLICE ∷ []) extra)) kept);
+          count = length ran;
+          states = it.states;
+          written = written;
+          reached = with_keys m (load ∷ []);
+          run = subst (λ (slices : List ℕ). Run slices (with_keys s ((keys ++ load) ∷ [])) it.states written (with_keys m (load ∷ []))) (sym (take-front ran (SLICE ∷ []))) it.run;
+          n = SLICE;
+          next = get-behind ran [] SLICE;
+          lives = alive;
+          stopped = by stops;
         }
+      where
+        gained : before.out ≡ stream_with origin.out written
+        gained = gained_first ∙ ap (λ (stream : Option (List ℕ)). stream_with stream written) (sym out)
 
-  -- or it was not run to its end
-  pub comes-partly : (origin : World) (first : Option (List ℕ)) → origin.out ≡ first → before.out ≡ stream_with first written → HasNoFault origin before → StopsTurn (with_keys m (load ∷ [])) before now → RunsPartly (ran ++ SLICE ∷ []) (with_keys s ((keys ++ load) ∷ [])) origin now
-  comes-partly origin first out gained_first none stops =
-      let it : GoesWith start before.devices.drives keys ran s m written (load ∷ []) (SLICE ∷ []) = goes (load ∷ []) (SLICE ∷ []) due in
-      record {
-        count = length ran;
-        states = it.states;
-        written = written;
-        reached = with_keys m (load ∷ []);
-        run = subst (λ (slices : List ℕ). Run slices (with_keys s ((keys ++ load) ∷ [])) it.states written (with_keys m (load ∷ []))) (sym (take-front ran (SLICE ∷ []))) it.run;
-        n = SLICE;
-        next = get-behind ran [] SLICE;
-        lives = alive;
-        stopped = by stops;
-      }
-    where
-      gained : before.out ≡ stream_with origin.out written
-      gained = gained_first ∙ ap (λ (stream : Option (List ℕ)). stream_with stream written) (sym out)
-
-      by : StopsTurn (with_keys m (load ∷ [])) before now → (StopsSlice SLICE (with_keys m (load ∷ [])) now.devices × (now.out ≡ stream_with origin.out written) × HasNoFault origin now) ⊎ BreaksOutput SLICE (with_keys m (load ∷ [])) (stream_with origin.out written) now
-      by (inl (slice, same, kept)) = inl (slice, same ∙ gained, (kept.0 ∙ none.0, kept.1 ∙ none.1, kept.2 ∙ none.2))
-      by (inr breaks) = inr (subst (λ (stream : Option (List ℕ)). BreaksOutput SLICE (with_keys m (load ∷ [])) stream now) gained breaks)
+        by : StopsTurn (with_keys m (load ∷ [])) before now → (StopsSlice SLICE (with_keys m (load ∷ [])) now.devices ×
+            (now.out ≡ stream_with origin.out written) × HasNoFault origin now) ⊎ BreaksOutput SLICE
+            (with_keys m (load ∷ [])) (stream_with origin.out written) now
+        by (inl (slice, same, kept)) = inl (slice, same ∙ gained, (kept.0 ∙ none.0, kept.1 ∙ none.1, kept.2 ∙ none.2))
+        by (inr breaks) = inr (subst (λ (stream : Option (List ℕ)). BreaksOutput SLICE (with_keys m (load ∷ [])) stream now) gained breaks)
 
 -- ---- a turn at a keyboard
 
@@ -272,7 +313,8 @@ pub record TakesTurn (old new : Typed) (last : SliceEnd) (kernel after : Kernel)
   pub kept : kept_keys new ≡ kept_keys old ++ keys_typed (ticks kernel + 1) line
   pub slices : new.slices ≡ old.slices + 1
   pub ran : IfOk answer (λ end. (s : State) → Represents kernel before.devices s → PassesSlice (with_keys s (load_of (keys_typed (ticks kernel + 1) line))) after before now end)
-  pub stopped : OnErr answer ((s : State) → All IsObserved before.devices.terms → Represents kernel before.devices s → StopsTurn (with_keys s (load_of (keys_typed (ticks kernel + 1) line))) before now)
+  pub stopped : OnErr answer ((s : State) → All IsObserved before.devices.terms → Represents kernel before.devices s
+      → StopsTurn (with_keys s (load_of (keys_typed (ticks kernel + 1) line))) before now)
   pub count : OnOk answer (ticks after ≡ ticks kernel + 1)
 
 -- the world before, with other devices
@@ -280,7 +322,9 @@ abbrev pub with_devices : World → Outside → World
 with_devices world devices = record world { devices = devices }
 
 -- what was typed, and the slice behind it
-module _ (old mid new : Typed) (last : SliceEnd) (kernel after : Kernel) (from to : KeyboardState) (before now : World) (loaded : Outside) (typed : TypesLine last kernel old mid from to before.devices loaded) (same : kept_keys new ≡ kept_keys mid) (slices : new.slices ≡ mid.slices + 1) where
+module _ (old mid new : Typed) (last : SliceEnd) (kernel after : Kernel) (from to : KeyboardState)
+    (before now : World) (loaded : Outside) (typed : TypesLine last kernel old mid from to before.devices loaded)
+    (same : kept_keys new ≡ kept_keys mid) (slices : new.slices ≡ mid.slices + 1) where
   abbrev load : Keys
   load = load_of (keys_typed (ticks kernel + 1) typed.line)
 
@@ -334,7 +378,9 @@ slices-more old new more = replicate_more old.slices SLICE ∙ ap (λ (count : �
 all-keys : (old new : Typed) (load : List ScriptKey) → kept_keys new ≡ kept_keys old ++ load → keys_for 0 (kept_keys old) ++ keys_for 0 load ≡ keys_for 0 (kept_keys new)
 all-keys old new load kept = sym (keys-more (kept_keys old) load) ∙ ap (keys_for 0) (sym kept)
 
-module _ (start : List DriveView) (first : Option (List ℕ)) (old new : Typed) (last : SliceEnd) (from mid to : KeyboardState) (s : State) (kernel after : Kernel) (before now : World) (here : HasCome start first old last from mid s kernel before.devices before.out) (lives : SomeLives kernel before.devices) where
+module _ (start : List DriveView) (first : Option (List ℕ)) (old new : Typed) (last : SliceEnd)
+    (from mid to : KeyboardState) (s : State) (kernel after : Kernel) (before now : World) (here : HasCome start first
+    old last from mid s kernel before.devices before.out) (lives : SomeLives kernel before.devices) where
   abbrev m : State
   m = here.m
 
@@ -390,16 +436,24 @@ module _ (start : List DriveView) (first : Option (List ℕ)) (old new : Typed) 
               (takes-then (lines_of it.turns) (line_list made.line) from mid to it.taken made.taken);
         }
 
-    goes-then : (more : Keys) (extra : List ℕ) → AreLater over.inner.tick more → GoesWith start now.devices.drives (keys_for 0 (kept_keys new)) (kept_slices new) s bare (here.written ++ console_bytes over.terms) more extra
+    goes-then : (more : Keys) (extra : List ℕ) → AreLater over.inner.tick more → GoesWith start now.devices.drives
+        (keys_for 0 (kept_keys new)) (kept_slices new) s bare (here.written ++ console_bytes over.terms) more extra
     goes-then more extra later =
-        let gone : GoesWith start now.devices.drives (keys_for 0 (kept_keys old) ++ keys_for 0 (turn_keys turn)) (kept_slices old ++ SLICE ∷ []) s bare (here.written ++ console_bytes over.terms) more extra = goes-on start (keys_for 0 (kept_keys old)) (keys_for 0 (turn_keys turn)) (kept_slices old) s m here.written kernel after before now here.tied alive here.goes due end passes made.count more extra later in
-        subst (λ (slices : List ℕ). GoesWith start now.devices.drives (keys_for 0 (kept_keys new)) slices s bare (here.written ++ console_bytes over.terms) more extra) (slices-more old new made.slices)
-        (subst (λ (keys : List Key). GoesWith start now.devices.drives keys (kept_slices old ++ SLICE ∷ []) s bare (here.written ++ console_bytes over.terms) more extra) (all-keys old new (turn_keys turn) kept) gone)
+        let gone : GoesWith start now.devices.drives (keys_for 0 (kept_keys old) ++ keys_for 0 (turn_keys turn))
+        (kept_slices old ++ SLICE ∷ []) s bare (here.written ++ console_bytes over.terms) more extra = goes-on
+        start (keys_for 0 (kept_keys old)) (keys_for 0 (turn_keys turn)) (kept_slices old) s m here.written kernel
+        after before now here.tied alive here.goes due end passes made.count more extra later in
+        subst (λ (slices : List ℕ). GoesWith start now.devices.drives (keys_for 0 (kept_keys new)) slices s bare
+        (here.written ++ console_bytes over.terms) more extra) (slices-more old new made.slices)
+        (subst (λ (keys : List Key). GoesWith start now.devices.drives keys (kept_slices old ++ SLICE ∷ []) s bare
+        (here.written ++ console_bytes over.terms) more extra) (all-keys old new (turn_keys turn) kept) gone)
 
     pub comes-typed : HasCome start first new end from to s after now.devices now.out
     comes-typed =
         let was : m.terms ≡ before.devices.terms = ap (λ (s : State). s.terms) here.tied.is in
-        let told_m : All IsObserved (with_keys m (load_of (turn_keys turn))).terms = observed-loaded m.terms (load_of (turn_keys turn)) (subst (λ (terms : List TerminalState). All IsObserved terms) (sym was) here.told) in
+        let told_m : All IsObserved (with_keys m (load_of (turn_keys turn))).terms = observed-loaded m.terms
+        (load_of (turn_keys turn)) (subst (λ (terms : List TerminalState). All IsObserved terms) (sym was)
+        here.told) in
         let told_t : All IsObserved over.terms = observed-slice SLICE (with_keys m (load_of (turn_keys turn))) passes.states end over passes.slice told_m in
         let is : bare.terms ≡ now.devices.terms = ap (λ (s : State). s.terms) passes.there.is in
         record {
@@ -407,16 +461,22 @@ module _ (start : List DriveView) (first : Option (List ℕ)) (old new : Typed) 
           written = here.written ++ console_bytes over.terms;
           told = subst (λ (terms : List TerminalState). All IsObserved terms) is (observed-emptied over.terms told_t);
           tied = passes.there;
-          gained = passes.output here.told ∙ ap (λ (stream : Option (List ℕ)). stream_with stream (console_bytes over.terms)) here.gained ∙ appended-twice first here.written (console_bytes over.terms);
+          gained = passes.output here.told ∙ ap (λ (stream : Option (List ℕ)). stream_with stream
+              (console_bytes over.terms)) here.gained ∙ appended-twice first here.written (console_bytes over.terms);
           turns = turns-on;
           goes = goes-then;
         }
 
   -- or it stopped
-  pub partly-typed : (fault : RunFault) (origin : World) → origin.out ≡ first → HasNoFault origin before → TakesTurn old new last kernel after (Err fault) mid to before now → RunsPartly (kept_slices new) (with_keys s (load_of (kept_keys new))) origin now
+  pub partly-typed : (fault : RunFault) (origin : World) → origin.out ≡ first → HasNoFault origin before
+      → TakesTurn old new last kernel after (Err fault) mid to before now → RunsPartly (kept_slices new)
+      (with_keys s (load_of (kept_keys new))) origin now
   partly-typed fault origin out none made =
       let load : List ScriptKey = keys_typed (ticks kernel + 1) made.line in
       let due : AreLater m.inner.tick (load_of load) = subst (λ (tick : ℕ). AreLater tick (load_of load)) (sym tick-here) (load-later (ticks kernel) load (line-typed (ticks kernel + 1) made.line)) in
-      let part : RunsPartly (kept_slices old ++ SLICE ∷ []) (with_keys s ((keys_for 0 (kept_keys old) ++ keys_for 0 load) ∷ [])) origin now = comes-partly start (keys_for 0 (kept_keys old)) (keys_for 0 load) (kept_slices old) s m here.written kernel after before now here.tied alive here.goes due origin first out here.gained none (made.stopped m here.told here.tied) in
+      let part : RunsPartly (kept_slices old ++ SLICE ∷ [])
+      (with_keys s ((keys_for 0 (kept_keys old) ++ keys_for 0 load) ∷ [])) origin now = comes-partly start
+      (keys_for 0 (kept_keys old)) (keys_for 0 load) (kept_slices old) s m here.written kernel after before now
+      here.tied alive here.goes due origin first out here.gained none (made.stopped m here.told here.tied) in
       subst (λ (slices : List ℕ). RunsPartly slices (with_keys s (load_of (kept_keys new))) origin now) (slices-more old new made.slices)
       (subst (λ (keys : List Key). RunsPartly (kept_slices old ++ SLICE ∷ []) (with_keys s (keys ∷ [])) origin now) (all-keys old new load made.kept) part)

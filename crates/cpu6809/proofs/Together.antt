@@ -69,7 +69,9 @@ module _ (cells : Cells) (at byte : ℕ) (bytes : List ℕ) (fits : at + suc (le
   first same =
       let start : address - at ≡ 0 = omega arith in
       outside (either (omega arith)) ∙ cond-true (address == at) (Some byte) (cells address) (eq-eqb address at same)
-      ∙ sym (cond-true (is_in_range at (suc (length bytes)) address) (slice_get (byte ∷ bytes) (address - at)) (cells address) (inside at (suc (length bytes)) address (omega arith) (omega arith)) ∙ ap (slice_get (byte ∷ bytes)) start)
+      ∙ sym (cond-true (is_in_range at (suc (length bytes)) address) (slice_get (byte ∷ bytes) (address - at))
+      (cells address) (inside at (suc (length bytes)) address (omega arith) (omega arith)) ∙ ap
+      (slice_get (byte ∷ bytes)) start)
 
   under : address < at → Same
   under low =
@@ -80,7 +82,9 @@ module _ (cells : Cells) (at byte : ℕ) (bytes : List ℕ) (fits : at + suc (le
   within low high =
       let further : address - at ≡ suc (address - next) = omega arith in
       cond-true (is_in_range next (length bytes) address) (slice_get bytes (address - next)) (put_cell cells at byte address) (inside next (length bytes) address (omega arith) (omega arith))
-      ∙ sym (cond-true (is_in_range at (suc (length bytes)) address) (slice_get (byte ∷ bytes) (address - at)) (cells address) (inside at (suc (length bytes)) address (omega arith) high) ∙ ap (slice_get (byte ∷ bytes)) further)
+      ∙ sym (cond-true (is_in_range at (suc (length bytes)) address) (slice_get (byte ∷ bytes) (address - at))
+      (cells address) (inside at (suc (length bytes)) address (omega arith) high) ∙ ap (slice_get (byte ∷ bytes))
+      further)
 
   over : at < address → at + suc (length bytes) ≤ address → Same
   over low high =

@@ -70,18 +70,25 @@ module _ (slots : ℕ) (bytes : List ℕ) (at : ℕ) (new : List ℕ) (named : i
   before : (address : ℕ) → address < at → cells_of slots after address ≡ stored address
   before address low =
       kept address (byte_before address low)
-      ∙ sym (cond-false (is_in_range at (length new) address) (slice_get new (address - at)) (cells_of slots bytes address) (and_left (nat_le at address) (nat_lt address (at + length new)) (lt-leb at address low)))
+      ∙ sym (cond-false (is_in_range at (length new) address) (slice_get new (address - at))
+      (cells_of slots bytes address) (and_left (nat_le at address) (nat_lt address (at + length new))
+      (lt-leb at address low)))
 
   past : (address : ℕ) → at + length new ≤ address → cells_of slots after address ≡ stored address
   past address high =
       kept address (byte_behind address high)
-      ∙ sym (cond-false (is_in_range at (length new) address) (slice_get new (address - at)) (cells_of slots bytes address) (and_right (nat_le at address) (nat_lt address (at + length new)) (le-ltb address (at + length new) high)))
+      ∙ sym (cond-false (is_in_range at (length new) address) (slice_get new (address - at))
+      (cells_of slots bytes address) (and_right (nat_le at address) (nat_lt address (at + length new))
+      (le-ltb address (at + length new) high)))
 
   within : (k : ℕ) → k < length new → cells_of slots after (at + k) ≡ stored (at + k)
   within k less =
       let back : at + k - at ≡ k = omega arith in
       cell_there slots after (at + k) (same_slot slots at k (omega arith) named) ∙ new_byte k less
-      ∙ sym (cond-true (is_in_range at (length new) (at + k)) (slice_get new (at + k - at)) (cells_of slots bytes (at + k)) (and_from (nat_le at (at + k)) (nat_lt (at + k) (at + length new)) (le-leb at (at + k) (omega arith)) (lt-ltb (at + k) (at + length new) (omega arith))) ∙ ap (slice_get new) back)
+      ∙ sym (cond-true (is_in_range at (length new) (at + k)) (slice_get new (at + k - at))
+      (cells_of slots bytes (at + k)) (and_from (nat_le at (at + k)) (nat_lt (at + k) (at + length new))
+      (le-leb at (at + k) (omega arith)) (lt-ltb (at + k) (at + length new) (omega arith))) ∙ ap (slice_get new)
+      back)
 
   -- they are stored in its cells
   pub cells_of-stored : cells_of slots after ≡ stored

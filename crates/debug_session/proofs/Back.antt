@@ -59,7 +59,8 @@ stood most a b up none = by_test (nat_lt a b) refl
     by_test false is = omega (arith, up, ltb-false a b is)
 
 -- it is as it was
-same-again : (keys : List Key) (x y z : TerminalState) → All CanBeTaken keys → HasNoKeys x → HasNoBytes x → OnlyGains (with_keys keys x) y → LosesKeys y z → NotFailed x (without_bytes z) → without_bytes z ≡ x
+same-again : (keys : List Key) (x y z : TerminalState) → All CanBeTaken keys → HasNoKeys x → HasNoBytes x
+    → OnlyGains (with_keys keys x) y → LosesKeys y z → NotFailed x (without_bytes z) → without_bytes z ≡ x
 same-again keys x y z taken no_keys no_bytes gains loses none =
     let kept : z.keys ≡ x.keys = lost-keys keys x y z taken gains loses ∙ sym no_keys in
     let put : emptied z.put ≡ x.put = same-put z.put x.put (ap (λ put. is_some put) loses.put ∙ gains.observed) no_bytes in
@@ -68,7 +69,8 @@ same-again keys x y z taken no_keys no_bytes gains loses none =
 
 -- ---- all of them
 
-pub unloaded-again : (number : ℕ) (keys : List ScriptKey) (a b c : List TerminalState) → All HasTick keys → TerminalsOnlyGain (loaded_from number keys a) b → AllZip LosesKeys b c → All HasNoKeys (terminals_emptied c)
+pub unloaded-again : (number : ℕ) (keys : List ScriptKey) (a b c : List TerminalState) → All HasTick keys
+    → TerminalsOnlyGain (loaded_from number keys a) b → AllZip LosesKeys b c → All HasNoKeys (terminals_emptied c)
 unloaded-again number keys [] [] [] ticks gains loses = All-nil HasNoKeys
 unloaded-again number keys [] [] (z ∷ c) ticks gains loses = absurd loses
 unloaded-again number keys [] (y ∷ b) c ticks gains loses = absurd gains
@@ -79,7 +81,9 @@ unloaded-again number keys (x ∷ a) (y ∷ b) (z ∷ c) ticks gains loses =
     (lost-keys (keys_for number keys) x y z (keys-taken number keys ticks) gains.0 loses.0)
     (unloaded-again (suc number) keys a b c ticks gains.1 loses.1)
 
-pub loaded-again : (number : ℕ) (keys : List ScriptKey) (a b c : List TerminalState) → TerminalsOnlyGain (loaded_from number keys a) b → AllZip LosesKeys b c → TerminalsOnlyGain (loaded_from number keys a) (loaded_from number keys (terminals_emptied c))
+pub loaded-again : (number : ℕ) (keys : List ScriptKey) (a b c : List TerminalState) → TerminalsOnlyGain
+    (loaded_from number keys a) b → AllZip LosesKeys b c → TerminalsOnlyGain (loaded_from number keys a)
+    (loaded_from number keys (terminals_emptied c))
 loaded-again number keys [] [] [] gains loses = tt
 loaded-again number keys [] [] (z ∷ c) gains loses = absurd loses
 loaded-again number keys [] (y ∷ b) c gains loses = absurd gains
@@ -88,14 +92,17 @@ loaded-again number keys (x ∷ a) (y ∷ b) [] gains loses = absurd loses
 loaded-again number keys (x ∷ a) (y ∷ b) (z ∷ c) gains loses =
     (gains-again (keys_for number keys) x y z gains.0 loses.0, loaded-again (suc number) keys a b c gains.1 loses.1)
 
-pub first-again : (number : ℕ) (keys : List ScriptKey) (a b c : List TerminalState) → All HasTick keys → All HasNoKeys a → All HasNoBytes a → TerminalsOnlyGain (loaded_from number keys a) b → AllZip LosesKeys b c → AllZip NotFailed a (terminals_emptied c) → terminals_emptied c ≡ a
+pub first-again : (number : ℕ) (keys : List ScriptKey) (a b c : List TerminalState) → All HasTick keys
+    → All HasNoKeys a → All HasNoBytes a → TerminalsOnlyGain (loaded_from number keys a) b → AllZip LosesKeys b c
+    → AllZip NotFailed a (terminals_emptied c) → terminals_emptied c ≡ a
 first-again number keys [] [] [] ticks no_keys no_bytes gains loses none = refl
 first-again number keys [] [] (z ∷ c) ticks no_keys no_bytes gains loses none = absurd loses
 first-again number keys [] (y ∷ b) c ticks no_keys no_bytes gains loses none = absurd gains
 first-again number keys (x ∷ a) [] c ticks no_keys no_bytes gains loses none = absurd gains
 first-again number keys (x ∷ a) (y ∷ b) [] ticks no_keys no_bytes gains loses none = absurd loses
 first-again number keys (x ∷ a) (y ∷ b) (z ∷ c) ticks no_keys no_bytes gains loses none =
-    let here : without_bytes z ≡ x = same-again (keys_for number keys) x y z (keys-taken number keys ticks) (All-head HasNoKeys x a no_keys) (All-head HasNoBytes x a no_bytes) gains.0 loses.0 none.0 in
+    let here : without_bytes z ≡ x = same-again (keys_for number keys) x y z (keys-taken number keys ticks)
+    (All-head HasNoKeys x a no_keys) (All-head HasNoBytes x a no_bytes) gains.0 loses.0 none.0 in
     let rest : terminals_emptied c ≡ a = first-again (suc number) keys a b c ticks (All-tail HasNoKeys x a no_keys) (All-tail HasNoBytes x a no_bytes) gains.1 loses.1 none.1 in
     ap (λ (terminal : TerminalState). terminal ∷ terminals_emptied c) here ∙ ap (λ (terminals : List TerminalState). x ∷ terminals) rest
 

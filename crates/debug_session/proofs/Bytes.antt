@@ -28,7 +28,9 @@ unrolled cells at next k most low small is =
     ∙ ap (λ bytes. byte_before (cells at) bytes) (wrapped cells (most - (k + 1)) (at + 1) next there)
 
 -- one more
-pub byte-more : (cells : Cells) (at next : ℕ) (bytes now : List ℕ) (k most byte : ℕ) → k < most → at < 65536 → next ≡ (at + 1) % 65536 → cells at ≡ Some byte → bytes ≡ now ++ bytes_from cells at (most - k) → bytes ≡ (now ++ byte ∷ []) ++ bytes_from cells next (most - (k + 1))
+pub byte-more : (cells : Cells) (at next : ℕ) (bytes now : List ℕ) (k most byte : ℕ) → k < most → at < 65536
+    → next ≡ (at + 1) % 65536 → cells at ≡ Some byte → bytes ≡ now ++ bytes_from cells at (most - k)
+    → bytes ≡ (now ++ byte ∷ []) ++ bytes_from cells next (most - (k + 1))
 byte-more cells at next bytes now k most byte low small is some so_far =
     let rest = bytes_from cells next (most - (k + 1)) in
     so_far
@@ -57,7 +59,9 @@ range-more a (suc n) =
     ap (λ rest. a ∷ rest) (range-more (a + 1) n ∙ ap (λ k. range_with_len (a + 1) n ++ k ∷ []) same)
 
 -- one more
-pub seen-more : (cells : Cells) (at n place : ℕ) (byte : Option ℕ) (line now : List ℕ) → place ≡ (at + n) % 65536 → byte ≡ cells place → now ≡ line ++ flat_map (λ at. byte_text (cells (at % 65536))) (range_with_len at n) → now ++ byte_text byte ≡ line ++ flat_map (λ at. byte_text (cells (at % 65536))) (range_with_len at (n + 1))
+pub seen-more : (cells : Cells) (at n place : ℕ) (byte : Option ℕ) (line now : List ℕ) → place ≡ (at + n) % 65536
+    → byte ≡ cells place → now ≡ line ++ flat_map (λ at. byte_text (cells (at % 65536))) (range_with_len at n)
+    → now ++ byte_text byte ≡ line ++ flat_map (λ at. byte_text (cells (at % 65536))) (range_with_len at (n + 1))
 seen-more cells at n place byte line now is seen so_far =
     let f : ℕ → List ℕ = λ at. byte_text (cells (at % 65536)) in
     let next : n + 1 ≡ suc n = omega arith in
@@ -73,7 +77,10 @@ seen-more cells at n place byte line now is seen so_far =
 -- ---- instructions
 
 -- one more
-pub line-more : (cells : Cells) (at next length : ℕ) (bytes all now then : List ℕ) (k count : ℕ) → k < count → bytes ≡ bytes_from cells at longest_instruction → then ≡ now ++ dis_line at (reading bytes) → length ≡ reading_length (reading bytes) → next ≡ (at + length) % 65536 → all ≡ now ++ dis_lines cells at (count - k) → all ≡ then ++ dis_lines cells next (count - (k + 1))
+pub line-more : (cells : Cells) (at next length : ℕ) (bytes all now then : List ℕ) (k count : ℕ) → k < count
+    → bytes ≡ bytes_from cells at longest_instruction → then ≡ now ++ dis_line at (reading bytes)
+    → length ≡ reading_length (reading bytes) → next ≡ (at + length) % 65536 → all ≡ now ++ dis_lines cells at
+    (count - k) → all ≡ then ++ dis_lines cells next (count - (k + 1))
 line-more cells at next length bytes all now then k count low are put is place so_far =
     let left : count - k ≡ suc (count - (k + 1)) = omega (arith, low) in
     let read : reading bytes ≡ reading_at cells at = ap reading are in
@@ -92,8 +99,12 @@ lines-all cells at all now k count done so_far =
     sym (so_far ∙ ap (λ count. now ++ dis_lines cells at count) left ∙ append-nil now)
 
 -- the line is whole
-pub line-end : (cells : Cells) (before : List ℕ) (span : Span) (n : ℕ) (now : List ℕ) → n ≡ span.count → now ≡ (before ++ four_digits span.at) ++ flat_map (λ at. byte_text (cells (at % 65536))) (range_with_len span.at n) → now ++ 10 ∷ [] ≡ before ++ mem_line cells span
+pub line-end : (cells : Cells) (before : List ℕ) (span : Span) (n : ℕ) (now : List ℕ) → n ≡ span.count
+    → now ≡ (before ++ four_digits span.at) ++ flat_map (λ at. byte_text (cells (at % 65536)))
+    (range_with_len span.at n) → now ++ 10 ∷ [] ≡ before ++ mem_line cells span
 line-end cells before span n now all so_far =
     let seen : List ℕ = flat_map (λ at. byte_text (cells (at % 65536))) (range_with_len span.at span.count) in
-    ap (λ line. line ++ 10 ∷ []) (so_far ∙ ap (λ count. (before ++ four_digits span.at) ++ flat_map (λ at. byte_text (cells (at % 65536))) (range_with_len span.at count)) all ∙ append_assoc before (four_digits span.at) seen)
+    ap (λ line. line ++ 10 ∷ []) (so_far ∙ ap (λ count. (before ++ four_digits span.at) ++ flat_map
+    (λ at. byte_text (cells (at % 65536))) (range_with_len span.at count)) all ∙ append_assoc before
+    (four_digits span.at) seen)
     ∙ append_assoc before (four_digits span.at ++ seen) (10 ∷ [])

@@ -115,7 +115,9 @@ fell-emptied a b c loses emptied drives = record {
   drives = λ drive. subst (λ (states : List DriveState). (drive_at (drive_states a.drives) drive).faults ≤ (drive_at states drive).faults) drives (omega arith);
 }
 
-pub fell-dropped : (keys : List ScriptKey) (a b c d : Outside) → AllZip LosesKeys a.terms b.terms → c.terms ≡ terminals_emptied b.terms → drive_states a.drives ≡ drive_states c.drives → d.terms ≡ loaded keys c.terms → drive_states d.drives ≡ drive_states c.drives → NoneFell a d
+pub fell-dropped : (keys : List ScriptKey) (a b c d : Outside) → AllZip LosesKeys a.terms b.terms
+    → c.terms ≡ terminals_emptied b.terms → drive_states a.drives ≡ drive_states c.drives → d.terms ≡ loaded keys
+    c.terms → drive_states d.drives ≡ drive_states c.drives → NoneFell a d
 fell-dropped keys a b c d loses emptied drives terms still =
     fell-then a c d (fell-emptied a b c loses emptied drives) (fell-started keys c d terms still)
 
@@ -123,13 +125,17 @@ fell-dropped keys a b c d loses emptied drives terms still =
 pub unfailed-before : (a b c : Outside) → NoneFell a b → NoneFell b c → Unfailed a c → Unfailed a b
 unfailed-before a b c one two none = record {
   terminals = first-terms a.terms b.terms c.terms one.terminals two.terminals none.terminals;
-  drives = λ drive rose. none.drives drive (rose-later _ (drive_at (drive_states a.drives) drive).faults (drive_at (drive_states b.drives) drive).faults (drive_at (drive_states c.drives) drive).faults rose (two.drives drive));
+  drives = λ drive rose. none.drives drive (rose-later _ (drive_at (drive_states a.drives) drive).faults
+      (drive_at (drive_states b.drives) drive).faults (drive_at (drive_states c.drives) drive).faults rose
+      (two.drives drive));
 }
 
 pub unfailed-after : (a b c : Outside) → NoneFell a b → NoneFell b c → Unfailed a c → Unfailed b c
 unfailed-after a b c one two none = record {
   terminals = last-terms a.terms b.terms c.terms one.terminals two.terminals none.terminals;
-  drives = λ drive rose. none.drives drive (rose-before _ (drive_at (drive_states a.drives) drive).faults (drive_at (drive_states b.drives) drive).faults (drive_at (drive_states c.drives) drive).faults (one.drives drive) rose);
+  drives = λ drive rose. none.drives drive (rose-before _ (drive_at (drive_states a.drives) drive).faults
+      (drive_at (drive_states b.drives) drive).faults (drive_at (drive_states c.drives) drive).faults
+      (one.drives drive) rose);
 }
 
 -- ---- a terminal that failed
@@ -157,7 +163,8 @@ once-only : (most x y z : ℕ) → z ≡ x + 1 → z < most → min (y + 1) most
 once-only most x y z by below rose risen = omega arith
 
 -- it was the only one
-once-terms : (n old new : ℕ) (a b c : List TerminalState) → NoneFellOf a b → slice_get (fault_counts b) n ≡ Some old → Rose old new → fault_counts c ≡ slice_set (fault_counts b) n new → RoseOnce a c n → AllZip NotFailed a b
+once-terms : (n old new : ℕ) (a b c : List TerminalState) → NoneFellOf a b → slice_get (fault_counts b) n ≡ Some old
+    → Rose old new → fault_counts c ≡ slice_set (fault_counts b) n new → RoseOnce a c n → AllZip NotFailed a b
 once-terms n old new [] b c fell is rose counts once = absurd once
 once-terms n old new (x ∷ a) b [] fell is rose counts once = absurd once
 once-terms n old new (x ∷ a) [] (z ∷ c) fell is rose counts once = absurd fell

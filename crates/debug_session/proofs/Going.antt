@@ -38,26 +38,35 @@ pub may-back : (n k at : ℕ) (fault : SessionFault) → k ≡ at - n → MayFai
 may-back n k at NoMemory place may = tt
 may-back n k at fault place may = subst (λ (k : ℕ). k < at) place may
 
-pub moves-nowhere : {Value : Type 0} (value : Value) (machine : Machine) (command : Command) (position : Position) (devices : Outside) → MovesOn machine command position position (Ok value) devices devices
+pub moves-nowhere : {Value : Type 0} (value : Value) (machine : Machine) (command : Command) (position : Position)
+    (devices : Outside) → MovesOn machine command position position (Ok value) devices devices
 moves-nowhere value machine command position devices =
     record { stays = λ first can at. at; counts = fell-none devices; fails = tt; may_fail = tt }
 
-pub moves-not : {Value : Type 0} (machine : Machine) (command : Command) (old new : Position) (fault : SessionFault) (before after : Outside) → FailsToMove machine before after fault → MayFailSo command old.events fault → MovesOn {Value = Value} machine command old new (Err fault) before after
+pub moves-not : {Value : Type 0} (machine : Machine) (command : Command) (old new : Position) (fault : SessionFault)
+    (before after : Outside) → FailsToMove machine before after fault → MayFailSo command old.events fault
+    → MovesOn {Value = Value} machine command old new (Err fault) before after
 moves-not machine command old new fault before after fails may =
     record { stays = tt; counts = tt; fails = fails; may_fail = may }
 
-pub moves-as : {Value Other : Type 0} (value : Value) (other : Other) (machine : Machine) (command same : Command) (old new : Position) (before after : Outside) → MovesOn machine command old new (Ok value) before after → MovesOn machine same old new (Ok other) before after
+pub moves-as : {Value Other : Type 0} (value : Value) (other : Other) (machine : Machine) (command same : Command)
+    (old new : Position) (before after : Outside) → MovesOn machine command old new (Ok value) before after
+    → MovesOn machine same old new (Ok other) before after
 moves-as value other machine command same old new before after moved =
     record { stays = moved.stays; counts = moved.counts; fails = tt; may_fail = tt }
 
 -- the drives are as they were at the start
-drives-first : (machine : Machine) (first devices : Outside) (course : Course) (is : CourseOf machine first course) (position : Position) → IsAt course is.last machine.slices.now position devices → drive_states devices.drives ≡ drive_states first.drives
+drives-first : (machine : Machine) (first devices : Outside) (course : Course) (is : CourseOf machine first course)
+    (position : Position) → IsAt course is.last machine.slices.now position devices → drive_states devices.drives ≡
+    drive_states first.drives
 drives-first machine first devices course is position at =
     sym at.represents.files.drives ∙ at.drives
     ∙ ap (λ (s : State). s.files.drives) is.starts.is
     ∙ ap (λ (files : Files). files.drives) is.starts.mounted.is
 
-pub moves-back : {Value : Type 0} (value : Value) (machine : Machine) (command : Command) (old start : Position) (before after : Outside) → HasRestarted machine (Ok start) before after → MovesOn machine command old start (Ok value) before after
+pub moves-back : {Value : Type 0} (value : Value) (machine : Machine) (command : Command) (old start : Position)
+    (before after : Outside) → HasRestarted machine (Ok start) before after → MovesOn machine command old start
+    (Ok value) before after
 moves-back value machine command old start before after again = record {
   stays = λ first can at.
       let back = again.back first can at.gains in
@@ -75,7 +84,9 @@ moves-back value machine command old start before after again = record {
 
 -- ---- and on
 
-pub can-go : {Value : Type 0} (value : Value) (machine : Machine) (command : Command) (old new : Position) (before after : Outside) → IsUnderWay machine old before → MovesOn machine command old new (Ok value) before after → IsUnderWay machine new after
+pub can-go : {Value : Type 0} (value : Value) (machine : Machine) (command : Command) (old new : Position)
+    (before after : Outside) → IsUnderWay machine old before → MovesOn machine command old new (Ok value) before after
+    → IsUnderWay machine new after
 can-go value machine command old new before after (first, can, at) moved = (first, can, moved.stays first can at)
 
 module _ {Value : Type 0} (value : Value) (machine : Machine) (k : ℕ) (old mid new : Position) (before between after : Outside) (moved : MovesOn machine (To k) old mid (Ok value) before between) where
@@ -115,7 +126,9 @@ within course last slices position devices at =
     omega (arith, all, at.count)
 
 -- `to` has reached the position
-pub shown-there : {Value : Type 0} (value : Value) (machine : Machine) (k : ℕ) (old new : Position) (before after : Outside) → MovesOn machine (To k) old new (Ok value) before after → new.events ≡ k → HasShown machine (To k) old new [] before after
+pub shown-there : {Value : Type 0} (value : Value) (machine : Machine) (k : ℕ) (old new : Position)
+    (before after : Outside) → MovesOn machine (To k) old new (Ok value) before after → new.events ≡ k
+    → HasShown machine (To k) old new [] before after
 shown-there value machine k old new before after moved reached = λ first can at bare unfailed course is.
     let there = moved.stays first can at in
     let low : new.events ≤ last_of course = within course is.last machine.slices.now new after (there.at bare unfailed course is) in
@@ -123,25 +136,32 @@ shown-there value machine k old new before after moved reached = λ first can at
     (rw test refl, omega (arith, low, reached))
 
 -- or the last one
-pub shown-end : (machine : Machine) (k : ℕ) (old new : Position) (before after : Outside) → IsAtEnd k machine old new before after → (line : List ℕ) → line ≡ end_line new.events → HasShown machine (To k) old new line before after
+pub shown-end : (machine : Machine) (k : ℕ) (old new : Position) (before after : Outside) → IsAtEnd k machine old new
+    before after → (line : List ℕ) → line ≡ end_line new.events → HasShown machine (To k) old new line before after
 shown-end machine k old new before after end line is = λ first can at bare unfailed course given.
     let last : last_of course ≡ new.events = end.last first can at bare unfailed course given in
     let test : nat_lt (last_of course) k ≡ true = lt-ltb (last_of course) k (omega (arith, last, end.short)) in
     (rw test (is ∙ ap end_line (sym last)), omega (arith, last, end.short))
 
 -- `back` has reached the position
-pub shown-back : {Value : Type 0} (value : Value) (machine : Machine) (n k : ℕ) (old new : Position) (before after : Outside) → MovesOn machine (To k) old new (Ok value) before after → k ≡ old.events - n → new.events ≡ k → HasShown machine (Back n) old new [] before after
+pub shown-back : {Value : Type 0} (value : Value) (machine : Machine) (n k : ℕ) (old new : Position)
+    (before after : Outside) → MovesOn machine (To k) old new (Ok value) before after → k ≡ old.events - n
+    → new.events ≡ k → HasShown machine (Back n) old new [] before after
 shown-back value machine n k old new before after moved place reached = λ first can at bare unfailed course is. (refl, reached ∙ place)
 
 -- it never comes to the end before
-pub shown-never : {Value : Type 0} (value : Value) (machine : Machine) (n k : ℕ) (old new : Position) (before after : Outside) → MovesOn machine (To k) old new (Ok value) before after → k ≡ old.events - n → IsAtEnd k machine old new before after → HasShown machine (Back n) old new [] before after
+pub shown-never : {Value : Type 0} (value : Value) (machine : Machine) (n k : ℕ) (old new : Position)
+    (before after : Outside) → MovesOn machine (To k) old new (Ok value) before after → k ≡ old.events - n
+    → IsAtEnd k machine old new before after → HasShown machine (Back n) old new [] before after
 shown-never value machine n k old new before after moved place end = λ first can at bare unfailed course is.
     let last : last_of course ≡ new.events = end.last first can at bare unfailed course is in
     let none : Unfailed first before = unfailed-before first before after (fell-since machine first before at.gains) moved.counts unfailed in
     let low : old.events ≤ last_of course = within course is.last machine.slices.now old before (at.at bare none course is) in
     absurd (omega (arith, last, low, place, end.short))
 
-pub shown-any : (step : Step) (machine : Machine) (n k : ℕ) (old new : Position) (before after : Outside) → MovesOn machine (To k) old new (Ok step) before after → k ≡ old.events - n → (step ≡ Event → new.events ≡ k) → (step ≡ End → IsAtEnd k machine old new before after) → HasShown machine (Back n) old new [] before after
+pub shown-any : (step : Step) (machine : Machine) (n k : ℕ) (old new : Position) (before after : Outside)
+    → MovesOn machine (To k) old new (Ok step) before after → k ≡ old.events - n → (step ≡ Event → new.events ≡ k)
+    → (step ≡ End → IsAtEnd k machine old new before after) → HasShown machine (Back n) old new [] before after
 shown-any Event machine n k old new before after moved place reached end =
     shown-back Event machine n k old new before after moved place (reached refl)
 shown-any End machine n k old new before after moved place reached end =
@@ -163,7 +183,9 @@ module _ (machine : Machine) (position : Position) (devices : Outside) (line : L
 
 -- ---- for want of memory
 
-pub moves-told : {Line Error Value : Type 0} (line : Result Line Error) (value : Value) (machine : Machine) (command : Command) (old new : Position) (before after : Outside) → MovesOn machine command old new (Ok value) before after → MovesOn machine command old new (or_no_memory line) before after
+pub moves-told : {Line Error Value : Type 0} (line : Result Line Error) (value : Value) (machine : Machine)
+    (command : Command) (old new : Position) (before after : Outside) → MovesOn machine command old new (Ok value)
+    before after → MovesOn machine command old new (or_no_memory line) before after
 moves-told (Ok line) value machine command old new before after moved =
     record { stays = moved.stays; counts = moved.counts; fails = tt; may_fail = tt }
 moves-told (Err error) value machine command old new before after moved =

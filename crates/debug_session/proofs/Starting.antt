@@ -68,7 +68,10 @@ boot_with machine states terms = record {
   terms = terms;
 }
 
-module _ (machine : Machine) (kernel : Kernel) (before started after : Outside) (can : CanStart machine before) (none_failed : NoDriveHasFailed (drive_states before.drives) (drive_states started.drives)) (drives : after.drives ≡ started.drives) (terms : after.terms ≡ loaded machine.keys.now before.terms) (begins : IsStarted (config_of machine) machine.file.now [] started kernel) where
+module _ (machine : Machine) (kernel : Kernel) (before started after : Outside) (can : CanStart machine before)
+    (none_failed : NoDriveHasFailed (drive_states before.drives) (drive_states started.drives))
+    (drives : after.drives ≡ started.drives) (terms : after.terms ≡ loaded machine.keys.now before.terms)
+    (begins : IsStarted (config_of machine) machine.file.now [] started kernel) where
   count : length after.terms ≡ length before.terms
   count = ap length terms ∙ count-loaded 0 machine.keys.now before.terms
 
@@ -106,12 +109,16 @@ module _ (machine : Machine) (kernel : Kernel) (before started after : Outside) 
     inner = begins.2.inner;
     files = subst (λ (views : List DriveView). StandsFor kernel.files views was.files) (sym drives) begins.2.files;
     is = λ i. record (begins.2.is i) { terms = after.terms };
-    running = start-running (boot_with machine (drive_states started.drives) after.terms) begun starts (omega (arith, count, can.can_run.terminals.some)) (omega (arith, count, can.can_run.terminals.few)) can.can_run.time;
+    running = start-running (boot_with machine (drive_states started.drives) after.terms) begun starts
+        (omega (arith, count, can.can_run.terminals.some)) (omega (arith, count, can.can_run.terminals.few))
+        can.can_run.time;
   }
 
   pub has-started : (position : Position)
       → ((slices : List ℕ) (devices : Outside) → Stands kernel devices → length slices < LAST_TICK → CanGoOn slices position devices)
-      → ((boot : Begun) (slices : List ℕ) (course : Course) (devices : Outside) → boot.images ≡ [] → (is : IsCourse boot slices course) → Represents kernel devices course.start → IsAt course is.last slices position devices)
+      → ((boot : Begun) (slices : List ℕ) (course : Course) (devices : Outside) → boot.images ≡ []
+      → (is : IsCourse boot slices course) → Represents kernel devices course.start → IsAt course is.last slices
+      position devices)
       → position.events ≡ 0 → IsAccepted (config_of machine) machine.file.now → HasStarted machine (Ok position) before after
   has-started position goes at first accepted = record {
     terminals = terms;
@@ -132,12 +139,17 @@ pub no-start : (machine : Machine) (fault : SessionFault) (before after : Outsid
 no-start machine fault before after fails =
     record { terminals = tt; drives = tt; goes_on = tt; at = tt; first = tt; starts = tt; accepted = tt; fails = fails }
 
-pub start-refused : (machine : Machine) (error : StartError) (fault : BootFault) (before after : Outside) → error ≡ Boot fault → StartIsRefused (config_of machine) machine.file.now error → WhereRefused error (after ≡ before) → after.terms ≡ before.terms → StartsDrives {A = Kernel} 0 (drive_fault (Err error)) before.drives after.drives → HasStarted machine (Err (start_fault fault)) before after
+pub start-refused : (machine : Machine) (error : StartError) (fault : BootFault) (before after : Outside)
+    → error ≡ Boot fault → StartIsRefused (config_of machine) machine.file.now error → WhereRefused error
+    (after ≡ before) → after.terms ≡ before.terms → StartsDrives {A = Kernel} 0 (drive_fault (Err error))
+    before.drives after.drives → HasStarted machine (Err (start_fault fault)) before after
 start-refused machine error fault before after is refused same terms drives =
     by fault (subst (StartIsRefused (config_of machine) machine.file.now) is refused) (subst (λ (error : StartError). WhereRefused error (after ≡ before)) is same)
     (subst (λ (error : StartError). StartsDrives {A = Kernel} 0 (drive_fault (Err error)) before.drives after.drives) is drives)
   where
-    by : (fault : BootFault) → StartIsRefused (config_of machine) machine.file.now (Boot fault) → WhereRefused (Boot fault) (after ≡ before) → StartsDrives {A = Kernel} 0 (drive_fault (Err (Boot fault))) before.drives after.drives → HasStarted machine (Err (start_fault fault)) before after
+    by : (fault : BootFault) → StartIsRefused (config_of machine) machine.file.now (Boot fault)
+        → WhereRefused (Boot fault) (after ≡ before) → StartsDrives {A = Kernel} 0 (drive_fault (Err (Boot fault)))
+        before.drives after.drives → HasStarted machine (Err (start_fault fault)) before after
     by OutOfMemory refused same drives =
         no-start machine NoMemory before after (fell-kept before after terms drives.moves)
     by (BadModule at error) refused same drives =
@@ -170,7 +182,9 @@ pub come-few : (machine : Machine) (devices : Outside) → HasCome machine devic
 come-few machine devices (first, can, gains) =
     omega (arith, come-many machine first devices gains, can.can_run.terminals.few)
 
-module _ (machine : Machine) (before dropped emptied after : Outside) (taken : AllZip LosesKeys before.terms dropped.terms) (kept : dropped.drives ≡ before.drives) (none : emptied.terms ≡ terminals_emptied dropped.terms) (still : emptied.drives ≡ dropped.drives) where
+module _ (machine : Machine) (before dropped emptied after : Outside) (taken : AllZip LosesKeys before.terms
+    dropped.terms) (kept : dropped.drives ≡ before.drives) (none : emptied.terms ≡ terminals_emptied dropped.terms)
+    (still : emptied.drives ≡ dropped.drives) where
   same : drive_states emptied.drives ≡ drive_states before.drives
   same = ap drive_states (still ∙ kept)
 
@@ -189,7 +203,9 @@ module _ (machine : Machine) (before dropped emptied after : Outside) (taken : A
           terminals = record {
             some = omega (arith, many, there.terminals.some);
             few = omega (arith, many, there.terminals.few);
-            unloaded = subst (λ (terms : List TerminalState). All HasNoKeys terms) (sym none) (unloaded-again 0 machine.keys.now first.terms before.terms dropped.terms can.ticks gains.terminals taken);
+            unloaded = subst (λ (terms : List TerminalState). All HasNoKeys terms) (sym none)
+                (unloaded-again 0 machine.keys.now first.terms before.terms dropped.terms can.ticks gains.terminals
+                taken);
           };
           enough = omega arith;
           few_drives = omega (arith, views, there.few_drives);
@@ -199,17 +215,23 @@ module _ (machine : Machine) (before dropped emptied after : Outside) (taken : A
       }
 
   -- where nothing failed, the terminals are as they were at the start
-  as-first : (first : Outside) → CanStart machine first → DevicesGain (loaded_devices machine first) before → All HasNoBytes first.terms → after.terms ≡ loaded machine.keys.now emptied.terms → Unfailed first after → emptied.terms ≡ first.terms
+  as-first : (first : Outside) → CanStart machine first → DevicesGain (loaded_devices machine first) before
+      → All HasNoBytes first.terms → after.terms ≡ loaded machine.keys.now emptied.terms → Unfailed first after
+      → emptied.terms ≡ first.terms
   as-first first can gains bare terms unfailed =
       none
       ∙ first-again 0 machine.keys.now first.terms before.terms dropped.terms can.ticks can.can_run.terminals.unloaded bare gains.terminals taken
       (subst (λ (terms : List TerminalState). AllZip NotFailed first.terms terms) none
       (loaded-none 0 machine.keys.now first.terms emptied.terms (subst (λ (terms : List TerminalState). AllZip NotFailed first.terms terms) terms unfailed.terminals)))
 
-  is-back : (position : Position) → HasStarted machine (Ok position) emptied after → (first : Outside) → CanStart machine first → DevicesGain (loaded_devices machine first) before → IsBack machine first position before after
+  is-back : (position : Position) → HasStarted machine (Ok position) emptied after → (first : Outside)
+      → CanStart machine first → DevicesGain (loaded_devices machine first) before → IsBack machine first position
+      before after
   is-back position started first can gains = record {
     gains = record {
-      terminals = subst (TerminalsOnlyGain (loaded machine.keys.now first.terms)) (sym (started.terminals ∙ ap (loaded machine.keys.now) none)) (loaded-again 0 machine.keys.now first.terms before.terms dropped.terms gains.terminals taken);
+      terminals = subst (TerminalsOnlyGain (loaded machine.keys.now first.terms))
+          (sym (started.terminals ∙ ap (loaded machine.keys.now) none)) (loaded-again 0 machine.keys.now first.terms
+          before.terms dropped.terms gains.terminals taken);
       drives = subst (DrivesOnlyGain (drive_states first.drives)) (sym (started.drives ∙ same)) gains.drives;
     };
     at = λ bare unfailed drives course is.

@@ -30,10 +30,14 @@ course-one boot slices one other none first second =
     let starts : one.start ≡ other.start = starts-one boot one.start other.start first.starts second.starts in
     let there : Same slices one.start other = moved boot slices one.start other second starts in
     let bare : HasNoVolumes one.start = start-bare boot one.start none first.starts in
-    let same : SameRun one.states first.written first.last other.states there.written there.last = run-one slices first.written there.written one.start first.last there.last one.states other.states (bare-never one.start bare) first.run there.run first.faultless there.faultless in
+    let same : SameRun one.states first.written first.last other.states there.written there.last = run-one slices
+    first.written there.written one.start first.last there.last one.states other.states
+    (bare-never one.start bare) first.run there.run first.faultless there.faultless in
     λ i. record { start = starts i; states = same.through i }
 
-pub course-some : (boot : Boot) (slices : List ℕ) (s : State) → boot.images ≡ [] → Starts boot s → 0 < length boot.terms → length boot.terms ≤ 4 → is_time_packet boot.time ≡ true → CanRise s → (course : Course) × (course.start ≡ s) × IsCourse boot slices course
+pub course-some : (boot : Boot) (slices : List ℕ) (s : State) → boot.images ≡ [] → Starts boot s
+    → 0 < length boot.terms → length boot.terms ≤ 4 → is_time_packet boot.time ≡ true → CanRise s → (course : Course)
+    × (course.start ≡ s) × IsCourse boot slices course
 course-some boot slices s none starts some few time rise =
     let bare : HasNoVolumes s = start-bare boot s none starts in
     let short : length boot.images ≤ length boot.drives = rw none (omega arith) in

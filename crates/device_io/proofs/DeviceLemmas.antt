@@ -21,14 +21,22 @@ use Rattle.device_io.proofs.TryingLemmas.{never-wants, tries-takes}
 
 module _ (m : Inner) (io : Io) (p : ℕ) (processes : ProcState) (new : Io) (before after : List TerminalState) (read : TerminalRead) (regs : Regs) (taken : List ℕ) (end : CallEnd) where
   -- a read that the terminal answered so, and that has this end
-  ended : (answer : Progress) (it : IoEnd) → read_ends (caller_of m p) read answer ≡ Some it → kept_after answer read.call ≡ kept_in it → regs ≡ regs_at m p → ChangesOneTerminal (Reads (request_of (caller_of m p) read) answer (terminal_at io read.terminal) (terminal_at new read.terminal)) read.terminal before after → taken ≡ stored_bytes answer (request_of (caller_of m p) read) (terminal_at io read.terminal) → new ≡ with_call (with_terminal io read.terminal (terminal_at new read.terminal)) p (kept_after answer read.call) → ((other : Io) → Comes m p (result_by it m p (stores regs.x taken it other)) end processes) → Tries (reads read) m io p end processes new before after
+  ended : (answer : Progress) (it : IoEnd) → read_ends (caller_of m p) read answer ≡ Some it → kept_after answer
+      read.call ≡ kept_in it → regs ≡ regs_at m p → ChangesOneTerminal (Reads (request_of (caller_of m p) read) answer
+      (terminal_at io read.terminal) (terminal_at new read.terminal)) read.terminal before after
+      → taken ≡ stored_bytes answer (request_of (caller_of m p) read) (terminal_at io read.terminal)
+      → new ≡ with_call (with_terminal io read.terminal (terminal_at new read.terminal)) p
+      (kept_after answer read.call) → ((other : Io) → Comes m p (result_by it m p (stores regs.x taken it other)) end
+      processes) → Tries (reads read) m io p end processes new before after
   ended answer it ends_is kept_is same device stored_is state came =
       let bytes : List ℕ = stored_bytes answer (request_of (caller_of m p) read) (terminal_at io read.terminal) in
       let io_then : Io = with_terminal io read.terminal (terminal_at new read.terminal) in
       let by_bytes = subst (λ (b : List ℕ). Comes m p (result_by it m p (stores regs.x b it io_then)) end processes) stored_is (came io_then) in
       let by_regs = subst (λ (r : Regs). Comes m p (result_by it m p (stores r.x bytes it io_then)) end processes) same by_bytes in
       tries-takes m io p processes new before (reads read) end after
-      (λ e. never-wants m p processes (result_by it m p (stores (regs_at m p).x bytes it io_then)) (subst (λ (x : CallEnd). Comes m p (result_by it m p (stores (regs_at m p).x bytes it io_then)) x processes) e by_regs))
+      (λ e. never-wants m p processes (result_by it m p (stores (regs_at m p).x bytes it io_then))
+      (subst (λ (x : CallEnd). Comes m p (result_by it m p (stores (regs_at m p).x bytes it io_then)) x processes)
+      e by_regs))
       (record {
         effect = read_leaves (caller_of m p) io read answer (terminal_at new read.terminal) it;
         does = record { answer = answer; new = terminal_at new read.terminal; end = it; device = device; ends = ends_is; effect_is = refl };
@@ -37,7 +45,13 @@ module _ (m : Inner) (io : Io) (p : ℕ) (processes : ProcState) (new : Io) (bef
       })
 
   -- by what the terminal answered
-  pub tries-read : (answer : Progress) → regs ≡ regs_at m p → ChangesOneTerminal (Reads (request_of (caller_of m p) read) answer (terminal_at io read.terminal) (terminal_at new read.terminal)) read.terminal before after → taken ≡ stored_bytes answer (request_of (caller_of m p) read) (terminal_at io read.terminal) → new ≡ with_call (with_terminal io read.terminal (terminal_at new read.terminal)) p (kept_after answer read.call) → EndsBy (read_ends (caller_of m p) read answer) regs.x taken m p end processes → Tries (reads read) m io p end processes new before after
+  pub tries-read : (answer : Progress) → regs ≡ regs_at m p → ChangesOneTerminal
+      (Reads (request_of (caller_of m p) read) answer (terminal_at io read.terminal) (terminal_at new read.terminal))
+      read.terminal before after → taken ≡ stored_bytes answer (request_of (caller_of m p) read)
+      (terminal_at io read.terminal) → new ≡ with_call (with_terminal io read.terminal
+      (terminal_at new read.terminal)) p (kept_after answer read.call)
+      → EndsBy (read_ends (caller_of m p) read answer) regs.x taken m p end processes → Tries (reads read) m io p end
+      processes new before after
   tries-read (Done count) same device stored_is state ends = ended (Done count) _ refl refl same device stored_is state ends
   tries-read Wait same device stored_is state ends = ended Wait _ refl refl same device stored_is state ends
   tries-read End same device stored_is state ends = ended End _ refl refl same device stored_is state ends

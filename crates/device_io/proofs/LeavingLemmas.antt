@@ -21,12 +21,16 @@ use Rattle.device_io.specs.Leaving.{Leaves}
 
 module _ (m : Inner) (p : ℕ) (at : ℕ) (bytes : List ℕ) (io : Io) (end : CallEnd) (processes : ProcState) (new : Io) where
   -- it is done, and the count is answered
-  pub leaves-answer : (count : ℕ) (regs : Regs) → regs ≡ regs_at m p → end ≡ CallEnd.Done → Represents processes (with_regs_of (with_memory m (stored m.memory p at bytes)) p (record regs { y = count })) → new ≡ with_call io p None → Leaves (stores at bytes (answers (count_regs (caller_of m p) count)) io) m p end processes new
+  pub leaves-answer : (count : ℕ) (regs : Regs) → regs ≡ regs_at m p → end ≡ CallEnd.Done → Represents processes
+      (with_regs_of (with_memory m (stored m.memory p at bytes)) p (record regs { y = count })) → new ≡ with_call io p
+      None → Leaves (stores at bytes (answers (count_regs (caller_of m p) count)) io) m p end processes new
   leaves-answer count regs same is tied left =
       ((is, subst (λ (r : Regs). Represents processes (with_regs_of (with_memory m (stored m.memory p at bytes)) p (record r { y = count }))) same tied), left)
 
   -- it waits
-  pub leaves-wait : (call : Kept) → end ≡ CallEnd.Wait → Represents processes (with_memory m (stored m.memory p at bytes)) → new ≡ with_call io p (Some call) → Leaves (stores at bytes (keeps call) io) m p end processes new
+  pub leaves-wait : (call : Kept) → end ≡ CallEnd.Wait → Represents processes
+      (with_memory m (stored m.memory p at bytes)) → new ≡ with_call io p (Some call)
+      → Leaves (stores at bytes (keeps call) io) m p end processes new
   leaves-wait call is tied left = ((is, tied), left)
 
   -- it is refused
@@ -34,7 +38,8 @@ module _ (m : Inner) (p : ℕ) (at : ℕ) (bytes : List ℕ) (io : Io) (end : Ca
   leaves-refusal number is tied left = ((is, tied), left)
 
 -- a call may wait still after an attempt that moved bytes, where they were not the last
-pub may-wait-on : (paths : PathTable) (p : ℕ) (call new : Kept) (count : ℕ) → new ≡ moved_on call count → call.moved + count ≤ call.count → MayWait paths p call → new.moved ≢ new.count → MayWait paths p new
+pub may-wait-on : (paths : PathTable) (p : ℕ) (call new : Kept) (count : ℕ) → new ≡ moved_on call count
+    → call.moved + count ≤ call.count → MayWait paths p call → new.moved ≢ new.count → MayWait paths p new
 may-wait-on paths p call new count is few may =
     subst (λ (k : Kept). k.moved ≢ k.count → MayWait paths p k) (sym is) (λ differ. record { moves = may.moves; left = omega arith; held = may.held; reads = may.reads })
 
@@ -49,17 +54,28 @@ fits-behind cells at count moved most fits within = (omega (arith, fits.0), λ k
 
 module _ (m : Inner) (p pipe : ℕ) (regs : Regs) (call : Kept) (alone : Bool) (io between : Io) (moved : PipeAns) (taken : List ℕ) (end : CallEnd) (processes : ProcState) (new : Io) where
   -- an I$Read, by what the pipe answered
-  pub read-leaves : regs ≡ regs_at m p → moved ≡ read_answer (pipe_bytes io pipe) alone call.count → taken ≡ bytes_moved moved (pipe_bytes io pipe) → between ≡ after_taking io pipe moved → Leaves (stores regs.x taken (read_end (caller_of m p) call moved) between) m p end processes new → Leaves (reads_pipe (caller_of m p) io pipe call alone) m p end processes new
+  pub read-leaves : regs ≡ regs_at m p → moved ≡ read_answer (pipe_bytes io pipe) alone call.count
+      → taken ≡ bytes_moved moved (pipe_bytes io pipe) → between ≡ after_taking io pipe moved
+      → Leaves (stores regs.x taken (read_end (caller_of m p) call moved) between) m p end processes new
+      → Leaves (reads_pipe (caller_of m p) io pipe call alone) m p end processes new
   read-leaves same answer_is taken_is left leaves =
       let in_state = subst (λ (i : Io). Leaves (stores regs.x taken (read_end (caller_of m p) call moved) i) m p end processes new) left leaves in
       let in_bytes = subst (λ (bytes : List ℕ). Leaves (stores regs.x bytes (read_end (caller_of m p) call moved) (after_taking io pipe moved)) m p end processes new) taken_is in_state in
-      let in_regs = subst (λ (r : Regs). Leaves (stores r.x (bytes_moved moved (pipe_bytes io pipe)) (read_end (caller_of m p) call moved) (after_taking io pipe moved)) m p end processes new) same in_bytes in
+      let in_regs = subst (λ (r : Regs). Leaves (stores r.x (bytes_moved moved (pipe_bytes io pipe))
+      (read_end (caller_of m p) call moved) (after_taking io pipe moved)) m p end processes new) same in_bytes in
       subst (λ (a : PipeAns). Leaves (read_leaves (caller_of m p) io pipe call a) m p end processes new) answer_is in_regs
 
   -- an I$ReadLn, by what the pipe answered
-  pub line-leaves : regs ≡ regs_at m p → moved ≡ read_line_answer (pipe_bytes io pipe) alone (count_left call) → taken ≡ bytes_moved moved (pipe_bytes io pipe) → between ≡ after_taking io pipe moved → Leaves (stores (regs.x + call.moved) taken (read_line_end (caller_of m p) alone call taken moved) between) m p end processes new → Leaves (reads_pipe_line (caller_of m p) io pipe call alone) m p end processes new
+  pub line-leaves : regs ≡ regs_at m p → moved ≡ read_line_answer (pipe_bytes io pipe) alone (count_left call)
+      → taken ≡ bytes_moved moved (pipe_bytes io pipe) → between ≡ after_taking io pipe moved
+      → Leaves (stores (regs.x + call.moved) taken (read_line_end (caller_of m p) alone call taken moved) between) m p
+      end processes new → Leaves (reads_pipe_line (caller_of m p) io pipe call alone) m p end processes new
   line-leaves same answer_is taken_is left leaves =
       let in_state = subst (λ (i : Io). Leaves (stores (regs.x + call.moved) taken (read_line_end (caller_of m p) alone call taken moved) i) m p end processes new) left leaves in
-      let in_bytes = subst (λ (bytes : List ℕ). Leaves (stores (regs.x + call.moved) bytes (read_line_end (caller_of m p) alone call bytes moved) (after_taking io pipe moved)) m p end processes new) taken_is in_state in
-      let in_regs = subst (λ (r : Regs). Leaves (stores (r.x + call.moved) (bytes_moved moved (pipe_bytes io pipe)) (read_line_end (caller_of m p) alone call (bytes_moved moved (pipe_bytes io pipe)) moved) (after_taking io pipe moved)) m p end processes new) same in_bytes in
+      let in_bytes = subst (λ (bytes : List ℕ). Leaves (stores (regs.x + call.moved) bytes
+      (read_line_end (caller_of m p) alone call bytes moved) (after_taking io pipe moved)) m p end processes new)
+      taken_is in_state in
+      let in_regs = subst (λ (r : Regs). Leaves (stores (r.x + call.moved) (bytes_moved moved (pipe_bytes io pipe))
+      (read_line_end (caller_of m p) alone call (bytes_moved moved (pipe_bytes io pipe)) moved)
+      (after_taking io pipe moved)) m p end processes new) same in_bytes in
       subst (λ (a : PipeAns). Leaves (read_line_leaves (caller_of m p) io pipe call alone a) m p end processes new) answer_is in_regs

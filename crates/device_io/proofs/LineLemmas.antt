@@ -38,11 +38,16 @@ pub line-same : (cells : Cells) (at most : ℕ) → User.line_at cells at most �
 line-same cells at zero = refl
 line-same cells at (suc most) = by_byte (user_cell cells at) (line-same cells (at + 1) most)
   where
-    by_return : (byte : ℕ) (return : Bool) → (byte == 13) ≡ return → User.line_at cells (at + 1) most ≡ line_at cells (at + 1) most → (if return then Some (13 ∷ []) else option_map (λ (line : List ℕ). byte ∷ line) (User.line_at cells (at + 1) most)) ≡ (if return then Some (byte ∷ []) else option_map (λ (line : List ℕ). byte ∷ line) (line_at cells (at + 1) most))
+    by_return : (byte : ℕ) (return : Bool) → (byte == 13) ≡ return → User.line_at cells (at + 1) most ≡ line_at cells
+        (at + 1) most → (if return then Some (13 ∷ []) else option_map (λ (line : List ℕ). byte ∷ line)
+        (User.line_at cells (at + 1) most)) ≡ (if return then Some (byte ∷ []) else option_map
+        (λ (line : List ℕ). byte ∷ line) (line_at cells (at + 1) most))
     by_return byte true is later = ap (λ (b : ℕ). Some (b ∷ [])) (sym (eqb-true byte 13 is))
     by_return byte false is later = ap (λ (rest : Option (List ℕ)). option_map (λ (line : List ℕ). byte ∷ line) rest) later
 
-    by_byte : (byte : Option ℕ) → User.line_at cells (at + 1) most ≡ line_at cells (at + 1) most → User.line_with (λ next. User.line_at cells next most) at byte ≡ line_with (λ next. line_at cells next most) at byte
+    by_byte : (byte : Option ℕ) → User.line_at cells (at + 1) most ≡ line_at cells (at + 1) most
+        → User.line_with (λ next. User.line_at cells next most) at byte ≡ line_with (λ next. line_at cells next most)
+        at byte
     by_byte None later = refl
     by_byte (Some byte) later = by_return byte (byte == 13) refl later
 
@@ -89,16 +94,20 @@ line-is cells at (suc most) line is = by_byte (line-is cells (at + 1) most) (use
         let all : length (byte ∷ rest) ≡ length line = ap (length {A = ℕ}) is in
         record { few = omega (arith, all, few); some = λ more. omega (arith, all); only = subst (λ (it : List ℕ). EndsOnly it) is only }
 
-    by_rest : (byte : ℕ) (rest : Option (List ℕ)) → (byte == RETURN) ≡ false → ((line : List ℕ) → rest ≡ Some line → IsLine most line) → option_map (λ (line : List ℕ). byte ∷ line) rest ≡ Some line → IsLine (suc most) line
+    by_rest : (byte : ℕ) (rest : Option (List ℕ)) → (byte == RETURN) ≡ false → ((line : List ℕ) → rest ≡ Some line
+        → IsLine most line) → option_map (λ (line : List ℕ). byte ∷ line) rest ≡ Some line → IsLine (suc most) line
     by_rest byte None other there is = absurd (none-some line is)
     by_rest byte (Some rest) other there is =
         longer byte rest (there rest refl).few (only-more byte rest other (there rest refl).only) (same_Some (byte ∷ rest) line is)
 
-    by_return : ((line : List ℕ) → line_at cells (at + 1) most ≡ Some line → IsLine most line) → (byte : ℕ) (return : Bool) → (byte == RETURN) ≡ return → (if return then Some (byte ∷ []) else option_map (λ (line : List ℕ). byte ∷ line) (line_at cells (at + 1) most)) ≡ Some line → IsLine (suc most) line
+    by_return : ((line : List ℕ) → line_at cells (at + 1) most ≡ Some line → IsLine most line)
+        → (byte : ℕ) (return : Bool) → (byte == RETURN) ≡ return → (if return then Some (byte ∷ []) else option_map
+        (λ (line : List ℕ). byte ∷ line) (line_at cells (at + 1) most)) ≡ Some line → IsLine (suc most) line
     by_return later byte true which is = longer byte [] (omega arith) (only-one byte) (same_Some (byte ∷ []) line is)
     by_return later byte false which is = by_rest byte (line_at cells (at + 1) most) which later is
 
-    by_byte : ((line : List ℕ) → line_at cells (at + 1) most ≡ Some line → IsLine most line) → (byte : Option ℕ) → line_with (λ next. line_at cells next most) at byte ≡ Some line → IsLine (suc most) line
+    by_byte : ((line : List ℕ) → line_at cells (at + 1) most ≡ Some line → IsLine most line) → (byte : Option ℕ)
+        → line_with (λ next. line_at cells next most) at byte ≡ Some line → IsLine (suc most) line
     by_byte later None is = absurd (none-some line is)
     by_byte later (Some byte) is = by_return later byte (byte == RETURN) refl is
 
@@ -139,7 +148,9 @@ pub record IsSentLine (regs : Regs) (kept : Option Kept) (line : List ℕ) : Typ
   pub some : 0 < regs.y → 0 < length line
   pub whole : kept ≡ None → line_length line ≡ length line
 
-pub sent-line : (caller : Caller) (io : Io) (p : ℕ) (kept : Option Kept) (line : List ℕ) → IfSome kept (IsKept Call.WritLn caller.regs io p) → line_bytes caller kept ≡ Some line → IsSentLine caller.regs kept line
+pub sent-line : (caller : Caller) (io : Io) (p : ℕ) (kept : Option Kept) (line : List ℕ)
+    → IfSome kept (IsKept Call.WritLn caller.regs io p) → line_bytes caller kept ≡ Some line → IsSentLine caller.regs
+    kept line
 sent-line caller io p None line again is =
     let it : IsLine caller.regs.y line = line-is caller.cells caller.regs.x caller.regs.y line is in
     record { few = it.few; some = it.some; whole = λ none. line-whole line it.only }

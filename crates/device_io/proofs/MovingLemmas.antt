@@ -51,7 +51,9 @@ with_desc_of s d = option_map {U = OpenPath} (λ (desc : Desc). record { path = 
 pub opened-parts : (io : Io) (p n : ℕ) (opened : OpenPath) → open_path io p n ≡ Some opened → (slot_of io.paths p n ≡ Some opened.path) × (desc_of io.paths opened.path.0 ≡ Some opened.desc)
 opened-parts io p n opened is = by_slot (slot_of io.paths p n) refl is
   where
-    by_desc : (s : SysPath) (d : Option Desc) → slot_of io.paths p n ≡ Some s → desc_of io.paths s.0 ≡ d → with_desc_of s d ≡ Some opened → (slot_of io.paths p n ≡ Some opened.path) × (desc_of io.paths opened.path.0 ≡ Some opened.desc)
+    by_desc : (s : SysPath) (d : Option Desc) → slot_of io.paths p n ≡ Some s → desc_of io.paths s.0 ≡ d
+        → with_desc_of s d ≡ Some opened → (slot_of io.paths p n ≡ Some opened.path) × (desc_of io.paths opened.path.0
+        ≡ Some opened.desc)
     by_desc s None slot_is desc_is e = absurd (none-some opened e)
     by_desc s (Some d) slot_is desc_is e =
         let whole : record { path = s; desc = d } ≡ opened = some-same (record { path = s; desc = d }) opened e in
@@ -59,7 +61,9 @@ opened-parts io p n opened is = by_slot (slot_of io.paths p n) refl is
         let same_desc : d ≡ opened.desc = ap (λ (it : OpenPath). it.desc) whole in
         (slot_is ∙ ap (λ (it : SysPath). Some it) same_path, ap (λ (it : SysPath). desc_of io.paths it.0) (sym same_path) ∙ desc_is ∙ ap (λ (it : Desc). Some it) same_desc)
 
-    by_slot : (slot : Option SysPath) → slot_of io.paths p n ≡ slot → option_and_then (λ (s : SysPath). with_desc_of s (desc_of io.paths s.0)) slot ≡ Some opened → (slot_of io.paths p n ≡ Some opened.path) × (desc_of io.paths opened.path.0 ≡ Some opened.desc)
+    by_slot : (slot : Option SysPath) → slot_of io.paths p n ≡ slot → option_and_then (λ (s : SysPath). with_desc_of s
+        (desc_of io.paths s.0)) slot ≡ Some opened → (slot_of io.paths p n ≡ Some opened.path) ×
+        (desc_of io.paths opened.path.0 ≡ Some opened.desc)
     by_slot None slot_is e = absurd (none-some opened e)
     by_slot (Some s) slot_is e = by_desc s (desc_of io.paths s.0) slot_is refl e
 
@@ -109,7 +113,9 @@ pub record IsReadCall (kind : ReadKind) (regs : Regs) (io : Io) (p : ℕ) (targe
   pub kind_is : read_kind call.code ≡ Some kind
   pub count : call.count ≡ regs.y
 
-pub read-call : (kind : ReadKind) (regs : Regs) (io : Io) (p : ℕ) (opened : OpenPath) (call : Kept) → IsIo io → IsAgain (read_call kind) regs io p → open_path io p regs.a ≡ Some opened → call ≡ unwrap_or (kept_at io p) (first_call (read_code kind) opened regs.y) → regs.y ≢ 0 → IsReadCall kind regs io p opened.desc.target call
+pub read-call : (kind : ReadKind) (regs : Regs) (io : Io) (p : ℕ) (opened : OpenPath) (call : Kept) → IsIo io
+    → IsAgain (read_call kind) regs io p → open_path io p regs.a ≡ Some opened → call ≡ unwrap_or (kept_at io p)
+    (first_call (read_code kind) opened regs.y) → regs.y ≢ 0 → IsReadCall kind regs io p opened.desc.target call
 read-call kind regs io p opened call is again open_is call_is some = by (kept_at io p) refl again call_is
   where
     parts : (slot_of io.paths p regs.a ≡ Some opened.path) × (desc_of io.paths opened.path.0 ≡ Some opened.desc)

@@ -43,7 +43,9 @@ user-take cells at (suc few) zero bytes within is = absurd (omega arith)
 user-take cells at (suc few) (suc count) bytes within is =
     by_byte (user_cell cells at) (user_bytes cells (at + 1) count) (λ rest there. user-take cells (at + 1) few count rest (omega arith) there) is
   where
-    by_byte : (byte : Option ℕ) (rest : Option (List ℕ)) → ((bytes : List ℕ) → rest ≡ Some bytes → user_bytes cells (at + 1) few ≡ Some (take few bytes)) → byte_before byte rest ≡ Some bytes → byte_before byte (user_bytes cells (at + 1) few) ≡ Some (take (suc few) bytes)
+    by_byte : (byte : Option ℕ) (rest : Option (List ℕ)) → ((bytes : List ℕ) → rest ≡ Some bytes
+        → user_bytes cells (at + 1) few ≡ Some (take few bytes)) → byte_before byte rest ≡ Some bytes
+        → byte_before byte (user_bytes cells (at + 1) few) ≡ Some (take (suc few) bytes)
     by_byte None rest there is = absurd (none-some bytes is)
     by_byte (Some byte) None there is = absurd (none-some bytes is)
     by_byte (Some byte) (Some rest) there is =
@@ -59,7 +61,9 @@ user-drop cells at (suc moved) left zero bytes sum is = absurd (omega (arith, su
 user-drop cells at (suc moved) left (suc count) bytes sum is =
     by_byte (user_cell cells at) (user_bytes cells (at + 1) count) (λ rest there. user-drop cells (at + 1) moved left count rest (omega (arith, sum)) there) is
   where
-    by_byte : (byte : Option ℕ) (rest : Option (List ℕ)) → ((bytes : List ℕ) → rest ≡ Some bytes → user_bytes cells ((at + 1) + moved) left ≡ Some (drop moved bytes)) → byte_before byte rest ≡ Some bytes → user_bytes cells (at + suc moved) left ≡ Some (drop (suc moved) bytes)
+    by_byte : (byte : Option ℕ) (rest : Option (List ℕ)) → ((bytes : List ℕ) → rest ≡ Some bytes
+        → user_bytes cells ((at + 1) + moved) left ≡ Some (drop moved bytes)) → byte_before byte rest ≡ Some bytes
+        → user_bytes cells (at + suc moved) left ≡ Some (drop (suc moved) bytes)
     by_byte None rest there is = absurd (none-some bytes is)
     by_byte (Some byte) None there is = absurd (none-some bytes is)
     by_byte (Some byte) (Some rest) there is =
@@ -78,7 +82,10 @@ put-room first count into new within same =
     let rest : List ℕ = drop count (drop first into) in
     omega (arith, length-append (take first into) (new ++ rest), length-append new rest, length-take-le first into (omega arith), length-drop count (drop first into), length-drop first into)
 
-pub window-read : (cells : Cells) (at moved count few k : ℕ) (into new : List ℕ) → moved < count → count ≤ length into → few ≡ min 256 (count - moved) → k ≡ few → length new ≡ few → at + count ≤ 65536 → Holds cells (at + moved) new → IfSome (user_bytes cells at count) (λ bytes. window moved (take count (put_mid moved k into new)) ≡ window moved bytes)
+pub window-read : (cells : Cells) (at moved count few k : ℕ) (into new : List ℕ) → moved < count → count ≤ length into
+    → few ≡ min 256 (count - moved) → k ≡ few → length new ≡ few → at + count ≤ 65536 → Holds cells (at + moved) new
+    → IfSome (user_bytes cells at count) (λ bytes. window moved (take count (put_mid moved k into new)) ≡ window moved
+    bytes)
 window-read cells at moved count few k into new less room few_is part long fits holds =
     by (user_bytes cells at count) refl
   where
@@ -90,7 +97,8 @@ window-read cells at moved count few k into new less room few_is part long fits 
         let few_left : few ≤ left = omega (arith, few_is) in
         let all : length bytes ≡ count = user-length cells at count bytes is in
         let one : user_bytes cells (at + moved) few ≡ Some new = user_bytes-Some cells (at + moved) few new long (omega (arith, fits, less, few_left)) holds in
-        let two : user_bytes cells (at + moved) few ≡ Some (take few (drop moved bytes)) = user-take cells (at + moved) few left (drop moved bytes) few_left (user-drop cells at moved left count bytes sum is) in
+        let two : user_bytes cells (at + moved) few ≡ Some (take few (drop moved bytes)) = user-take cells
+        (at + moved) few left (drop moved bytes) few_left (user-drop cells at moved left count bytes sum is) in
         let same : new ≡ take few (drop moved bytes) = same_Some new (take few (drop moved bytes)) (sym one ∙ two) in
         let of_bytes : window moved bytes ≡ take few (drop moved bytes) = front (drop moved bytes) left few (length-drop moved bytes ∙ ap (λ (n : ℕ). n - moved) all) few_is in
         let now : List ℕ = put_mid moved k into new in
@@ -124,7 +132,11 @@ module _ (io : Io) (p number : ℕ) where
       let same : take count buffer ≡ bytes = same_Some (take count buffer) bytes (sym is) in
       record { count = ap (λ (it : List ℕ). length it) same; all = λ none. same; moving = ap (λ (it : List ℕ). window (moved_before (kept_at io p)) it) same }
 
-  pub read-window : (found : Option (List ℕ)) (count moved : ℕ) (buffer : List ℕ) → is_some found ≡ true → ((bytes : List ℕ) → found ≡ Some bytes → length bytes ≡ count) → is_on_pipe (open_path io p number) ≡ true → moved ≡ moved_before (kept_at io p) → count ≤ length buffer → IfSome found (λ bytes. window moved (take count buffer) ≡ window moved bytes) → IsRead io p number found (Some count) buffer
+  pub read-window : (found : Option (List ℕ)) (count moved : ℕ) (buffer : List ℕ) → is_some found ≡ true
+      → ((bytes : List ℕ) → found ≡ Some bytes → length bytes ≡ count) → is_on_pipe (open_path io p number) ≡ true
+      → moved ≡ moved_before (kept_at io p) → count ≤ length buffer
+      → IfSome found (λ bytes. window moved (take count buffer) ≡ window moved bytes) → IsRead io p number found
+      (Some count) buffer
   read-window None count moved buffer there all on same room fact = absurd (false≢true there)
   read-window (Some bytes) count moved buffer there all on same room fact = record {
     count = length-take-le count buffer room ∙ sym (all bytes refl);
@@ -136,7 +148,8 @@ module _ (io : Io) (p number : ℕ) where
   read-none None buffer read = refl
   read-none (Some bytes) buffer read = absurd read
 
-  pub read-some : (found : Option (List ℕ)) (count : ℕ) (buffer : List ℕ) → IsRead io p number found (Some count) buffer → (bytes : List ℕ) × (found ≡ Some bytes) × StandsFor io p number bytes (take count buffer)
+  pub read-some : (found : Option (List ℕ)) (count : ℕ) (buffer : List ℕ) → IsRead io p number found (Some count)
+      buffer → (bytes : List ℕ) × (found ≡ Some bytes) × StandsFor io p number bytes (take count buffer)
   read-some None count buffer read = absurd read
   read-some (Some bytes) count buffer read = (bytes, refl, read)
 
@@ -155,7 +168,9 @@ added-same answer held one other few same =
     ap (λ (it : List ℕ). held ++ it)
     (sym (take-take (moved_count answer) 256 one few) ∙ ap (λ (it : List ℕ). take (moved_count answer) it) same ∙ take-take (moved_count answer) 256 other few)
 
-pipe-same : (io : Io) (pipe : ℕ) (call : Kept) (alone : Bool) (bytes read : List ℕ) (regs : Regs) → length read ≡ length bytes → window call.moved read ≡ window call.moved bytes → writes_pipe io pipe call alone read regs ≡ writes_pipe io pipe call alone bytes regs
+pipe-same : (io : Io) (pipe : ℕ) (call : Kept) (alone : Bool) (bytes read : List ℕ) (regs : Regs)
+    → length read ≡ length bytes → window call.moved read ≡ window call.moved bytes → writes_pipe io pipe call alone
+    read regs ≡ writes_pipe io pipe call alone bytes regs
 pipe-same io pipe call alone bytes read regs long same =
     let held : List ℕ = pipe_bytes io pipe in
     let one : List ℕ = drop call.moved read in
@@ -207,7 +222,9 @@ module _ (kind : WriteKind) (caller : Caller) (io : Io) (bytes read : List ℕ) 
   on-target opened (Term terminal) all = ap (λ (it : List ℕ). On opened (Term terminal) it) (all refl)
   on-target opened (Pipe pipe) all = into-pipe opened pipe
 
-  on-path : (path : Option OpenPath) → (is_on_pipe path ≡ false → read ≡ bytes) → needs path E_BPNUM (λ opened. refuses (not (can_write opened.desc.mode)) E_BMODE (On opened opened.desc.target read)) ≡ needs path E_BPNUM (λ opened. refuses (not (can_write opened.desc.mode)) E_BMODE (On opened opened.desc.target bytes))
+  on-path : (path : Option OpenPath) → (is_on_pipe path ≡ false → read ≡ bytes) → needs path E_BPNUM
+      (λ opened. refuses (not (can_write opened.desc.mode)) E_BMODE (On opened opened.desc.target read)) ≡ needs path
+      E_BPNUM (λ opened. refuses (not (can_write opened.desc.mode)) E_BMODE (On opened opened.desc.target bytes))
   on-path None all = refl
   on-path (Some opened) all =
       ap (λ (step : IoStep). refuses (not (can_write opened.desc.mode)) E_BMODE step) (on-target opened opened.desc.target all)
@@ -217,7 +234,11 @@ module _ (kind : WriteKind) (caller : Caller) (io : Io) (bytes read : List ℕ) 
   named-same = on-path (open_path io caller.process.0 (path_number (write_call kind) caller.regs)) stands.all
 
 -- an attempt of what was read is one of the bytes themselves
-pub sends-read : (kind : WriteKind) (process : Pid) (regs : Regs) (cells : Cells) (io new : Io) (end : CallEnd) (before after : List TerminalState) (bytes read : List ℕ) → StandsFor io process.0 (path_number (write_call kind) regs) bytes read → Sends (write_named kind (sender process regs cells) io read) (sender process regs cells) io (regs_done kind regs (length read)) end new before after → Sends (write_named kind (sender process regs cells) io bytes) (sender process regs cells) io (regs_done kind regs (length bytes)) end new before after
+pub sends-read : (kind : WriteKind) (process : Pid) (regs : Regs) (cells : Cells) (io new : Io) (end : CallEnd)
+    (before after : List TerminalState) (bytes read : List ℕ) → StandsFor io process.0 (path_number (write_call kind)
+    regs) bytes read → Sends (write_named kind (sender process regs cells) io read) (sender process regs cells) io
+    (regs_done kind regs (length read)) end new before after → Sends (write_named kind (sender process regs cells) io
+    bytes) (sender process regs cells) io (regs_done kind regs (length bytes)) end new before after
 sends-read kind process regs cells io new end before after bytes read stands sends =
     let caller : Caller = sender process regs cells in
     subst (λ (n : ℕ). Sends (write_named kind caller io bytes) caller io (regs_done kind regs n) end new before after) stands.count

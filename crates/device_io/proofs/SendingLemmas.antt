@@ -80,7 +80,10 @@ pub record IsWriteCall (io : Io) (p : ℕ) (target : Target) (call : Kept) (coun
   pub may : MayWrite io p target call count
   pub first : (n : ℕ) → target ≡ Term n → kept_at io p ≡ None
 
-pub write-call : (kind : WriteKind) (regs : Regs) (io : Io) (p : ℕ) (opened : OpenPath) (call : Kept) (count : ℕ) → IsIo io → MaySend kind regs io p count → open_path io p (path_number (write_call kind) regs) ≡ Some opened → call ≡ unwrap_or (kept_at io p) (first_call (write_code kind) opened count) → count ≢ 0 → IsWriteCall io p opened.desc.target call count
+pub write-call : (kind : WriteKind) (regs : Regs) (io : Io) (p : ℕ) (opened : OpenPath) (call : Kept) (count : ℕ)
+    → IsIo io → MaySend kind regs io p count → open_path io p (path_number (write_call kind) regs) ≡ Some opened
+    → call ≡ unwrap_or (kept_at io p) (first_call (write_code kind) opened count) → count ≢ 0
+    → IsWriteCall io p opened.desc.target call count
 write-call kind regs io p opened call count is may open_is call_is some = by (kept_at io p) refl may.again may.same call_is
   where
     number : ℕ
@@ -121,7 +124,9 @@ write-call kind regs io p opened call count is may open_is call_is some = by (ke
           first = λ n is_term. absurd (no-way-back (sym (kept-writes kind kept.code fact.code) ∙ (is.waits.calls p kept at).reads n (kept_on ∙ ap (λ (t : Target). Some t) is_term)));
         }
 
-    by : (kept : Option Kept) → kept_at io p ≡ kept → IfSome kept (IsKept (write_call kind) regs io p) → IfSome kept (λ kept. kept.count ≡ count) → call ≡ unwrap_or kept first → IsWriteCall io p opened.desc.target call count
+    by : (kept : Option Kept) → kept_at io p ≡ kept → IfSome kept (IsKept (write_call kind) regs io p)
+        → IfSome kept (λ kept. kept.count ≡ count) → call ≡ unwrap_or kept first → IsWriteCall io p opened.desc.target
+        call count
     by None none fact same call_is = subst (λ (k : Kept). IsWriteCall io p opened.desc.target k count) (sym call_is) (begun none)
     by (Some kept) at fact same call_is = subst (λ (k : Kept). IsWriteCall io p opened.desc.target k count) (sym call_is) (further kept at fact same)
 
@@ -146,7 +151,8 @@ module _ (caller : Caller) (io : Io) (regs : Regs) (new : Io) (before after : Li
 
 module _ (caller : Caller) (io : Io) (regs : Regs) (new : Io) (terms : List TerminalState) where
   -- it reaches no device, and stores nothing
-  pub sends-settled : (effect : IoEffect) (end : CallEnd) → effect ≡ leaves effect.end effect.io → Settles effect regs caller.process.0 end new → Sends (comes effect) caller io regs end new terms terms
+  pub sends-settled : (effect : IoEffect) (end : CallEnd) → effect ≡ leaves effect.end effect.io → Settles effect regs
+      caller.process.0 end new → Sends (comes effect) caller io regs end new terms terms
   sends-settled effect end bare settles =
       sends-tells caller io regs new terms terms (comes effect) end
       (record { it = effect.end; between = effect.io; does = (sym bare, refl); told = settles.0; state = settles.1 })
@@ -164,7 +170,9 @@ module _ (caller : Caller) (io : Io) (regs : Regs) (new : Io) (terms : List Term
 -- ---- terminals
 
 -- what a terminal answers to a write
-pub put-answer : (process : Pid) (put : List ℕ) (count : ℕ) (answer : Progress) (io new : Io) (n : ℕ) (before after : List TerminalState) → ChangesOneTerminal (Writes process put count answer (terminal_at io n) (terminal_at new n)) n before after → IsPutAnswer answer
+pub put-answer : (process : Pid) (put : List ℕ) (count : ℕ) (answer : Progress) (io new : Io) (n : ℕ)
+    (before after : List TerminalState) → ChangesOneTerminal (Writes process put count answer (terminal_at io n)
+    (terminal_at new n)) n before after → IsPutAnswer answer
 put-answer process put count (Progress.Done moved) io new n before after device = tt
 put-answer process put count Progress.Wait io new n before after device =
     let e : Progress.Wait ≡ Progress.Done count = device.4.outcome.answer_is in absurd cc
@@ -181,7 +189,9 @@ module _ (caller : Caller) (io new : Io) (n : ℕ) (put : List ℕ) (count : ℕ
   Changes taken answer =
       ChangesOneTerminal (Writes caller.process put taken answer (terminal_at io n) (terminal_at new n)) n before after
 
-  put-ends : (answer : Progress) (end : CallEnd) → Changes count answer → new ≡ with_call (with_terminal io n (terminal_at new n)) caller.process.0 None → PutEnds answer end → Sends (writes write) caller io regs end new before after
+  put-ends : (answer : Progress) (end : CallEnd) → Changes count answer
+      → new ≡ with_call (with_terminal io n (terminal_at new n)) caller.process.0 None → PutEnds answer end
+      → Sends (writes write) caller io regs end new before after
   put-ends (Progress.Done moved) end device state ends =
       sends-tells caller io regs new before after (writes write) end
       (record {
@@ -207,17 +217,28 @@ module _ (caller : Caller) (io new : Io) (n : ℕ) (put : List ℕ) (count : ℕ
       subst (λ (e : CallEnd). Sends (writes write) caller io regs e new before after) (sym ends) wants
 
   -- by what the terminal answered, which took all the bytes
-  pub sends-put : (taken : ℕ) (answer : Progress) (end : CallEnd) → taken ≡ count → Changes taken answer → new ≡ with_call (with_terminal io n (terminal_at new n)) caller.process.0 None → PutEnds answer end → Sends (writes write) caller io regs end new before after
+  pub sends-put : (taken : ℕ) (answer : Progress) (end : CallEnd) → taken ≡ count → Changes taken answer
+      → new ≡ with_call (with_terminal io n (terminal_at new n)) caller.process.0 None → PutEnds answer end
+      → Sends (writes write) caller io regs end new before after
   sends-put taken answer end same device state ends =
       put-ends answer end (subst (λ (c : ℕ). Changes c answer) same device) state ends
 
 -- what a write does on a terminal, and on a pipe
-pub on-terminal : (kind : WriteKind) (caller : Caller) (io : Io) (bytes : List ℕ) (call : Kept) (n : ℕ) → writes (record { terminal = n; put = put_of kind bytes; count = length bytes; regs = regs_done kind caller.regs (length bytes) }) ≡ writes_target (sent kind caller bytes) caller io call (Term n)
+pub on-terminal : (kind : WriteKind) (caller : Caller) (io : Io) (bytes : List ℕ) (call : Kept) (n : ℕ)
+    → writes (record {
+      terminal = n;
+      put = put_of kind bytes;
+      count = length bytes;
+      regs = regs_done kind caller.regs
+          (length bytes);
+    }) ≡ writes_target (sent kind caller bytes) caller io call (Term n)
 on-terminal Bytes caller io bytes call n = refl
 on-terminal Line caller io bytes call n = refl
 on-terminal ErrorLine caller io bytes call n = refl
 
-pub on-pipe : (kind : WriteKind) (caller : Caller) (io : Io) (bytes : List ℕ) (call : Kept) (n : ℕ) → comes (writes_pipe io n call (is_alone io caller.process.0 call.path.0 Way.Writing) bytes (regs_done kind caller.regs (length bytes))) ≡ writes_target (sent kind caller bytes) caller io call (Pipe n)
+pub on-pipe : (kind : WriteKind) (caller : Caller) (io : Io) (bytes : List ℕ) (call : Kept) (n : ℕ)
+    → comes (writes_pipe io n call (is_alone io caller.process.0 call.path.0 Way.Writing) bytes
+    (regs_done kind caller.regs (length bytes))) ≡ writes_target (sent kind caller bytes) caller io call (Pipe n)
 on-pipe Bytes caller io bytes call n = refl
 on-pipe Line caller io bytes call n = refl
 on-pipe ErrorLine caller io bytes call n = refl
@@ -231,7 +252,9 @@ done-regs ErrorLine caller bytes = refl
 -- ---- what is told
 
 module _ (m : Inner) (io : Io) (p : ℕ) (processes : ProcState) (regs : Regs) (new : Io) (before after : List TerminalState) (step : IoStep) where
-  pub tries-told : (end : CallEnd) → Sends step (caller_of m p) io regs end new before after → ((it : IoEnd) (between : Io) → IsTold it regs end → Comes m p (result_by it m p (leaves it between)) end processes) → Tries step m io p end processes new before after
+  pub tries-told : (end : CallEnd) → Sends step (caller_of m p) io regs end new before after
+      → ((it : IoEnd) (between : Io) → IsTold it regs end → Comes m p (result_by it m p (leaves it between)) end
+      processes) → Tries step m io p end processes new before after
   tries-told End.Done it told = record { effect = leaves it.it it.between; does = it.does; comes = told it.it it.between it.told; state = it.state }
   tries-told (End.Error number) it told = record { effect = leaves it.it it.between; does = it.does; comes = told it.it it.between it.told; state = it.state }
   tries-told End.Wait it told = record { effect = leaves it.it it.between; does = it.does; comes = told it.it it.between it.told; state = it.state }
@@ -239,16 +262,27 @@ module _ (m : Inner) (io : Io) (p : ℕ) (processes : ProcState) (regs : Regs) (
   tries-told End.NoMemory it told = it
 
 -- an attempt whose process was told of it
-pub sends-tries : (m : Inner) (io : Io) (process : Pid) (processes : ProcState) (new : Io) (before after : List TerminalState) (kind : WriteKind) (bytes : List ℕ) (regs told : Regs) (end : CallEnd) → regs ≡ regs_at m process.0 → regs_done kind regs (length bytes) ≡ told → Sends (write_named kind (sender process regs (cells_at m process.0)) io bytes) (sender process regs (cells_at m process.0)) io (regs_done kind regs (length bytes)) end new before after → ((it : IoEnd) (between : Io) → IsTold it told end → Comes m process.0 (result_by it m process.0 (leaves it between)) end processes) → Tries (write_named kind (caller_of m process.0) io bytes) m io process.0 end processes new before after
+pub sends-tries : (m : Inner) (io : Io) (process : Pid) (processes : ProcState) (new : Io)
+    (before after : List TerminalState) (kind : WriteKind) (bytes : List ℕ) (regs told : Regs) (end : CallEnd)
+    → regs ≡ regs_at m process.0 → regs_done kind regs (length bytes) ≡ told
+    → Sends (write_named kind (sender process regs (cells_at m process.0)) io bytes)
+    (sender process regs (cells_at m process.0)) io (regs_done kind regs (length bytes)) end new before after
+    → ((it : IoEnd) (between : Io) → IsTold it told end → Comes m process.0
+    (result_by it m process.0 (leaves it between)) end processes) → Tries (write_named kind (caller_of m process.0) io
+    bytes) m io process.0 end processes new before after
 sends-tries m io process processes new before after kind bytes regs told end same told_is sends tells =
-    let by_regs = subst (λ (r : Regs). Sends (write_named kind (sender process r (cells_at m process.0)) io bytes) (sender process r (cells_at m process.0)) io (regs_done kind regs (length bytes)) end new before after) same sends in
+    let by_regs = subst (λ (r : Regs). Sends (write_named kind (sender process r (cells_at m process.0)) io bytes)
+    (sender process r (cells_at m process.0)) io (regs_done kind regs (length bytes)) end new before after) same
+    sends in
     let by_told = subst (λ (r : Regs). Sends (write_named kind (caller_of m process.0) io bytes) (caller_of m process.0) io r end new before after) told_is by_regs in
     tries-told m io process.0 processes told new before after (write_named kind (caller_of m process.0) io bytes) end by_told tells
 
 -- ---- steps
 
 -- a call that moves no byte is done at once
-nothing-same : (caller : Caller) (io : Io) (next : IoStep) (count : ℕ) → (count ≡ 0 → caller.regs.y ≡ 0) → (caller.regs.y ≡ 0 → count ≡ 0) → (if count == 0 then done (record caller.regs { y = count }) io else next) ≡ unless_nothing caller io next
+nothing-same : (caller : Caller) (io : Io) (next : IoStep) (count : ℕ) → (count ≡ 0 → caller.regs.y ≡ 0)
+    → (caller.regs.y ≡ 0 → count ≡ 0) → (if count == 0 then done (record caller.regs { y = count }) io else next) ≡
+    unless_nothing caller io next
 nothing-same caller io next count one other = by (count == 0) (caller.regs.y == 0) refl refl
   where
     by : (none asks : Bool) → (count == 0) ≡ none → (caller.regs.y == 0) ≡ asks → (if none then done (record caller.regs { y = count }) io else next) ≡ (if asks then done caller.regs io else next)
@@ -259,12 +293,19 @@ nothing-same caller io next count one other = by (count == 0) (caller.regs.y == 
     by false true is asks_is = absurd (eqb-false count 0 is (other (eqb-true caller.regs.y 0 asks_is)))
     by false false is asks_is = refl
 
-pub bytes-step : (caller : Caller) (io : Io) (bytes : List ℕ) → length bytes ≡ caller.regs.y → write_named Bytes caller io bytes ≡ on_path caller io caller.regs.a can_write (λ (opened : OpenPath). unless_nothing caller io (sends_on (sent_bytes caller bytes) I_WRITE caller io opened))
+pub bytes-step : (caller : Caller) (io : Io) (bytes : List ℕ) → length bytes ≡ caller.regs.y → write_named Bytes
+    caller io bytes ≡ on_path caller io caller.regs.a can_write (λ (opened : OpenPath). unless_nothing caller io
+    (sends_on (sent_bytes caller bytes) I_WRITE caller io opened))
 unfolding write_named write_open write_on
 bytes-step caller io bytes all =
-    λ i. on_path caller io caller.regs.a can_write (λ (opened : OpenPath). nothing-same caller io (sends_on (sent_bytes caller bytes) I_WRITE caller io opened) (length bytes) (λ none. sym all ∙ none) (λ none. all ∙ none) i)
+    λ i. on_path caller io caller.regs.a can_write (λ (opened : OpenPath). nothing-same caller io
+    (sends_on (sent_bytes caller bytes) I_WRITE caller io opened) (length bytes) (λ none. sym all ∙ none)
+    (λ none. all ∙ none) i)
 
-pub line-step : (caller : Caller) (io : Io) (line : List ℕ) → (length line ≡ 0 → caller.regs.y ≡ 0) → (caller.regs.y ≡ 0 → length line ≡ 0) → write_named Line caller io line ≡ on_path caller io caller.regs.a can_write (λ (opened : OpenPath). unless_nothing caller io (sends_on (sent_line caller line) I_WRITLN caller io opened))
+pub line-step : (caller : Caller) (io : Io) (line : List ℕ) → (length line ≡ 0 → caller.regs.y ≡ 0)
+    → (caller.regs.y ≡ 0 → length line ≡ 0) → write_named Line caller io line ≡ on_path caller io caller.regs.a
+    can_write (λ (opened : OpenPath). unless_nothing caller io (sends_on (sent_line caller line) I_WRITLN caller io
+    opened))
 unfolding write_named write_open write_on
 line-step caller io line one other =
     λ i. on_path caller io caller.regs.a can_write (λ (opened : OpenPath). nothing-same caller io (sends_on (sent_line caller line) I_WRITLN caller io opened) (length line) one other i)
@@ -294,7 +335,8 @@ kept-error regs io p again = by (kept_at io p) again
     by None fact = tt
     by (Some kept) fact = fact.count
 
-module _ (m : Inner) (io : Io) (process : Pid) (processes : ProcState) (new : Io) (before after : List TerminalState) (bytes : List ℕ) (regs : Regs) (end : CallEnd) (same : regs ≡ regs_at m process.0) where
+module _ (m : Inner) (io : Io) (process : Pid) (processes : ProcState) (new : Io) (before after : List TerminalState)
+    (bytes : List ℕ) (regs : Regs) (end : CallEnd) (same : regs ≡ regs_at m process.0) where
   abbrev Sent : WriteKind → Type 0
   Sent kind =
       Sends (write_named kind (sender process regs (cells_at m process.0)) io bytes) (sender process regs (cells_at m process.0)) io (regs_done kind regs (length bytes)) end new before after
@@ -303,7 +345,8 @@ module _ (m : Inner) (io : Io) (process : Pid) (processes : ProcState) (new : Io
   Told told =
       (it : IoEnd) (between : Io) → IsTold it told end → Comes m process.0 (result_by it m process.0 (leaves it between)) end processes
 
-  pub bytes-tries : length bytes ≡ regs.y → user_bytes (cells_at m process.0) regs.x regs.y ≡ Some bytes → Sent Bytes → Told regs → Tries (i_write (caller_of m process.0) io) m io process.0 end processes new before after
+  pub bytes-tries : length bytes ≡ regs.y → user_bytes (cells_at m process.0) regs.x regs.y ≡ Some bytes → Sent Bytes
+      → Told regs → Tries (i_write (caller_of m process.0) io) m io process.0 end processes new before after
   bytes-tries all there sends told =
       let caller : Caller = caller_of m process.0 in
       let next : List ℕ → IoStep = λ bytes. on_path caller io caller.regs.a can_write (λ (opened : OpenPath). unless_nothing caller io (sends_on (sent_bytes caller bytes) I_WRITE caller io opened)) in
@@ -312,7 +355,9 @@ module _ (m : Inner) (io : Io) (process : Pid) (processes : ProcState) (new : Io
       (tries-same m io process.0 end processes new before after (write_named Bytes caller io bytes) (next bytes) (bytes-step caller io bytes (subst (λ (r : Regs). length bytes ≡ r.y) same all))
       (sends-tries m io process processes new before after Bytes bytes regs regs end same (ap (λ (n : ℕ). record regs { y = n }) all) sends told))
 
-  pub line-tries : (y : ℕ) → length bytes ≡ y → line_bytes (caller_of m process.0) (kept_at io process.0) ≡ Some bytes → IsSentLine regs (kept_at io process.0) bytes → Sent Line → Told (record regs { y = y }) → Tries (i_writln (caller_of m process.0) io) m io process.0 end processes new before after
+  pub line-tries : (y : ℕ) → length bytes ≡ y → line_bytes (caller_of m process.0) (kept_at io process.0) ≡ Some bytes
+      → IsSentLine regs (kept_at io process.0) bytes → Sent Line → Told (record regs { y = y })
+      → Tries (i_writln (caller_of m process.0) io) m io process.0 end processes new before after
   line-tries y all there line sends told =
       let caller : Caller = caller_of m process.0 in
       let known : IsSentLine caller.regs (kept_at io process.0) bytes = subst (λ (r : Regs). IsSentLine r (kept_at io process.0) bytes) same line in

@@ -45,26 +45,35 @@ module _ (m : Inner) (io : Io) (p : ℕ) (processes : ProcState) (new : Io) (ter
   -- it is refused
   pub tries-refused : (number : ℕ) (end : CallEnd) → end ≡ Error number → Represents processes m → new ≡ with_call io p None → Tries (refused number) m io p end processes new terms terms
   tries-refused number end is tied left =
-      subst (λ (e : CallEnd). Tries (refused number) m io p e processes new terms terms) (sym is) (record { effect = leaves (fails number) io; does = (refl, refl); comes = (refl, tied); state = left })
+      subst (λ (e : CallEnd). Tries (refused number) m io p e processes new terms terms) (sym is)
+      (record { effect = leaves (fails number) io; does = (refl, refl); comes = (refl, tied); state = left })
 
   -- it is done at once
-  pub tries-done : (regs : Regs) (end : CallEnd) → regs ≡ regs_at m p → end ≡ Done → Represents processes (with_regs_of m p regs) → new ≡ with_call io p None → Tries (done (regs_at m p) io) m io p end processes new terms terms
+  pub tries-done : (regs : Regs) (end : CallEnd) → regs ≡ regs_at m p → end ≡ Done → Represents processes
+      (with_regs_of m p regs) → new ≡ with_call io p None → Tries (done (regs_at m p) io) m io p end processes new
+      terms terms
   tries-done regs end same is tied left =
       tries-comes (leaves (answers (regs_at m p)) io) end ((is, subst (λ (r : Regs). Represents processes (with_regs_of m p r)) same tied), left)
 
 module _ (m : Inner) (io : Io) (p : ℕ) (end : CallEnd) (processes : ProcState) (new : Io) (before after : List TerminalState) where
   -- ---- the tests of a step
 
-  pub tries-needs-none : {A : Type 0} (o : Option A) (number : ℕ) (next : A → IoStep) → o ≡ None → Tries (refused number) m io p end processes new before after → Tries (needs o number next) m io p end processes new before after
+  pub tries-needs-none : {A : Type 0} (o : Option A) (number : ℕ) (next : A → IoStep) → o ≡ None
+      → Tries (refused number) m io p end processes new before after → Tries (needs o number next) m io p end
+      processes new before after
   tries-needs-none {A} o number next is tries = subst (λ (o : Option A). Tries (needs o number next) m io p end processes new before after) (sym is) tries
 
-  pub tries-needs-some : {A : Type 0} (o : Option A) (a : A) (number : ℕ) (next : A → IoStep) → o ≡ Some a → Tries (next a) m io p end processes new before after → Tries (needs o number next) m io p end processes new before after
+  pub tries-needs-some : {A : Type 0} (o : Option A) (a : A) (number : ℕ) (next : A → IoStep) → o ≡ Some a
+      → Tries (next a) m io p end processes new before after → Tries (needs o number next) m io p end processes new
+      before after
   tries-needs-some {A} o a number next is tries = subst (λ (o : Option A). Tries (needs o number next) m io p end processes new before after) (sym is) tries
 
-  pub tries-refuses-true : (test : Bool) (number : ℕ) (next : IoStep) → test ≡ true → Tries (refused number) m io p end processes new before after → Tries (refuses test number next) m io p end processes new before after
+  pub tries-refuses-true : (test : Bool) (number : ℕ) (next : IoStep) → test ≡ true → Tries (refused number) m io p
+      end processes new before after → Tries (refuses test number next) m io p end processes new before after
   tries-refuses-true test number next is tries = subst (λ (t : Bool). Tries (refuses t number next) m io p end processes new before after) (sym is) tries
 
-  pub tries-refuses-false : (test : Bool) (number : ℕ) (next : IoStep) → test ≡ false → Tries next m io p end processes new before after → Tries (refuses test number next) m io p end processes new before after
+  pub tries-refuses-false : (test : Bool) (number : ℕ) (next : IoStep) → test ≡ false → Tries next m io p end
+      processes new before after → Tries (refuses test number next) m io p end processes new before after
   tries-refuses-false test number next is tries = subst (λ (t : Bool). Tries (refuses t number next) m io p end processes new before after) (sym is) tries
 
   pub tries-if-true : (test : Bool) (one other : IoStep) → test ≡ true → Tries one m io p end processes new before after → Tries (if test then one else other) m io p end processes new before after

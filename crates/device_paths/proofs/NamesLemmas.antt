@@ -18,7 +18,8 @@ use Rattle.device_paths.specs.Tail.{last_is_dots, tail_of, tail_after, step_by}
 use Rattle.device_paths.specs.declared.list.Listed.{Listed}
 
 -- a slash stands behind a name that has no bit 7
-pub behind-slash_at : (cells : Cells) (at n : ℕ) → 0 < n → is_marked (user_cell cells (at + (n - 1))) ≡ false → user_cell cells (at + n) ≡ Some 47 → behind cells (at + n) ≡ behind_slash (user_cell cells (at + (n + 1)))
+pub behind-slash_at : (cells : Cells) (at n : ℕ) → 0 < n → is_marked (user_cell cells (at + (n - 1))) ≡ false
+    → user_cell cells (at + n) ≡ Some 47 → behind cells (at + n) ≡ behind_slash (user_cell cells (at + (n + 1)))
 behind-slash_at cells at n some unmarked slash =
     let before : at + n - 1 ≡ at + (n - 1) = omega arith in
     let after : at + n + 1 ≡ at + (n + 1) = omega arith in
@@ -61,7 +62,8 @@ tail-before name (Ok rest) some =
 tail-before name (Err fault) some = refl
 
 -- names behind a slash end as those from there on
-pub tail-another : (cells : Cells) (left next : ℕ) (name : List ℕ) (b : Behind) → b ≡ another → tail_of (names_with (λ at. names_at cells at left) name next b) ≡ tail_of (names_at cells (next + 1) left)
+pub tail-another : (cells : Cells) (left next : ℕ) (name : List ℕ) (b : Behind) → b ≡ another
+    → tail_of (names_with (λ at. names_at cells at left) name next b) ≡ tail_of (names_at cells (next + 1) left)
 tail-another cells left next name b e =
     ap (λ (b : Behind). tail_of (names_with (λ at. names_at cells at left) name next b)) e ∙ tail-before name (names_at cells (next + 1) left) (has-name cells (next + 1) left)
 
@@ -75,22 +77,31 @@ pub no-names_yet : (cells : Cells) (start left : ℕ) → 65536 ≤ left + start
 no-names_yet cells start left enough = record { left = left; enough = enough; tail = refl }
 
 -- what a name and those behind it are, of the same bytes
-pub of-same : (now old : Cells) (at : ℕ) (result found : Result Step NameFault) → now ≡ old → ((left : ℕ) → tail_of (names_at now at (suc left)) ≡ tail_after (λ next. tail_of (names_at now next left)) result) → result ≡ found → (left : ℕ) → tail_of (names_at old at (suc left)) ≡ tail_after (λ next. tail_of (names_at old next left)) found
+pub of-same : (now old : Cells) (at : ℕ) (result found : Result Step NameFault) → now ≡ old
+    → ((left : ℕ) → tail_of (names_at now at (suc left)) ≡ tail_after (λ next. tail_of (names_at now next left))
+    result) → result ≡ found → (left : ℕ) → tail_of (names_at old at (suc left)) ≡ tail_after
+    (λ next. tail_of (names_at old next left)) found
 of-same now old at result found same step is left =
     subst (λ (seen : Cells). tail_of (names_at seen at (suc left)) ≡ tail_after (λ next. tail_of (names_at seen next left)) result) same (step left)
     ∙ ap (tail_after (λ next. tail_of (names_at old next left))) is
 
-next-by : (cells : Cells) (end : Result Tail NameFault) (at next left : ℕ) → 65536 ≤ left + at → tail_of (names_at cells at left) ≡ end → at < 65536 → ((left : ℕ) → tail_of (names_at cells at (suc left)) ≡ tail_of (names_at cells next left)) → at < next → NamesSoFar cells end next
+next-by : (cells : Cells) (end : Result Tail NameFault) (at next left : ℕ) → 65536 ≤ left + at
+    → tail_of (names_at cells at left) ≡ end → at < 65536 → ((left : ℕ) → tail_of (names_at cells at (suc left)) ≡
+    tail_of (names_at cells next left)) → at < next → NamesSoFar cells end next
 next-by cells end at next zero enough tail within step up = absurd (omega arith)
 next-by cells end at next (suc left) enough tail within step up =
     record { left = left; enough = omega arith; tail = sym (step left) ∙ tail }
 
 -- another name stands at a later address
-pub next-name : (cells : Cells) (end : Result Tail NameFault) (at next : ℕ) → NamesSoFar cells end at → at < 65536 → ((left : ℕ) → tail_of (names_at cells at (suc left)) ≡ tail_of (names_at cells next left)) → at < next → NamesSoFar cells end next
+pub next-name : (cells : Cells) (end : Result Tail NameFault) (at next : ℕ) → NamesSoFar cells end at → at < 65536
+    → ((left : ℕ) → tail_of (names_at cells at (suc left)) ≡ tail_of (names_at cells next left)) → at < next
+    → NamesSoFar cells end next
 next-name cells end at next so within step up =
     next-by cells end at next so.left so.enough so.tail within step up
 
-end-by : (cells : Cells) (end last : Result Tail NameFault) (at left : ℕ) → 65536 ≤ left + at → tail_of (names_at cells at left) ≡ end → at < 65536 → ((left : ℕ) → tail_of (names_at cells at (suc left)) ≡ last) → last ≡ end
+end-by : (cells : Cells) (end last : Result Tail NameFault) (at left : ℕ) → 65536 ≤ left + at
+    → tail_of (names_at cells at left) ≡ end → at < 65536 → ((left : ℕ) → tail_of (names_at cells at (suc left)) ≡
+    last) → last ≡ end
 end-by cells end last at zero enough tail within step = absurd (omega arith)
 end-by cells end last at (suc left) enough tail within step = sym (step left) ∙ tail
 
@@ -116,22 +127,30 @@ some-names names some = elim (cases_eq (length names) 0) [
   | inr differ ↦ ap not (ne_eqb (length names) 0 differ)
 ]
 
-said-with : (device : Option (List ℕ)) (names : List (List ℕ)) (slash : Bool) (next : ℕ) → 1 ≤ length names → listed_of (Ok (record { device = device; names = names; slash = slash; next = next })) ≡ listed_with device (Ok (record { dots = last_is_dots names; slash = slash; next = next }))
+said-with : (device : Option (List ℕ)) (names : List (List ℕ)) (slash : Bool) (next : ℕ) → 1 ≤ length names
+    → listed_of (Ok (record { device = device; names = names; slash = slash; next = next })) ≡ listed_with device
+    (Ok (record { dots = last_is_dots names; slash = slash; next = next }))
 said-with device names slash next some =
-    ap (λ (there : Bool). let said : Result Listed NameFault = Ok (record { device = device; has_names = there; dots = last_is_dots names; slash = slash; next = next }) in said) (some-names names some)
+    ap (λ (there : Bool). let said : Result Listed NameFault = Ok
+    (record { device = device; has_names = there; dots = last_is_dots names; slash = slash; next = next }) in
+    said) (some-names names some)
 
 -- what a list says that starts at a device
 list-before : (name : List ℕ) (rest : Result Names NameFault) → HasName rest → listed_of (device_list (name_before name rest)) ≡ listed_with (Some name) (tail_of rest)
 list-before name (Ok rest) some = said-with (Some name) rest.names rest.slash rest.next some
 list-before name (Err fault) some = refl
 
-listed-with : (rest : ℕ → Result Names NameFault) (name : List ℕ) (next : ℕ) (b : Behind) → HasName (rest (next + 1)) → listed_of (device_list (names_with rest name next b)) ≡ listed_by name (λ at. tail_of (rest at)) (step_by name next b)
+listed-with : (rest : ℕ → Result Names NameFault) (name : List ℕ) (next : ℕ) (b : Behind) → HasName (rest (next + 1))
+    → listed_of (device_list (names_with rest name next b)) ≡ listed_by name (λ at. tail_of (rest at))
+    (step_by name next b)
 listed-with rest name next another some = list-before name (rest (next + 1)) some
 listed-with rest name next a_slash some = refl
 listed-with rest name next nothing some = refl
 listed-with rest name next unreadable some = refl
 
-pub device-listed : (cells : Cells) (at left : ℕ) (name : List ℕ) → listed_of (device_list (names_behind (λ next. names_at cells next left) cells at (Ok name))) ≡ listed_by name (λ next. tail_of (names_at cells next left)) (step_by name (at + length name) (behind cells (at + length name)))
+pub device-listed : (cells : Cells) (at left : ℕ) (name : List ℕ)
+    → listed_of (device_list (names_behind (λ next. names_at cells next left) cells at (Ok name))) ≡ listed_by name
+    (λ next. tail_of (names_at cells next left)) (step_by name (at + length name) (behind cells (at + length name)))
 device-listed cells at left name =
     listed-with (λ next. names_at cells next left) name (at + length name) (behind cells (at + length name)) (has-name cells (at + length name + 1) left)
 
@@ -144,7 +163,9 @@ pub relative-listed : (cells : Cells) (at left : ℕ) → listed_of (relative_li
 relative-listed cells at left = relative-by (names_at cells at left) (has-name cells at left)
 
 -- the list whose first name is this, or breaks off
-pub from-name : (cells : Cells) (at left : ℕ) (name : Result (List ℕ) NameFault) → name ≡ name_at cells at → listed_of (device_list (names_behind (λ next. names_at cells next left) cells at name)) ≡ listed_of (device_list (names_at cells at (suc left)))
+pub from-name : (cells : Cells) (at left : ℕ) (name : Result (List ℕ) NameFault) → name ≡ name_at cells at
+    → listed_of (device_list (names_behind (λ next. names_at cells next left) cells at name)) ≡ listed_of
+    (device_list (names_at cells at (suc left)))
 from-name cells at left name is =
     ap (λ (name : Result (List ℕ) NameFault). listed_of (device_list (names_behind (λ next. names_at cells next left) cells at name))) is
 

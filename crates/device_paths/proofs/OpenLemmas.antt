@@ -59,17 +59,26 @@ read-list (Ok list) found is = (list, refl, let e : Ok (listed list) ≡ Ok foun
 read-list (Err fault) found is = absurd (let e : Err fault ≡ Ok found = is in cc)
 
 -- an opening by a list that breaks off
-pub open-unreadable : (search : Search) (allowed : Bool) (caller : Caller) (io : Io) (drives terms : ℕ) → Err Unreadable ≡ listed_of (path_list caller.cells caller.regs.x) → opens search allowed caller io drives terms ≡ refused E_BPADDR
+pub open-unreadable : (search : Search) (allowed : Bool) (caller : Caller) (io : Io) (drives terms : ℕ)
+    → Err Unreadable ≡ listed_of (path_list caller.cells caller.regs.x) → opens search allowed caller io drives terms
+    ≡ refused E_BPADDR
 open-unreadable search allowed caller io drives terms is =
-    ap (λ (read : Result PathList NameFault). reads_list read allowed (λ list. opens_lead caller io list (lead_of search drives terms list))) (read-fault (path_list caller.cells caller.regs.x) Unreadable (sym is))
+    ap (λ (read : Result PathList NameFault). reads_list read allowed (λ list. opens_lead caller io list
+    (lead_of search drives terms list))) (read-fault (path_list caller.cells caller.regs.x) Unreadable (sym is))
 
 -- an opening by a list with a name that is none
-pub open-no_name : (search : Search) (allowed : Bool) (caller : Caller) (io : Io) (drives terms : ℕ) → Err NoName ≡ listed_of (path_list caller.cells caller.regs.x) → opens search allowed caller io drives terms ≡ refuses (not allowed) E_BMODE (refused E_BPNAM)
+pub open-no_name : (search : Search) (allowed : Bool) (caller : Caller) (io : Io) (drives terms : ℕ)
+    → Err NoName ≡ listed_of (path_list caller.cells caller.regs.x) → opens search allowed caller io drives terms ≡
+    refuses (not allowed) E_BMODE (refused E_BPNAM)
 open-no_name search allowed caller io drives terms is =
-    ap (λ (read : Result PathList NameFault). reads_list read allowed (λ list. opens_lead caller io list (lead_of search drives terms list))) (read-fault (path_list caller.cells caller.regs.x) NoName (sym is))
+    ap (λ (read : Result PathList NameFault). reads_list read allowed (λ list. opens_lead caller io list
+    (lead_of search drives terms list))) (read-fault (path_list caller.cells caller.regs.x) NoName (sym is))
 
 -- an opening by a list that was read, which comes to this where the mode is allowed
-pub open-list : (search : Search) (allowed : Bool) (caller : Caller) (io : Io) (drives terms : ℕ) (found : Listed) (step : IoStep) → Ok found ≡ listed_of (path_list caller.cells caller.regs.x) → ((list : PathList) → found ≡ listed list → opens_lead caller io list (lead_of search drives terms list) ≡ step) → opens search allowed caller io drives terms ≡ refuses (not allowed) E_BMODE step
+pub open-list : (search : Search) (allowed : Bool) (caller : Caller) (io : Io) (drives terms : ℕ) (found : Listed)
+    (step : IoStep) → Ok found ≡ listed_of (path_list caller.cells caller.regs.x)
+    → ((list : PathList) → found ≡ listed list → opens_lead caller io list (lead_of search drives terms list) ≡ step)
+    → opens search allowed caller io drives terms ≡ refuses (not allowed) E_BMODE step
 open-list search allowed caller io drives terms found step is comes =
     let read = read-list (path_list caller.cells caller.regs.x) found (sym is) in
     ap (λ (read : Result PathList NameFault). reads_list read allowed (λ list. opens_lead caller io list (lead_of search drives terms list))) read.1

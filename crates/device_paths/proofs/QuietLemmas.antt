@@ -31,7 +31,10 @@ does-quiet (reads read) caller io terms quiet = absurd quiet
 does-quiet (writes write) caller io terms quiet = absurd quiet
 
 -- such an attempt of a call, by how it ends
-pub attempts : (call : IoCall) (m : Inner) (io new : Io) (drives p : ℕ) (end : CallEnd) (processes : ProcState) (terms : List TerminalState) → IsQuiet (step_of call m p io drives terms) → Ends (step_of call m p io drives terms) m io p end processes new → Attempts call m io drives p end processes new terms terms
+pub attempts : (call : IoCall) (m : Inner) (io new : Io) (drives p : ℕ) (end : CallEnd) (processes : ProcState)
+    (terms : List TerminalState) → IsQuiet (step_of call m p io drives terms)
+    → Ends (step_of call m p io drives terms) m io p end processes new → Attempts call m io drives p end processes new
+    terms terms
 attempts call m io new drives p end processes terms quiet ends = record {
   result = result_of m p (effect_of (step_of call m p io drives terms) io);
   attempt = record {
@@ -46,7 +49,10 @@ attempts call m io new drives p end processes terms quiet ends = record {
 pub dup-quiet : (caller : Caller) (io : Io) → IsQuiet (i_dup caller io)
 dup-quiet caller io = by (slot_of io.paths caller.process.0 caller.regs.a) (free_number io.paths caller.process.0)
   where
-    by : (path : Option SysPath) (number : Option ℕ) → IsQuiet (needs path E_BPNUM (λ path. needs number E_PTHFUL (λ number. done (record caller.regs { a = number }) (with_paths io (paths_after_dup io.paths caller.process.0 caller.regs.a)))))
+    by : (path : Option SysPath) (number : Option ℕ)
+        → IsQuiet (needs path E_BPNUM (λ path. needs number E_PTHFUL
+        (λ number. done (record caller.regs { a = number }) (with_paths io (paths_after_dup io.paths caller.process.0
+        caller.regs.a)))))
     by None number = tt
     by (Some path) None = tt
     by (Some path) (Some number) = tt
@@ -83,7 +89,11 @@ ready-quiet caller io target =
 
 status-quiet : (caller : Caller) (io : Io) (target : Target) (code : ℕ) → IsQuiet (gets_status caller io target code)
 status-quiet caller io target code =
-    if-quiet (code == SS_OPT) (gets_options caller io target) (if code == SS_READY then gets_ready caller io target else (if code == SS_EOF then gets_end caller io target else refused E_UNKSVC)) (options-quiet caller io target) (if-quiet (code == SS_READY) (gets_ready caller io target) (if code == SS_EOF then gets_end caller io target else refused E_UNKSVC) (ready-quiet caller io target) (if-quiet (code == SS_EOF) (gets_end caller io target) (refused E_UNKSVC) tt tt))
+    if-quiet (code == SS_OPT) (gets_options caller io target) (if code == SS_READY then gets_ready caller io target
+    else (if code == SS_EOF then gets_end caller io target else refused E_UNKSVC))
+    (options-quiet caller io target) (if-quiet (code == SS_READY) (gets_ready caller io target)
+    (if code == SS_EOF then gets_end caller io target else refused E_UNKSVC) (ready-quiet caller io target)
+    (if-quiet (code == SS_EOF) (gets_end caller io target) (refused E_UNKSVC) tt tt))
 
 pub getstt-quiet : (caller : Caller) (io : Io) → IsQuiet (i_getstt caller io)
 getstt-quiet caller io = by (open_path io caller.process.0 caller.regs.a)
@@ -93,20 +103,46 @@ getstt-quiet caller io = by (open_path io caller.process.0 caller.regs.a)
     by (Some opened) = status-quiet caller io opened.desc.target caller.regs.b
 
 -- a number that names a path was closed
-pub close-ends : (m : Inner) (io new : Io) (p : ℕ) (end : CallEnd) (processes : ProcState) (regs : Regs) → regs ≡ regs_at m p → is_none (slot_of io.paths p regs.a) ≡ false → end ≡ CallEnd.Done → Represents processes (with_regs_of m p regs) → new ≡ with_call (after_close io p regs.a) p None → Ends (i_close (caller_of m p) io) m io p end processes new
+pub close-ends : (m : Inner) (io new : Io) (p : ℕ) (end : CallEnd) (processes : ProcState) (regs : Regs)
+    → regs ≡ regs_at m p → is_none (slot_of io.paths p regs.a) ≡ false → end ≡ CallEnd.Done → Represents processes
+    (with_regs_of m p regs) → new ≡ with_call (after_close io p regs.a) p None → Ends (i_close (caller_of m p) io) m
+    io p end processes new
 close-ends m io new p end processes regs same named is tied state =
-    by (slot_of io.paths p (regs_at m p).a) (subst (λ (r : Regs). is_none (slot_of io.paths p r.a) ≡ false) same named) (subst (λ (r : Regs). Represents processes (with_regs_of m p r)) same tied) (subst (λ (r : Regs). new ≡ with_call (after_close io p r.a) p None) same state)
+    by (slot_of io.paths p (regs_at m p).a) (subst (λ (r : Regs). is_none (slot_of io.paths p r.a) ≡ false) same
+    named) (subst (λ (r : Regs). Represents processes (with_regs_of m p r)) same tied)
+    (subst (λ (r : Regs). new ≡ with_call (after_close io p r.a) p None) same state)
   where
-    by : (path : Option SysPath) → is_none path ≡ false → Represents processes (with_regs_of m p (regs_at m p)) → new ≡ with_call (after_close io p (regs_at m p).a) p None → Ends (needs path E_BPNUM (λ path. done (regs_at m p) (after_close io p (regs_at m p).a))) m io p end processes new
+    by : (path : Option SysPath) → is_none path ≡ false → Represents processes (with_regs_of m p (regs_at m p))
+        → new ≡ with_call (after_close io p (regs_at m p).a) p None
+        → Ends (needs path E_BPNUM (λ path. done (regs_at m p) (after_close io p (regs_at m p).a))) m io p end
+        processes new
     by None named tied state = absurd (let e : true ≡ false = named in cc)
     by (Some path) named tied state = ((is, tied), state)
 
 -- the bytes for the options of a path are not there
-pub options-refused : (m : Inner) (io new : Io) (p : ℕ) (target : Target) (end : CallEnd) (processes : ProcState) → user_bytes (cells_at m p) (regs_at m p).x OPTION_BYTES ≡ None → end ≡ CallEnd.Error E_BPADDR → Represents processes m → new ≡ with_call io p None → Ends (gets_options (caller_of m p) io target) m io p end processes new
+pub options-refused : (m : Inner) (io new : Io) (p : ℕ) (target : Target) (end : CallEnd) (processes : ProcState)
+    → user_bytes (cells_at m p) (regs_at m p).x OPTION_BYTES ≡ None → end ≡ CallEnd.Error E_BPADDR
+    → Represents processes m → new ≡ with_call io p None → Ends (gets_options (caller_of m p) io target) m io p end
+    processes new
 options-refused m io new p target end processes none is tied state =
-    subst (λ (bytes : Option (List ℕ)). Ends (refuses (is_none bytes) E_BPADDR (comes (stores (regs_at m p).x (options target) (answers (regs_at m p)) io))) m io p end processes new) (sym none) ((is, tied), state)
+    subst (λ (bytes : Option (List ℕ)). Ends (refuses (is_none bytes) E_BPADDR
+    (comes (stores (regs_at m p).x (options target) (answers (regs_at m p)) io))) m io p end processes new)
+    (sym none) ((is, tied), state)
 
 -- the options of a path were stored
-pub options-stored : (m : Inner) (io new : Io) (p : ℕ) (target : Target) (end : CallEnd) (processes : ProcState) (bytes : List ℕ) (regs : Regs) → regs ≡ regs_at m p → user_bytes (cells_at m p) regs.x OPTION_BYTES ≡ Some bytes → end ≡ CallEnd.Done → Represents processes (with_regs_of (with_memory m (stored m.memory p regs.x (options target))) p regs) → new ≡ with_call io p None → Ends (gets_options (caller_of m p) io target) m io p end processes new
+pub options-stored : (m : Inner) (io new : Io) (p : ℕ) (target : Target) (end : CallEnd) (processes : ProcState)
+    (bytes : List ℕ) (regs : Regs) → regs ≡ regs_at m p → user_bytes (cells_at m p) regs.x OPTION_BYTES ≡ Some bytes
+    → end ≡ CallEnd.Done → Represents processes
+    (with_regs_of (with_memory m (stored m.memory p regs.x (options target))) p regs) → new ≡ with_call io p None
+    → Ends (gets_options (caller_of m p) io target) m io p end processes new
 options-stored m io new p target end processes bytes regs same there is tied state =
-    subst (λ (bytes : Option (List ℕ)). Ends (refuses (is_none bytes) E_BPADDR (comes (stores (regs_at m p).x (options target) (answers (regs_at m p)) io))) m io p end processes new) (sym (subst (λ (r : Regs). user_bytes (cells_at m p) r.x OPTION_BYTES ≡ Some bytes) same there)) ((is, subst (λ (r : Regs). Represents processes (with_regs_of (with_memory m (stored m.memory p r.x (options target))) p r)) same tied), state)
+    subst (λ (bytes : Option (List ℕ)). Ends (refuses (is_none bytes) E_BPADDR
+    (comes (stores (regs_at m p).x (options target) (answers (regs_at m p)) io))) m io p end processes new)
+    (sym (subst (λ (r : Regs). user_bytes (cells_at m p) r.x OPTION_BYTES ≡ Some bytes) same there)) (
+      (
+        is,
+        subst (λ (r : Regs). Represents processes
+            (with_regs_of (with_memory m (stored m.memory p r.x (options target))) p r)) same tied,
+      ),
+      state,
+    )

@@ -5,7 +5,10 @@ use Rattle.std.proofs.lemmas.List.{map-set}
 use Rattle.std.proofs.lemmas.Option.{slice_get-map, slice_get_read}
 use Rattle.os9_outer.specs.TerminalState.{TerminalState, ChangesOneTerminal}
 
-pub ChangesOne-set : {Driver : Type 0} (screen : Driver → TerminalState) (change : TerminalState → TerminalState → Type 0) (drivers : List Driver) (n : ℕ) (old new : Driver) → n < length drivers → old ≡ get_or drivers n old → change (screen old) (screen new) → ChangesOneTerminal change n (map screen drivers) (map screen (slice_set drivers n new))
+pub ChangesOne-set : {Driver : Type 0} (screen : Driver → TerminalState) (change : TerminalState → TerminalState
+    → Type 0) (drivers : List Driver) (n : ℕ) (old new : Driver) → n < length drivers → old ≡ get_or drivers n old
+    → change (screen old) (screen new) → ChangesOneTerminal change n (map screen drivers)
+    (map screen (slice_set drivers n new))
 ChangesOne-set screen change drivers n old new inside here changed = (
   screen old,
   screen new,

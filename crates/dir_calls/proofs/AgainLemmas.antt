@@ -17,7 +17,9 @@ use Rattle.file_state.specs.Reached.{HasChanged, HasRead}
 use Rattle.file_state.specs.Tie.{StandsFor}
 use Rattle.file_state.specs.declared.state.FileState.{FileState}
 
-module _ (files : Files) (place : FilePlace) (v : DiskVolume) (file : DiskFile) (volume_is : volume_at files place.drive ≡ Some v) (file_is : v.files place.number ≡ Some file) (mid new : FileState) (before views now : List DriveView) (was : HasRead None place.drive files mid before views) where
+module _ (files : Files) (place : FilePlace) (v : DiskVolume) (file : DiskFile) (volume_is : volume_at files
+    place.drive ≡ Some v) (file_is : v.files place.number ≡ Some file) (mid new : FileState)
+    (before views now : List DriveView) (was : HasRead None place.drive files mid before views) where
   file-there : file_in (with_drives files (drive_states views)) place ≡ Some file
   file-there = ap (option_and_then (λ (v : DiskVolume). v.files place.number)) volume_is ∙ file_is
 
@@ -25,12 +27,16 @@ module _ (files : Files) (place : FilePlace) (v : DiskVolume) (file : DiskFile) 
   pub of-found : (fact : DiskVolume → DiskFile → Type 0) → OnDisks mid.disks views place fact → fact v file
   of-found fact holds = holds files.volumes v file was.stands.mounted volume_is file_is
 
-  pub read-again : (fault : Option ℕ) (most : DiskVolume → DiskFile → ℕ) → new.io ≡ mid.io → new.directories ≡ mid.directories → ReadsFile place fault most mid.disks views new.disks now → HasRead fault place.drive files new before now
+  pub read-again : (fault : Option ℕ) (most : DiskVolume → DiskFile → ℕ) → new.io ≡ mid.io → new.directories ≡
+      mid.directories → ReadsFile place fault most mid.disks views new.disks now → HasRead fault place.drive files new
+      before now
   read-again fault most io directories reads =
       reached.has-read-then fault place.drive files mid new before views now was
       (reached.has-read mid new views now (with_drives files (drive_states views)) place file fault most was.stands file-there io directories reads)
 
-  pub changed-again : (asked : Asked) (answer : Result ℕ DirError) (most : DiskVolume → DiskFile → DiskVolume → ℕ) → new.io ≡ mid.io → new.directories ≡ mid.directories → ChangesVolume place asked answer most mid.disks views new.disks now → HasChanged asked answer place.drive v file files new before now
+  pub changed-again : (asked : Asked) (answer : Result ℕ DirError) (most : DiskVolume → DiskFile → DiskVolume → ℕ)
+      → new.io ≡ mid.io → new.directories ≡ mid.directories → ChangesVolume place asked answer most mid.disks views
+      new.disks now → HasChanged asked answer place.drive v file files new before now
   changed-again asked answer most io directories changes =
       reached.has-changed-then asked answer place.drive v file files mid new before views now was
       (reached.has-changed mid new views now (with_drives files (drive_states views)) place v file asked answer most was.stands volume_is file_is io directories changes)
@@ -39,13 +45,17 @@ module _ (files : Files) (place : FilePlace) (v : DiskVolume) (file : DiskFile) 
   pub read-calls : (fault : Option ℕ) (most : DiskVolume → DiskFile → ℕ) → ReadsFile place fault most mid.disks views new.disks now → CalledAtMost (most v file) views now
   read-calls fault most reads = called-read mid new views now (with_drives files (drive_states views)) place v file fault most was.stands volume_is file_is reads
 
-  pub change-calls : (asked : Asked) (answer : Result ℕ DirError) (most : DiskVolume → DiskFile → DiskVolume → ℕ) (bound : ℕ) → ((left : DiskVolume) → most v file left ≤ bound) → ChangesVolume place asked answer most mid.disks views new.disks now → CalledAtMost bound views now
+  pub change-calls : (asked : Asked) (answer : Result ℕ DirError) (most : DiskVolume → DiskFile → DiskVolume → ℕ)
+      (bound : ℕ) → ((left : DiskVolume) → most v file left ≤ bound) → ChangesVolume place asked answer most mid.disks
+      views new.disks now → CalledAtMost bound views now
   change-calls asked answer most bound within changes =
       let it = changes files.volumes v file was.stands.mounted volume_is file_is in
       called-more (most v file it.left) bound views now (within it.left) (called-one (directory_fault answer) (most v file it.left) place.drive views now it.moves)
 
 -- a file that is there is there still where what was mounted is mounted still
-pub still-there : (place : FilePlace) (fault : Option ℕ) (most : DiskVolume → DiskFile → ℕ) (disks new : List (Option Volume)) (views now : List DriveView) → HasFileAt disks views place → ReadsFile place fault most disks views new now → HasFileAt new now place
+pub still-there : (place : FilePlace) (fault : Option ℕ) (most : DiskVolume → DiskFile → ℕ)
+    (disks new : List (Option Volume)) (views now : List DriveView) → HasFileAt disks views place
+    → ReadsFile place fault most disks views new now → HasFileAt new now place
 still-there place fault most disks new views now has reads = record {
   volumes = has.volumes;
   mounted = reads.mounted has.volumes has.mounted;
@@ -56,7 +66,10 @@ still-there place fault most disks new views now has reads = record {
 }
 
 -- where the change is refused, or was to be when the drive failed, the drive was only read
-pub unchanged : (asked : Asked) (answer : Result ℕ DirError) (drive : ℕ) (v : DiskVolume) (file : DiskFile) (files : Files) (new : FileState) (before now : List DriveView) → volume_at files drive ≡ Some v → (it : HasChanged asked answer drive v file files new before now) → IsRefused answer ⊎ (is_refused asked v file ≡ true) → it.left ≡ v → HasRead (directory_fault answer) drive files new before now
+pub unchanged : (asked : Asked) (answer : Result ℕ DirError) (drive : ℕ) (v : DiskVolume) (file : DiskFile)
+    (files : Files) (new : FileState) (before now : List DriveView) → volume_at files drive ≡ Some v
+    → (it : HasChanged asked answer drive v file files new before now) → IsRefused answer ⊎
+    (is_refused asked v file ≡ true) → it.left ≡ v → HasRead (directory_fault answer) drive files new before now
 unchanged asked answer drive v file files new before now is it quiet same = record {
   moved = it.moved;
   stands = subst (λ (f : Files). StandsFor new now (with_drives f (drive_states now))) (ap (λ (left : DiskVolume). with_volume files drive left) same ∙ reached.same-volume files drive v is) it.stands;

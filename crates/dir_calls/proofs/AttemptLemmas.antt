@@ -19,7 +19,9 @@ use Rattle.file_state.specs.Media.{KeepsDrives}
 use Rattle.file_state.specs.declared.state.FileState.{FileState}
 use Rattle.dir_calls.specs.Tries.{Tries}
 
-module _ (step : FileStep) (most : ℕ) (m : Inner) (was : Files) (now : TimePacket) (p : ℕ) (terms : List TerminalState) (mid : FileState) (before views : List DriveView) (end : CallEnd) (processes : ProcState) (io : Io) (io_is : io ≡ with_call mid.io p None) where
+module _ (step : FileStep) (most : ℕ) (m : Inner) (was : Files) (now : TimePacket) (p : ℕ)
+    (terms : List TerminalState) (mid : FileState) (before views : List DriveView) (end : CallEnd)
+    (processes : ProcState) (io : Io) (io_is : io ≡ with_call mid.io p None) where
   abbrev Ended : Type 0
   Ended = Ends step most m was now p end processes (record { io = io; disks = mid.disks; directories = mid.directories }) before views terms
 

@@ -82,22 +82,35 @@ module _ (user : ℕ) (execute : Bool) (d : ℕ) (names : List (List ℕ)) (most
   walk-seen (Some v) = at-end v (walk_calls v.files user execute d names) (walk v.files user execute d names)
 
 -- and what is called for what it finds
-module _ {A : Type 0} (asker : Asker) (files : Files) (execute : Bool) (from : FilePlace) (names : List (List ℕ)) (next : Found → Step A) (it : A) (more : ℕ) (most : DiskVolume → DiskFile → ℕ) (enough : (found : Found) → answer_of (next found) ≡ Ok it → more ≤ most found.volume found.file) where
+module _ {A : Type 0} (asker : Asker) (files : Files) (execute : Bool) (from : FilePlace) (names : List (List ℕ))
+    (next : Found → Step A) (it : A) (more : ℕ) (most : DiskVolume → DiskFile → ℕ) (enough : (found : Found)
+    → answer_of (next found) ≡ Ok it → more ≤ most found.volume found.file) where
   module _ (v : DiskVolume) (calls : ℕ) where
-    with-file : (n : ℕ) (file : Option DiskFile) → answer_of (needs file 216 (λ file. next (record { place = record { drive = from.drive; number = n }; volume = v; file = file }))) ≡ Ok it → calls + option_map_or (λ (file : DiskFile). 0) file 0 + more ≤ calls + option_map_or (most v) file 0
+    with-file : (n : ℕ) (file : Option DiskFile)
+        → answer_of (needs file 216
+        (λ file. next (record { place = record { drive = from.drive; number = n }; volume = v; file = file }))) ≡ Ok
+        it → calls + option_map_or (λ (file : DiskFile). 0) file 0 + more ≤ calls + option_map_or (most v) file 0
     with-file n None is = cc
     with-file n (Some file) is =
         let room : more ≤ most v file = enough (record { place = record { drive = from.drive; number = n }; volume = v; file = file }) is in omega (arith, room)
 
-    with-end : (end : WalkEnd) → answer_of (walk_ends from.drive v end next) ≡ Ok it → calls + calls_on end (λ n. option_map_or (λ (file : DiskFile). 0) (v.files n) 0) + more ≤ calls + calls_on end (λ n. option_map_or (most v) (v.files n) 0)
+    with-end : (end : WalkEnd) → answer_of (walk_ends from.drive v end next) ≡ Ok it → calls + calls_on end
+        (λ n. option_map_or (λ (file : DiskFile). 0) (v.files n) 0) + more ≤ calls + calls_on end
+        (λ n. option_map_or (most v) (v.files n) 0)
     with-end (arrives n) is = with-file n (v.files n) is
     with-end not_allowed is = cc
     with-end not_found is = cc
 
-  pub walk-within : answer_of (walks asker files execute from names next) ≡ Ok it → walk_and asker.user execute from.number names (λ v file. 0) (volume_at files from.drive) + more ≤ walk_and asker.user execute from.number names most (volume_at files from.drive)
+  pub walk-within : answer_of (walks asker files execute from names next) ≡ Ok it → walk_and asker.user execute
+      from.number names (λ v file. 0) (volume_at files from.drive) + more ≤ walk_and asker.user execute from.number
+      names most (volume_at files from.drive)
   walk-within = by (volume_at files from.drive)
     where
-      by : (volume : Option DiskVolume) → answer_of (needs volume 221 (λ v. reaches from.drive (walk_ends from.drive v (walk v.files asker.user execute from.number names) next))) ≡ Ok it → walk_and asker.user execute from.number names (λ v file. 0) volume + more ≤ walk_and asker.user execute from.number names most volume
+      by : (volume : Option DiskVolume)
+          → answer_of (needs volume 221
+          (λ v. reaches from.drive (walk_ends from.drive v (walk v.files asker.user execute from.number names) next)))
+          ≡ Ok it → walk_and asker.user execute from.number names (λ v file. 0) volume + more ≤ walk_and asker.user
+          execute from.number names most volume
       by None is = cc
       by (Some v) is = with-end v (walk_calls v.files asker.user execute from.number names) (walk v.files asker.user execute from.number names) is
 
@@ -112,7 +125,9 @@ module _ (asker : Asker) (files : Files) (terms : ℕ) (execute : Bool) (most : 
   pub located-seen : located_calls execute (λ v file. 0) asker files terms ≤ located_calls execute most asker files terms
   located-seen = by (list_of asker)
     where
-      by : (read : Result PathList NameFault) → listed_calls read (λ list. way_calls asker files execute (λ v file. 0) (way_of asker files terms execute list)) ≤ listed_calls read (λ list. way_calls asker files execute most (way_of asker files terms execute list))
+      by : (read : Result PathList NameFault) → listed_calls read (λ list. way_calls asker files execute (λ v file. 0)
+          (way_of asker files terms execute list)) ≤ listed_calls read (λ list. way_calls asker files execute most
+          (way_of asker files terms execute list))
       by (Ok list) = way-seen (way_of asker files terms execute list)
       by (Err fault) = omega arith
 
@@ -120,7 +135,8 @@ module _ (asker : Asker) (files : Files) (terms : ℕ) (execute : Bool) (most : 
     abbrev more : ℕ
     more = most it.found.volume it.found.file
 
-    way-within : (list : PathList) (way : Way) → answer_of (locates_on asker files execute list way) ≡ Ok it → way_calls asker files execute (λ v file. 0) way + more ≤ way_calls asker files execute most way
+    way-within : (list : PathList) (way : Way) → answer_of (locates_on asker files execute list way) ≡ Ok it
+        → way_calls asker files execute (λ v file. 0) way + more ≤ way_calls asker files execute most way
     way-within list (along from names) is =
         walk-within asker files execute from names (λ found. comes (found_by list found)) it more most
         (λ found is. let same : found_by list found ≡ it = cc in subst (λ (it : FoundBy). most it.found.volume it.found.file ≤ most found.volume found.file) same (omega arith))
@@ -128,10 +144,15 @@ module _ (asker : Asker) (files : Files) (terms : ℕ) (execute : Bool) (most : 
     way-within list to_device is = cc
     way-within list (nowhere number) is = cc
 
-    pub located-within : (refusal : Option ℕ) → answer_of (locates execute refusal asker files terms) ≡ Ok it → located_calls execute (λ v file. 0) asker files terms + more ≤ located_calls execute most asker files terms
+    pub located-within : (refusal : Option ℕ) → answer_of (locates execute refusal asker files terms) ≡ Ok it
+        → located_calls execute (λ v file. 0) asker files terms + more ≤ located_calls execute most asker files terms
     located-within = by (list_of asker)
       where
-        by : (read : Result PathList NameFault) (refusal : Option ℕ) → answer_of (reads_list read (refuses_by refusal) (λ list. locates_on asker files execute list (way_of asker files terms execute list))) ≡ Ok it → listed_calls read (λ list. way_calls asker files execute (λ v file. 0) (way_of asker files terms execute list)) + more ≤ listed_calls read (λ list. way_calls asker files execute most (way_of asker files terms execute list))
+        by : (read : Result PathList NameFault) (refusal : Option ℕ) → answer_of (reads_list read (refuses_by refusal)
+            (λ list. locates_on asker files execute list (way_of asker files terms execute list))) ≡ Ok it
+            → listed_calls read (λ list. way_calls asker files execute (λ v file. 0) (way_of asker files terms execute
+            list)) + more ≤ listed_calls read (λ list. way_calls asker files execute most
+            (way_of asker files terms execute list))
         by (Ok list) None is = way-within list (way_of asker files terms execute list) is
         by (Ok list) (Some number) is = cc
         by (Err Unreadable) refusal is = cc
@@ -150,7 +171,10 @@ module _ (purpose : Purpose) (asker : Asker) (files : Files) (terms : ℕ) (exec
   pub named-seen : named_calls purpose execute (λ name v dir. 0) asker files terms ≤ named_calls purpose execute most asker files terms
   named-seen = by (list_of asker)
     where
-      by : (read : Result PathList NameFault) → listed_calls read (λ list. last_calls asker files execute (λ name v dir. 0) (way_for purpose asker files terms execute list) (last_of list.names)) ≤ listed_calls read (λ list. last_calls asker files execute most (way_for purpose asker files terms execute list) (last_of list.names))
+      by : (read : Result PathList NameFault) → listed_calls read (λ list. last_calls asker files execute
+          (λ name v dir. 0) (way_for purpose asker files terms execute list) (last_of list.names)) ≤ listed_calls read
+          (λ list. last_calls asker files execute most (way_for purpose asker files terms execute list)
+          (last_of list.names))
       by (Ok list) = last-seen (way_for purpose asker files terms execute list) (last_of list.names)
       by (Err fault) = omega arith
 
@@ -164,19 +188,29 @@ module _ (purpose : Purpose) (asker : Asker) (files : Files) (terms : ℕ) (exec
     no-name Existing list from names is =
         let none = walk-within asker files execute from names (λ root. refused 214) it 1 (λ v file. 0) (λ found is. cc) is in omega (arith, none)
 
-    last-within : (list : PathList) (way : Way) (last : Option (List ℕ)) → answer_of (names_on purpose asker files execute list way last) ≡ Ok it → last_calls asker files execute (λ name v dir. 0) way last + after ≤ last_calls asker files execute most way last
+    last-within : (list : PathList) (way : Way) (last : Option (List ℕ))
+        → answer_of (names_on purpose asker files execute list way last) ≡ Ok it → last_calls asker files execute
+        (λ name v dir. 0) way last + after ≤ last_calls asker files execute most way last
     last-within list (along from names) None is = absurd (no-name purpose list from names is)
     last-within list (along from names) (Some name) is =
         walk-within asker files execute from (before_last names) (λ directory. comes (named_by list name directory)) it after (most name)
-        (λ found is. let same : named_by list name found ≡ it = cc in subst (λ (it : NamedBy). most it.name it.directory.volume it.directory.file ≤ most name found.volume found.file) same (omega arith))
+        (λ found is. let same : named_by list name found ≡ it = cc in subst (λ (it : NamedBy). most it.name
+        it.directory.volume it.directory.file ≤ most name found.volume found.file) same (omega arith))
         is
     last-within list to_device last is = cc
     last-within list (nowhere number) last is = cc
 
-    pub named-within : (refusal : Option ℕ) → answer_of (names_last purpose execute refusal asker files terms) ≡ Ok it → named_calls purpose execute (λ name v dir. 0) asker files terms + after ≤ named_calls purpose execute most asker files terms
+    pub named-within : (refusal : Option ℕ) → answer_of (names_last purpose execute refusal asker files terms) ≡ Ok it
+        → named_calls purpose execute (λ name v dir. 0) asker files terms + after ≤ named_calls purpose execute most
+        asker files terms
     named-within = by (list_of asker)
       where
-        by : (read : Result PathList NameFault) (refusal : Option ℕ) → answer_of (reads_list read (refuses_by refusal) (λ list. names_on purpose asker files execute list (way_for purpose asker files terms execute list) (last_of list.names))) ≡ Ok it → listed_calls read (λ list. last_calls asker files execute (λ name v dir. 0) (way_for purpose asker files terms execute list) (last_of list.names)) + after ≤ listed_calls read (λ list. last_calls asker files execute most (way_for purpose asker files terms execute list) (last_of list.names))
+        by : (read : Result PathList NameFault) (refusal : Option ℕ) → answer_of (reads_list read (refuses_by refusal)
+            (λ list. names_on purpose asker files execute list (way_for purpose asker files terms execute list)
+            (last_of list.names))) ≡ Ok it → listed_calls read (λ list. last_calls asker files execute
+            (λ name v dir. 0) (way_for purpose asker files terms execute list) (last_of list.names)) + after ≤
+            listed_calls read (λ list. last_calls asker files execute most (way_for purpose asker files terms execute
+            list) (last_of list.names))
         by (Ok list) None is = last-within list (way_for purpose asker files terms execute list) (last_of list.names) is
         by (Ok list) (Some number) is = cc
         by (Err Unreadable) refusal is = cc
@@ -186,7 +220,9 @@ module _ (purpose : Purpose) (asker : Asker) (files : Files) (terms : ℕ) (exec
 -- ---- what is done in the directory
 
 -- a new directory and its entry, however many sectors of the map are written for it
-pub making-within : (result : Result ℕ FileFault) (v : DiskVolume) (dir : DiskFile) (left : DiskVolume) → drives.making_calls (widened result) v dir left ≤ file_clusters (cluster_size v) new_directory_size + 2 + entry_calls v dir
+pub making-within : (result : Result ℕ FileFault) (v : DiskVolume) (dir : DiskFile) (left : DiskVolume)
+    → drives.making_calls (widened result) v dir left ≤ file_clusters (cluster_size v) new_directory_size + 2 +
+    entry_calls v dir
 making-within (Ok n) v dir left =
     let few = min-le_left (file_clusters (cluster_size v) new_directory_size) (marking_sectors (shape v) (clusters_of (shape v) n (left.files n))) in
     omega (arith, few)

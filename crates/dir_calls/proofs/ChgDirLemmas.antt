@@ -40,7 +40,9 @@ module _ (asker : Asker) (files : Files) where
   abbrev both : Step FoundBy → FileStep
   both step = next_step (next_step step (allows_to_go asker)) (goes_there asker files)
 
-  tested : (list : PathList) (found : Found) (forbidden : Bool) → refuses forbidden E_FNA (goes_there asker files (record { list = list; found = found })) ≡ next_step (refuses forbidden E_FNA (comes (record { list = list; found = found }))) (goes_there asker files)
+  tested : (list : PathList) (found : Found) (forbidden : Bool) → refuses forbidden E_FNA
+      (goes_there asker files (record { list = list; found = found })) ≡ next_step
+      (refuses forbidden E_FNA (comes (record { list = list; found = found }))) (goes_there asker files)
   tested list found true = refl
   tested list found false = refl
 
@@ -50,7 +52,9 @@ module _ (asker : Asker) (files : Files) where
 
     with-way : (way : Way) → goes_on_way asker files list way ≡ both (locates_on asker files (is_for_execution asker.caller.regs.a) list way)
     with-way (along from names) =
-        walks-on asker files (is_for_execution asker.caller.regs.a) (goes_to asker files list) (λ found. comes (found_by list found)) (λ it. next_step (allows_to_go asker it) (goes_there asker files)) with-found from names
+        walks-on asker files (is_for_execution asker.caller.regs.a) (goes_to asker files list)
+        (λ found. comes (found_by list found)) (λ it. next_step (allows_to_go asker it) (goes_there asker files))
+        with-found from names
         ∙ sym (on-twice (walks asker files (is_for_execution asker.caller.regs.a) from names (λ found. comes (found_by list found))) (allows_to_go asker) (goes_there asker files))
     with-way to_device = refl
     with-way (nowhere number) = refl
@@ -58,7 +62,12 @@ module _ (asker : Asker) (files : Files) where
   pub chgdir-parts : (terms : ℕ) → i_chgdir asker files terms ≡ next_step (looks_for_directory asker files terms) (goes_there asker files)
   chgdir-parts terms = by (list_of asker) (is_mode asker.caller.regs.a)
     where
-      by : (read : Result PathList NameFault) (allowed : Bool) → reads_list read (tests_mode allowed) (λ list. goes_on_way asker files list (way_of asker files terms (is_for_execution asker.caller.regs.a) list)) ≡ next_step (next_step (reads_list read (refuses_by (mode_refusal allowed)) (λ list. locates_on asker files (is_for_execution asker.caller.regs.a) list (way_of asker files terms (is_for_execution asker.caller.regs.a) list))) (allows_to_go asker)) (goes_there asker files)
+      by : (read : Result PathList NameFault) (allowed : Bool) → reads_list read (tests_mode allowed)
+          (λ list. goes_on_way asker files list (way_of asker files terms (is_for_execution asker.caller.regs.a)
+          list)) ≡ next_step (next_step (reads_list read (refuses_by (mode_refusal allowed))
+          (λ list. locates_on asker files (is_for_execution asker.caller.regs.a) list
+          (way_of asker files terms (is_for_execution asker.caller.regs.a) list))) (allows_to_go asker))
+          (goes_there asker files)
       by (Ok list) true = with-way list (way_of asker files terms (is_for_execution asker.caller.regs.a) list)
       by (Ok list) false = refl
       by (Err Unreadable) true = refl
@@ -67,10 +76,14 @@ module _ (asker : Asker) (files : Files) where
       by (Err NoName) false = refl
 
 -- the mode of a call chooses its directory, and is its refusal or none
-pub looks-same : (asker : Asker) (files : Files) (terms : ℕ) (regs : Regs) (execute allowed : Bool) (refusal : Option ℕ) → regs ≡ asker.caller.regs → execute ≡ is_for_execution regs.a → allowed ≡ is_mode regs.a → refusal ≡ mode_refusal allowed → next_step (locates execute refusal asker files terms) (allows_to_go asker) ≡ looks_for_directory asker files terms
+pub looks-same : (asker : Asker) (files : Files) (terms : ℕ) (regs : Regs) (execute allowed : Bool)
+    (refusal : Option ℕ) → regs ≡ asker.caller.regs → execute ≡ is_for_execution regs.a → allowed ≡ is_mode regs.a
+    → refusal ≡ mode_refusal allowed → next_step (locates execute refusal asker files terms) (allows_to_go asker) ≡
+    looks_for_directory asker files terms
 looks-same asker files terms regs execute allowed refusal same execute_is allowed_is refusal_is =
     ap (λ (execute : Bool). next_step (locates execute refusal asker files terms) (allows_to_go asker)) (execute_is ∙ ap (λ (regs : Regs). is_for_execution regs.a) same)
-    ∙ ap (λ (refusal : Option ℕ). next_step (locates (is_for_execution asker.caller.regs.a) refusal asker files terms) (allows_to_go asker)) (refusal_is ∙ ap mode_refusal (allowed_is ∙ ap (λ (regs : Regs). is_mode regs.a) same))
+    ∙ ap (λ (refusal : Option ℕ). next_step (locates (is_for_execution asker.caller.regs.a) refusal asker files terms)
+    (allows_to_go asker)) (refusal_is ∙ ap mode_refusal (allowed_is ∙ ap (λ (regs : Regs). is_mode regs.a) same))
 
 -- and the calls of the walk are a part of its calls, beside one for what was found
 module _ (asker : Asker) (files : Files) (terms : ℕ) (execute : Bool) (same : execute ≡ is_for_execution asker.caller.regs.a) where
@@ -79,21 +92,38 @@ module _ (asker : Asker) (files : Files) (terms : ℕ) (execute : Bool) (same : 
       subst (λ (e : Bool). located_calls execute (λ v file. 0) asker files terms ≤ located_calls e (λ v file. 1) asker files terms) same
       (located-seen asker files terms execute (λ v file. 1))
 
-  pub chgdir-within : (refusal : Option ℕ) (it : FoundBy) → answer_of (locates execute refusal asker files terms) ≡ Ok it → located_calls execute (λ v file. 0) asker files terms + 1 ≤ i_chgdir_calls asker files terms
+  pub chgdir-within : (refusal : Option ℕ) (it : FoundBy) → answer_of (locates execute refusal asker files terms) ≡ Ok
+      it → located_calls execute (λ v file. 0) asker files terms + 1 ≤ i_chgdir_calls asker files terms
   chgdir-within refusal it is =
       subst (λ (e : Bool). located_calls execute (λ v file. 0) asker files terms + 1 ≤ located_calls e (λ v file. 1) asker files terms) same
       (located-within asker files terms execute (λ v file. 1) it refusal is)
 
 -- the call of a process is done, and its directory is another one
-pub gone-there : (mid final : FileState) (views : List DriveView) (was : Files) (p : ℕ) (regs : Regs) (io : Io) (execute searched : Bool) (place found : FilePlace) → io ≡ with_call mid.io p None → execute ≡ searched → found ≡ place → StandsFor mid views (with_drives was (drive_states views)) → ((views : List DriveView) (files : Files) → StandsFor (record { io = io; disks = mid.disks; directories = mid.directories }) views files → StandsFor final views (with_directories_of files p (with_directory (directories_at files p) execute place))) → StandsFor final views (files_after p (with_drives_after (leaves (answers regs) (with_directories_of was p (with_directory (directories_at was p) searched found))) (drive_states views)))
+pub gone-there : (mid final : FileState) (views : List DriveView) (was : Files) (p : ℕ) (regs : Regs) (io : Io)
+    (execute searched : Bool) (place found : FilePlace) → io ≡ with_call mid.io p None → execute ≡ searched
+    → found ≡ place → StandsFor mid views (with_drives was (drive_states views))
+    → ((views : List DriveView) (files : Files)
+    → StandsFor (record { io = io; disks = mid.disks; directories = mid.directories }) views files
+    → StandsFor final views (with_directories_of files p (with_directory (directories_at files p) execute place)))
+    → StandsFor final views (files_after p
+    (with_drives_after (leaves (answers regs) (with_directories_of was p (with_directory (directories_at was p)
+    searched found))) (drive_states views)))
 gone-there mid final views was p regs io execute searched place found io_is searches place_is stands goes =
-    subst (λ (place : FilePlace). StandsFor final views (files_after p (with_drives_after (leaves (answers regs) (with_directories_of was p (with_directory (directories_at was p) searched place))) (drive_states views)))) (sym place_is)
-    (subst (λ (execute : Bool). StandsFor final views (files_after p (with_drives_after (leaves (answers regs) (with_directories_of was p (with_directory (directories_at was p) execute place))) (drive_states views)))) searches
+    subst (λ (place : FilePlace). StandsFor final views
+    (files_after p (with_drives_after
+    (leaves (answers regs) (with_directories_of was p (with_directory (directories_at was p) searched place)))
+    (drive_states views)))) (sym place_is)
+    (subst (λ (execute : Bool). StandsFor final views
+    (files_after p (with_drives_after
+    (leaves (answers regs) (with_directories_of was p (with_directory (directories_at was p) execute place)))
+    (drive_states views)))) searches
     (goes views (with_io (with_drives was (drive_states views)) (with_call was.io p None))
     (stands-with_io mid views (with_drives was (drive_states views)) (with_call was.io p None) io (ap (λ (old : Io). with_call old p None) stands.io ∙ sym io_is) stands)))
 
 -- and its process has X past the list
-pub told-past : (processes : ProcState) (m : Inner) (p next end : ℕ) (regs : Regs) → regs ≡ regs_at m p → next ≡ end → Represents processes (with_regs_of m p (record regs { x = next % 65536 })) → Represents processes (with_regs_of m p (record (regs_at m p) { x = end % 65536 }))
+pub told-past : (processes : ProcState) (m : Inner) (p next end : ℕ) (regs : Regs) → regs ≡ regs_at m p → next ≡ end
+    → Represents processes (with_regs_of m p (record regs { x = next % 65536 })) → Represents processes
+    (with_regs_of m p (record (regs_at m p) { x = end % 65536 }))
 told-past processes m p next end regs same next_is tied =
     subst (λ (n : ℕ). Represents processes (with_regs_of m p (record (regs_at m p) { x = n % 65536 }))) next_is
     (subst (λ (regs : Regs). Represents processes (with_regs_of m p (record regs { x = next % 65536 }))) same tied)

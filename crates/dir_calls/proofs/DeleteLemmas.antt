@@ -18,16 +18,24 @@ use Rattle.dir_calls.specs.Delete.{deletes_it}
 use Rattle.dir_calls.specs.Naming.{named_by, names_last, names_on}
 
 module _ (asker : Asker) (files : Files) (execute : Bool) where
-  with-way : (list : PathList) (way : Way) (last : Option (List ℕ)) → deletes_named asker files execute list way last ≡ next_step (names_on Existing asker files execute list way last) (deletes_it asker files execute)
+  with-way : (list : PathList) (way : Way) (last : Option (List ℕ)) → deletes_named asker files execute list way last
+      ≡ next_step (names_on Existing asker files execute list way last) (deletes_it asker files execute)
   with-way list (along from names) None = walks-on asker files execute (λ root. refused E_FNA) (λ root. refused E_FNA) (deletes_it asker files execute) (λ found. refl) from names
-  with-way list (along from names) (Some name) = walks-on asker files execute (deletes_in asker files execute list name) (λ directory. comes (named_by list name directory)) (deletes_it asker files execute) (λ found. refl) from (before_last names)
+  with-way list (along from names) (Some name) = walks-on asker files execute (deletes_in asker files execute list
+      name) (λ directory. comes (named_by list name directory)) (deletes_it asker files execute) (λ found. refl) from
+      (before_last names)
   with-way list to_device last = refl
   with-way list (nowhere number) last = refl
 
-  pub deletes-parts : (terms : ℕ) (refusal : Option ℕ) → deletes_by asker files terms execute (refuses_by refusal) ≡ next_step (names_last Existing execute refusal asker files terms) (deletes_it asker files execute)
+  pub deletes-parts : (terms : ℕ) (refusal : Option ℕ) → deletes_by asker files terms execute (refuses_by refusal) ≡
+      next_step (names_last Existing execute refusal asker files terms) (deletes_it asker files execute)
   deletes-parts terms refusal = by (list_of asker) refusal
     where
-      by : (read : Result PathList NameFault) (refusal : Option ℕ) → reads_list read (refuses_by refusal) (λ list. deletes_named asker files execute list (way_of asker files terms execute list) (last_of list.names)) ≡ next_step (reads_list read (refuses_by refusal) (λ list. names_on Existing asker files execute list (way_of asker files terms execute list) (last_of list.names))) (deletes_it asker files execute)
+      by : (read : Result PathList NameFault) (refusal : Option ℕ) → reads_list read (refuses_by refusal)
+          (λ list. deletes_named asker files execute list (way_of asker files terms execute list)
+          (last_of list.names)) ≡ next_step (reads_list read (refuses_by refusal) (λ list. names_on Existing asker
+          files execute list (way_of asker files terms execute list) (last_of list.names)))
+          (deletes_it asker files execute)
       by (Ok list) None = with-way list (way_of asker files terms execute list) (last_of list.names)
       by (Ok list) (Some number) = refl
       by (Err Unreadable) refusal = refl
@@ -35,13 +43,18 @@ module _ (asker : Asker) (files : Files) (execute : Bool) where
       by (Err NoName) (Some number) = refl
 
 -- the test of a mode is a refusal, or none
-pub tests-refusal : (asker : Asker) (files : Files) (terms : ℕ) (execute allowed : Bool) → deletes_by asker files terms execute (refuses_by (mode_refusal allowed)) ≡ deletes_by asker files terms execute (tests_mode allowed)
+pub tests-refusal : (asker : Asker) (files : Files) (terms : ℕ) (execute allowed : Bool) → deletes_by asker files
+    terms execute (refuses_by (mode_refusal allowed)) ≡ deletes_by asker files terms execute (tests_mode allowed)
 tests-refusal asker files terms execute true = refl
 tests-refusal asker files terms execute false = refl
 
 -- the mode of a call chooses its directory, and is its refusal or none
-pub deletx-parts : (asker : Asker) (files : Files) (terms : ℕ) (regs : Regs) (execute allowed : Bool) (refusal : Option ℕ) → regs ≡ asker.caller.regs → execute ≡ is_for_execution regs.a → allowed ≡ is_mode regs.a → refusal ≡ mode_refusal allowed → deletes_by asker files terms execute (refuses_by refusal) ≡ i_deletx asker files terms
+pub deletx-parts : (asker : Asker) (files : Files) (terms : ℕ) (regs : Regs) (execute allowed : Bool)
+    (refusal : Option ℕ) → regs ≡ asker.caller.regs → execute ≡ is_for_execution regs.a → allowed ≡ is_mode regs.a
+    → refusal ≡ mode_refusal allowed → deletes_by asker files terms execute (refuses_by refusal) ≡ i_deletx asker
+    files terms
 deletx-parts asker files terms regs execute allowed refusal same execute_is allowed_is refusal_is =
     ap (λ (execute : Bool). deletes_by asker files terms execute (refuses_by refusal)) (execute_is ∙ ap (λ (regs : Regs). is_for_execution regs.a) same)
-    ∙ ap (λ (refusal : Option ℕ). deletes_by asker files terms (is_for_execution asker.caller.regs.a) (refuses_by refusal)) (refusal_is ∙ ap mode_refusal (allowed_is ∙ ap (λ (regs : Regs). is_mode regs.a) same))
+    ∙ ap (λ (refusal : Option ℕ). deletes_by asker files terms (is_for_execution asker.caller.regs.a)
+    (refuses_by refusal)) (refusal_is ∙ ap mode_refusal (allowed_is ∙ ap (λ (regs : Regs). is_mode regs.a) same))
     ∙ tests-refusal asker files terms (is_for_execution asker.caller.regs.a) (is_mode asker.caller.regs.a)

@@ -137,7 +137,10 @@ module _ (asker : Asker) (files : Files) (execute : Bool) (it : NamedBy) where
 
 -- ---- by what was answered
 
-module _ (user : ℕ) (execute : Bool) (last : LastLocated) (look : Step NamedBy) (seen : ℕ) (asker : Asker) (files : Files) (old new : FileState) (before between now : List DriveView) (who : asker.user ≡ user) (loc : HasFound (IsNamed Existing look files) look seen last files old before between) (called : CalledAtMost (deletes_it_calls seen asker execute loc.it) before now) where
+module _ (user : ℕ) (execute : Bool) (last : LastLocated) (look : Step NamedBy) (seen : ℕ) (asker : Asker)
+    (files : Files) (old new : FileState) (before between now : List DriveView) (who : asker.user ≡ user)
+    (loc : HasFound (IsNamed Existing look files) look seen last files old before between)
+    (called : CalledAtMost (deletes_it_calls seen asker execute loc.it) before now) where
   abbrev it : NamedBy
   it = loc.it
 
@@ -168,7 +171,9 @@ module _ (user : ℕ) (execute : Bool) (last : LastLocated) (look : Step NamedBy
   abbrev most : ℕ
   most = deletes_it_calls seen asker execute it
 
-  refused-by : (number : ℕ) → HasRead None last.directory.drive files new before now → deed_of (deletes_it asker files execute it) files ≡ leaves_so (refuses_so number files) → Tries step most asker files (Err number) new before now
+  refused-by : (number : ℕ) → HasRead None last.directory.drive files new before now
+      → deed_of (deletes_it asker files execute it) files ≡ leaves_so (refuses_so number files)
+      → Tries step most asker files (Err number) new before now
   refused-by number read deed = tries-refused look (deletes_it asker files execute) most asker files it loc.answer new before now called last.directory.drive at number read deed
 
   -- the name is looked for
@@ -177,7 +182,9 @@ module _ (user : ℕ) (execute : Bool) (last : LastLocated) (look : Step NamedBy
       subst (λ (user : ℕ). AnswersWalk (deletion_end v.files dir it.name user execute) result) (sym who)
       (subst (λ (name : List ℕ). AnswersWalk (deletion_end v.files dir name user execute) result) (sym loc.is.name_is) fact)
 
-  pub no-entry : (error : DirError) → AnswersWalk (deletion_end v.files dir it.name asker.user execute) (Err error) → HasRead (directory_fault {A = Deletable} (Err error)) last.directory.drive files new before now → Tries step most asker files (Err (directory_error error)) new before now
+  pub no-entry : (error : DirError) → AnswersWalk (deletion_end v.files dir it.name asker.user execute) (Err error)
+      → HasRead (directory_fault {A = Deletable} (Err error)) last.directory.drive files new before now
+      → Tries step most asker files (Err (directory_error error)) new before now
   no-entry NotAllowed fact read =
       refused-by E_FNA read (forbidden-deed (is_wanted asker files execute it) (deleted asker files execute it) files may named (by-end asker files execute it not_allowed fact))
   no-entry BadPath fact read = absurd fact
@@ -190,7 +197,8 @@ module _ (user : ℕ) (execute : Bool) (last : LastLocated) (look : Step NamedBy
   no-entry (File TooManyRuns) fact read = absurd fact
 
   -- the file that the entry names
-  module _ (n : ℕ) (ends : deletion_end v.files dir it.name asker.user execute ≡ arrives n) (shared : Bool) (shared_is : shared ≡ is_open files (record { drive = last.directory.drive; number = n })) where
+  module _ (n : ℕ) (ends : deletion_end v.files dir it.name asker.user execute ≡ arrives n) (shared : Bool)
+      (shared_is : shared ≡ is_open files (record { drive = last.directory.drive; number = n })) where
     pub names-it : named ≡ Some n
     names-it = found-named (is_wanted asker files execute it) (deleted asker files execute it) files may named n (by-end asker files execute it (arrives n) ends)
 
@@ -225,13 +233,17 @@ module _ (user : ℕ) (execute : Bool) (last : LastLocated) (look : Step NamedBy
 
       pub is-deleted : HasChanged asked (Ok 0) last.directory.drive v dir files new before now → Tries step most asker files (Ok last.next) new before now
       is-deleted changed =
-          tries-changed look (deletes_it asker files execute) most asker files it loc.answer new before now called change v dir loc.is.reached loc.is.there.volume_is loc.is.there.file_is changing 0 last.next
+          tries-changed look (deletes_it asker files execute) most asker files it loc.answer new before now called
+          change v dir loc.is.reached loc.is.there.volume_is loc.is.there.file_is changing 0 last.next
           (ap (λ (next : ℕ). leaves (answers (record asker.caller.regs { x = next % 65536 })) files) (sym loc.is.next_is))
           (as-asked (Ok 0) changed)
 
-      pub not-deleted : (fault : FileFault) → HasChanged asked (file_answer (Err fault)) last.directory.drive v dir files new before now → Tries step most asker files (Err (file_error fault)) new before now
+      pub not-deleted : (fault : FileFault) → HasChanged asked (file_answer (Err fault)) last.directory.drive v dir
+          files new before now → Tries step most asker files (Err (file_error fault)) new before now
       not-deleted (Device number) changed =
-          tries-broken-change look (deletes_it asker files execute) most asker files it loc.answer new before now called change v dir loc.is.reached loc.is.there.volume_is loc.is.there.file_is changing number loc.drives_are
+          tries-broken-change look (deletes_it asker files execute) most asker files it loc.answer new before now
+          called change v dir loc.is.reached loc.is.there.volume_is loc.is.there.file_is changing number
+          loc.drives_are
           (as-asked (Err (File (Device number))) changed)
       not-deleted NoCluster changed = absurd (never-below (free_total v) changed.answers.few)
         where
@@ -244,7 +256,13 @@ module _ (user : ℕ) (execute : Bool) (last : LastLocated) (look : Step NamedBy
 
 -- ---- as the calls of the drive answered
 
-module _ (user : ℕ) (execute : Bool) (last : LastLocated) (look : Step NamedBy) (seen : ℕ) (asker : Asker) (files : Files) (old mid : FileState) (before between views : List DriveView) (who : asker.user ≡ user) (loc : HasFound (IsNamed Existing look files) look seen last files old before between) (found : Result Deletable DirError) (io : mid.io ≡ old.io) (directories : mid.directories ≡ old.directories) (answer : OnDisks old.disks between last.directory (λ v file. AnswersWalk (deletion_end v.files file last.name user execute) (descriptor_found found))) (reads : ReadsFile last.directory (directory_fault found) (λ v file. deletion_calls file last.name user execute) old.disks between mid.disks views) where
+module _ (user : ℕ) (execute : Bool) (last : LastLocated) (look : Step NamedBy) (seen : ℕ) (asker : Asker)
+    (files : Files) (old mid : FileState) (before between views : List DriveView) (who : asker.user ≡ user)
+    (loc : HasFound (IsNamed Existing look files) look seen last files old before between)
+    (found : Result Deletable DirError) (io : mid.io ≡ old.io) (directories : mid.directories ≡ old.directories)
+    (answer : OnDisks old.disks between last.directory (λ v file. AnswersWalk (deletion_end v.files file last.name
+    user execute) (descriptor_found found))) (reads : ReadsFile last.directory (directory_fault found)
+    (λ v file. deletion_calls file last.name user execute) old.disks between mid.disks views) where
   abbrev way : FileStep
   way = next_step look (deletes_it asker files execute)
 
@@ -278,31 +296,40 @@ module _ (user : ℕ) (execute : Bool) (last : LastLocated) (look : Step NamedBy
   entry-calls =
       called-then seen (deletion_calls folder last.name user execute) before between views
       (found-calls (IsNamed Existing look files) look seen files last old before between loc)
-      (again.read-calls files last.directory volume folder volume-there file-there old mid before between views searched (directory_fault found) (λ v file. deletion_calls file last.name user execute) reads)
+      (again.read-calls files last.directory volume folder volume-there file-there old mid before between views
+      searched (directory_fault found) (λ v file. deletion_calls file last.name user execute) reads)
 
   called : CalledAtMost bound before views
   called = called-more (seen + deletion_calls folder last.name user execute) bound before views (omega (arith, same-calls)) entry-calls
 
   fact : AnswersWalk (deletion_end volume.files folder last.name user execute) (descriptor_found found)
-  fact = again.of-found files last.directory volume folder volume-there file-there old mid before between views searched (λ v file. AnswersWalk (deletion_end v.files file last.name user execute) (descriptor_found found)) answer
+  fact = again.of-found files last.directory volume folder volume-there file-there old mid before between views
+      searched (λ v file. AnswersWalk (deletion_end v.files file last.name user execute) (descriptor_found found))
+      answer
 
   was-read : HasRead (directory_fault found) last.directory.drive files mid before views
-  was-read = again.read-again files last.directory volume folder volume-there file-there old mid before between views searched (directory_fault found) (λ v file. deletion_calls file last.name user execute) io directories reads
+  was-read = again.read-again files last.directory volume folder volume-there file-there old mid before between views
+      searched (directory_fault found) (λ v file. deletion_calls file last.name user execute) io directories reads
 
   -- no entry was found
   pub entry-refused : (error : DirError) (number : ℕ) → found ≡ Err error → number ≡ directory_error error → Tries way bound asker files (Err number) mid before views
   entry-refused error number is number_is =
       subst (λ (n : ℕ). Tries way bound asker files (Err n) mid before views) (sym number_is)
       (no-entry user execute last look seen asker files old mid before between views who loc called error
-      (entry-answers user execute last look seen asker files old mid before between views who loc called (Err error) (subst (λ (r : Result Deletable DirError). AnswersWalk (deletion_end volume.files folder last.name user execute) (descriptor_found r)) is fact))
+      (entry-answers user execute last look seen asker files old mid before between views who loc called (Err error)
+      (subst (λ (r : Result Deletable DirError). AnswersWalk (deletion_end volume.files folder last.name user
+      execute) (descriptor_found r)) is fact))
       (subst (λ (r : Result Deletable DirError). HasRead (directory_fault r) last.directory.drive files mid before views) is was-read))
 
-  module _ (entry : Deletable) (is : found ≡ Ok entry) (shared : Bool) (shared_so : (f : Files) → StandsFor mid views f → shared ≡ is_open f (record { drive = last.directory.drive; number = entry.descriptor })) where
+  module _ (entry : Deletable) (is : found ≡ Ok entry) (shared : Bool) (shared_so : (f : Files) → StandsFor mid views
+      f → shared ≡ is_open f (record { drive = last.directory.drive; number = entry.descriptor })) where
     shared_is : shared ≡ is_open files (record { drive = last.directory.drive; number = entry.descriptor })
     shared_is = shared_so (with_drives files (drive_states views)) was-read.stands
 
     ends : deletion_end volume.files folder loc.it.name asker.user execute ≡ arrives entry.descriptor
-    ends = entry-answers user execute last look seen asker files old mid before between views who loc called (Ok entry.descriptor) (subst (λ (r : Result Deletable DirError). AnswersWalk (deletion_end volume.files folder last.name user execute) (descriptor_found r)) is fact)
+    ends = entry-answers user execute last look seen asker files old mid before between views who loc called
+        (Ok entry.descriptor) (subst (λ (r : Result Deletable DirError). AnswersWalk (deletion_end volume.files folder
+        last.name user execute) (descriptor_found r)) is fact)
 
     read : HasRead None last.directory.drive files mid before views
     read = subst (λ (r : Result Deletable DirError). HasRead (directory_fault r) last.directory.drive files mid before views) is was-read
@@ -310,7 +337,11 @@ module _ (user : ℕ) (execute : Bool) (last : LastLocated) (look : Step NamedBy
     pub file-shared : shared ≡ true → Tries way bound asker files (Err E_SHARE) mid before views
     file-shared taken = is-shared user execute last look seen asker files old mid before between views who loc called entry.descriptor ends shared shared_is taken read
 
-    module _ (quiet : shared ≡ false) (new : FileState) (now : List DriveView) (new_io : new.io ≡ mid.io) (new_directories : new.directories ≡ mid.directories) (result : Result (Unit {0}) FileFault) (at : IsDeletableOn views last.directory last.name entry) (deletes_so : (asked : Asked) → IsDeletionOn last.directory entry asked views → ChangesVolume last.directory asked (file_answer result) (drives.deleting_calls entry.descriptor) mid.disks views new.disks now) where
+    module _ (quiet : shared ≡ false) (new : FileState) (now : List DriveView) (new_io : new.io ≡ mid.io)
+        (new_directories : new.directories ≡ mid.directories) (result : Result (Unit {0}) FileFault)
+        (at : IsDeletableOn views last.directory last.name entry) (deletes_so : (asked : Asked)
+        → IsDeletionOn last.directory entry asked views → ChangesVolume last.directory asked (file_answer result)
+        (drives.deleting_calls entry.descriptor) mid.disks views new.disks now) where
       abbrev wanted : Asked
       wanted = asked user execute last look seen asker files old mid before between views who loc called entry.descriptor ends shared shared_is quiet
 
@@ -323,7 +354,9 @@ module _ (user : ℕ) (execute : Bool) (last : LastLocated) (look : Step NamedBy
           })
 
       changed : HasChanged wanted (file_answer result) last.directory.drive volume folder files new before now
-      changed = again.changed-again files last.directory volume folder volume-there file-there mid new before views now read wanted (file_answer result) (drives.deleting_calls entry.descriptor) new_io new_directories deleting-it
+      changed = again.changed-again files last.directory volume folder volume-there file-there mid new before views
+          now read wanted (file_answer result) (drives.deleting_calls entry.descriptor) new_io new_directories
+          deleting-it
 
       -- the calls for the deletion besides
       abbrev freeing : ℕ
@@ -338,7 +371,9 @@ module _ (user : ℕ) (execute : Bool) (last : LastLocated) (look : Step NamedBy
       all-called =
           called-more (seen + deletion_calls folder last.name user execute + freeing) bound before now (omega (arith, same-calls, freeing-is))
           (called-then (seen + deletion_calls folder last.name user execute) freeing before views now entry-calls
-          (again.change-calls files last.directory volume folder volume-there file-there mid new before views now read wanted (file_answer result) (drives.deleting_calls entry.descriptor) freeing (λ left. omega arith) deleting-it))
+          (again.change-calls files last.directory volume folder volume-there file-there mid new before views now read
+          wanted (file_answer result) (drives.deleting_calls entry.descriptor) freeing (λ left. omega arith)
+          deleting-it))
 
       pub file-deleted : result ≡ Ok tt → Tries way bound asker files (Ok last.next) new before now
       file-deleted done =

@@ -26,11 +26,17 @@ use Rattle.dir_calls.proofs.CallLemmas.{calls-next}
 use Rattle.dir_calls.proofs.LookLemmas.{deed-on, reaches-next}
 use Rattle.dir_calls.specs.Looks.{HasFound}
 
-module _ {A R : Type 0} (fact : A → R → Type 0) (look : Step A) (next : A → FileStep) (most : ℕ) (m : Inner) (was : Files) (now : TimePacket) (p : ℕ) (terms : List TerminalState) (thing : R) (mid : FileState) (before views : List DriveView) (loc : HasFound fact look most thing was mid before views) where
+module _ {A R : Type 0} (fact : A → R → Type 0) (look : Step A) (next : A → FileStep) (most : ℕ) (m : Inner)
+    (was : Files) (now : TimePacket) (p : ℕ) (terms : List TerminalState) (thing : R) (mid : FileState)
+    (before views : List DriveView) (loc : HasFound fact look most thing was mid before views) where
   abbrev whole : FileStep
   whole = next_step look next
 
-  pub ends-found : (step : FileStep) (regs : Regs) (files : Files) (final : FileState) (end : CallEnd) (processes : ProcState) → step ≡ whole → next loc.it ≡ done regs files → StandsFor final views (files_after p (with_drives_after (leaves (answers regs) files) (drive_states views))) → end ≡ Done → Represents processes (with_regs_of m p regs) → Ends step most m was now p end processes final before views terms
+  pub ends-found : (step : FileStep) (regs : Regs) (files : Files) (final : FileState) (end : CallEnd)
+      (processes : ProcState) → step ≡ whole → next loc.it ≡ done regs files → StandsFor final views
+      (files_after p (with_drives_after (leaves (answers regs) files) (drive_states views))) → end ≡ Done
+      → Represents processes (with_regs_of m p regs) → Ends step most m was now p end processes final before views
+      terms
   ends-found step regs files final end processes parts goes stands end_is tied =
       let deed : deed_of whole was ≡ leaves_so (leaves (answers regs) files) =
       deed-on look next was loc.it loc.answer ∙ ap (λ (step : FileStep). deed_of step was) goes in

@@ -27,10 +27,13 @@ use Rattle.dir_calls.specs.Looks.{AnswersBy, HasFound, Looks, answer_of}
 use Rattle.dir_calls.specs.declared.locating.Located.{Located}
 
 -- what was not located
-pub unfound : (look : Step FoundBy) (next : FoundBy → Step FoundBy) (few most number : ℕ) (files : Files) (new : FileState) (before now : List DriveView) → few ≤ most → Locates look few (Err number) files new before now → Locates (next_step look next) most (Err number) files new before now
+pub unfound : (look : Step FoundBy) (next : FoundBy → Step FoundBy) (few most number : ℕ) (files : Files)
+    (new : FileState) (before now : List DriveView) → few ≤ most → Locates look few (Err number) files new before now
+    → Locates (next_step look next) most (Err number) files new before now
 unfound look next few most number files new before now more it = by it.answer it.is it.looks
   where
-    by : (answer : Result FoundBy ℕ) → AnswersBy (IsLocated look files) answer (Err number) → Looks look answer files new before now → Locates (next_step look next) most (Err number) files new before now
+    by : (answer : Result FoundBy ℕ) → AnswersBy (IsLocated look files) answer (Err number) → Looks look answer files
+        new before now → Locates (next_step look next) most (Err number) files new before now
     by (Ok it) is looks = absurd is
     by (Err other) is looks = record {
       answer = Err other;
@@ -61,7 +64,9 @@ unfound look next few most number files new before now more it = by it.answer it
 
 -- ---- its descriptor was read
 
-module _ (look : Step FoundBy) (seen : ℕ) (files : Files) (located : Located) (mid new : FileState) (before views now : List DriveView) (loc : HasFound (IsLocated look files) look seen located files mid before views) (io : new.io ≡ mid.io) (directories : new.directories ≡ mid.directories) where
+module _ (look : Step FoundBy) (seen : ℕ) (files : Files) (located : Located) (mid new : FileState)
+    (before views now : List DriveView) (loc : HasFound (IsLocated look files) look seen located files mid before
+    views) (io : new.io ≡ mid.io) (directories : new.directories ≡ mid.directories) where
   volume-is : volume_at files located.place.drive ≡ Some loc.it.found.volume
   volume-is = ap (λ (at : FilePlace). volume_at files at.drive) (sym loc.is.place_is) ∙ loc.is.there.volume_is
 
@@ -114,7 +119,8 @@ module _ (look : Step FoundBy) (seen : ℕ) (files : Files) (located : Located) 
     }
 
     -- or is not
-    pub not-wanted : (number : ℕ) → ReadsFile located.place None (λ v file. 1) mid.disks views new.disks now → next loc.it ≡ refused number → Locates (next_step look next) most (Err number) files new before now
+    pub not-wanted : (number : ℕ) → ReadsFile located.place None (λ v file. 1) mid.disks views new.disks now
+        → next loc.it ≡ refused number → Locates (next_step look next) most (Err number) files new before now
     not-wanted number reads goes = record {
       answer = Err number;
       is = refl;
@@ -129,7 +135,9 @@ module _ (look : Step FoundBy) (seen : ℕ) (files : Files) (located : Located) 
     }
 
     -- or the drive failed
-    pub read-failed : (A : Type 0) (fault : FileFault) → IsSome (file_fault {A = A} (Err fault)) → ReadsFile located.place (file_fault {A = A} (Err fault)) (λ v file. 1) mid.disks views new.disks now → Locates (next_step look next) most (Err (file_error fault)) files new before now
+    pub read-failed : (A : Type 0) (fault : FileFault) → IsSome (file_fault {A = A} (Err fault))
+        → ReadsFile located.place (file_fault {A = A} (Err fault)) (λ v file. 1) mid.disks views new.disks now
+        → Locates (next_step look next) most (Err (file_error fault)) files new before now
     read-failed A (Device number) some reads = record {
       answer = Err number;
       is = refl;
@@ -149,33 +157,48 @@ module _ (look : Step FoundBy) (seen : ℕ) (files : Files) (located : Located) 
     read-failed A TooManyRuns some reads = absurd (false≢true some)
 
 -- what was read is of the file that was found
-pub of-found : (look : Step FoundBy) (seen : ℕ) (files : Files) (located : Located) (mid : FileState) (before views : List DriveView) (loc : HasFound (IsLocated look files) look seen located files mid before views) (fact : DiskVolume → DiskFile → Type 0) → OnDisks mid.disks views located.place fact → fact loc.it.found.volume loc.it.found.file
+pub of-found : (look : Step FoundBy) (seen : ℕ) (files : Files) (located : Located) (mid : FileState)
+    (before views : List DriveView) (loc : HasFound (IsLocated look files) look seen located files mid before views)
+    (fact : DiskVolume → DiskFile → Type 0) → OnDisks mid.disks views located.place fact → fact loc.it.found.volume
+    loc.it.found.file
 of-found look seen files located mid before views loc = of-this look seen files located mid mid before views views loc refl refl
 
 -- what the test of a directory says of it
-module _ (look : Step FoundBy) (seen : ℕ) (files : Files) (located : Located) (mid new : FileState) (before views now : List DriveView) (loc : HasFound (IsLocated look files) look seen located files mid before views) (io : new.io ≡ mid.io) (directories : new.directories ≡ mid.directories) (asker : Asker) (most : ℕ) (enough : seen + 1 ≤ most) (reads : ReadsFile located.place None (λ v file. 1) mid.disks views new.disks now) where
-  by-test : (allowed : Bool) → may_go_to loc.it.found.file asker.user asker.caller.regs.a ≡ allowed → Locates (next_step look (allows_to_go asker)) most (if allowed then Ok located else Err E_FNA) files new before now
-  by-test true is =
-      still-located look seen files located mid new before views now loc io directories (allows_to_go asker) most enough reads
-      (ap (λ (b : Bool). refuses (not b) E_FNA (comes loc.it)) is)
-  by-test false is =
-      not-wanted look seen files located mid new before views now loc io directories (allows_to_go asker) most enough E_FNA reads
-      (ap (λ (b : Bool). refuses (not b) E_FNA (comes loc.it)) is)
+module _ (look : Step FoundBy) (seen : ℕ) (files : Files) (located : Located) (mid new : FileState)
+    (before views now : List DriveView) (loc : HasFound (IsLocated look files) look seen located files mid before
+    views) (io : new.io ≡ mid.io) (directories : new.directories ≡ mid.directories) (asker : Asker) (most : ℕ)
+    (enough : seen + 1 ≤ most) (reads : ReadsFile located.place None (λ v file. 1) mid.disks views new.disks now)
+  where
+    by-test : (allowed : Bool) → may_go_to loc.it.found.file asker.user asker.caller.regs.a ≡ allowed
+        → Locates (next_step look (allows_to_go asker)) most (if allowed then Ok located else Err E_FNA) files new
+        before now
+    by-test true is =
+        still-located look seen files located mid new before views now loc io directories (allows_to_go asker) most enough reads
+        (ap (λ (b : Bool). refuses (not b) E_FNA (comes loc.it)) is)
+    by-test false is =
+        not-wanted look seen files located mid new before views now loc io directories (allows_to_go asker) most enough E_FNA reads
+        (ap (λ (b : Bool). refuses (not b) E_FNA (comes loc.it)) is)
 
-  pub tested : (user mode : ℕ) (result : Result Located ℕ) → asker.user ≡ user → asker.caller.regs.a ≡ mode → result ≡ (if may_go_to loc.it.found.file user mode then Ok located else Err E_FNA) → Locates (next_step look (allows_to_go asker)) most result files new before now
-  tested user mode result user_is mode_is is =
-      subst (λ (r : Result Located ℕ). Locates (next_step look (allows_to_go asker)) most r files new before now)
-      (ap (λ (n : ℕ). let r : Result Located ℕ = if may_go_to loc.it.found.file n asker.caller.regs.a then Ok located else Err E_FNA in r) user_is
-      ∙ ap (λ (n : ℕ). let r : Result Located ℕ = if may_go_to loc.it.found.file user n then Ok located else Err E_FNA in r) mode_is
-      ∙ sym is)
-      (by-test (may_go_to loc.it.found.file asker.user asker.caller.regs.a) refl)
+    pub tested : (user mode : ℕ) (result : Result Located ℕ) → asker.user ≡ user → asker.caller.regs.a ≡ mode
+        → result ≡ (if may_go_to loc.it.found.file user mode then Ok located else Err E_FNA)
+        → Locates (next_step look (allows_to_go asker)) most result files new before now
+    tested user mode result user_is mode_is is =
+        subst (λ (r : Result Located ℕ). Locates (next_step look (allows_to_go asker)) most r files new before now)
+        (ap (λ (n : ℕ). let r : Result Located ℕ = if may_go_to loc.it.found.file n asker.caller.regs.a then Ok located else Err E_FNA in r) user_is
+        ∙ ap (λ (n : ℕ). let r : Result Located ℕ = if may_go_to loc.it.found.file user n then Ok located else Err E_FNA in r) mode_is
+        ∙ sym is)
+        (by-test (may_go_to loc.it.found.file asker.user asker.caller.regs.a) refl)
 
 -- one step, said in two ways
-pub locates-same : (one two : Step FoundBy) (few most : ℕ) (result : Result Located ℕ) (files : Files) (new : FileState) (before now : List DriveView) → one ≡ two → few ≡ most → Locates one few result files new before now → Locates two most result files new before now
+pub locates-same : (one two : Step FoundBy) (few most : ℕ) (result : Result Located ℕ) (files : Files)
+    (new : FileState) (before now : List DriveView) → one ≡ two → few ≡ most → Locates one few result files new before
+    now → Locates two most result files new before now
 locates-same one two few most result files new before now same as_often it =
     subst (λ (step : Step FoundBy). Locates step most result files new before now) same
     (subst (λ (n : ℕ). Locates one n result files new before now) as_often it)
 
 -- and one number
-pub refuses-same : (step : Step FoundBy) (most one two : ℕ) (files : Files) (new : FileState) (before now : List DriveView) → two ≡ one → Locates step most (Err one) files new before now → Locates step most (Err two) files new before now
+pub refuses-same : (step : Step FoundBy) (most one two : ℕ) (files : Files) (new : FileState)
+    (before now : List DriveView) → two ≡ one → Locates step most (Err one) files new before now → Locates step most
+    (Err two) files new before now
 refuses-same step most one two files new before now same it = subst (λ (n : ℕ). Locates step most (Err n) files new before now) (sym same) it

@@ -41,7 +41,8 @@ way-in (comes led) = led.way
 way-in (reaches drive step) = way-in step
 
 -- the way that was found is that of the list
-pub way-is : (asker : Asker) (refusal : Option ℕ) (way : PathList → Way) (list : PathList) (to : Way) → list_of asker ≡ Ok list → leads asker refusal way ≡ comes (record { list = list; way = to }) → way list ≡ to
+pub way-is : (asker : Asker) (refusal : Option ℕ) (way : PathList → Way) (list : PathList) (to : Way)
+    → list_of asker ≡ Ok list → leads asker refusal way ≡ comes (record { list = list; way = to }) → way list ≡ to
 way-is asker refusal way list to read is = by refusal (way list) (ap (λ (read : Result PathList NameFault). reads_list read (refuses_by refusal) (λ list. led_by list (way list))) (sym read) ∙ is)
   where
     by : (refusal : Option ℕ) (led : Way) → refuses_by refusal (led_by list led) ≡ comes (record { list = list; way = to }) → led ≡ to
@@ -55,7 +56,9 @@ module _ (asker : Asker) (files : Files) (terms : ℕ) (execute : Bool) (refusal
   by-leads = leads-on asker refusal (way_of asker files terms execute) (locates_on asker files execute) (λ list number. refl)
 
   -- along the way that was found
-  pub locates-way : (list : PathList) (way : Way) → leads asker refusal (way_of asker files terms execute) ≡ comes (record { list = list; way = way }) → locates execute refusal asker files terms ≡ locates_on asker files execute list way
+  pub locates-way : (list : PathList) (way : Way) → leads asker refusal (way_of asker files terms execute) ≡ comes
+      (record { list = list; way = way }) → locates execute refusal asker files terms ≡ locates_on asker files execute
+      list way
   locates-way list way is = by-leads ∙ ap (λ (step : Step Led). next_step step (λ led. locates_on asker files execute led.list led.way)) is
 
   -- or it is refused
@@ -64,13 +67,21 @@ module _ (asker : Asker) (files : Files) (terms : ℕ) (execute : Bool) (refusal
 
 -- ---- the walk
 
-module _ (asker : Asker) (walker : Walker) (files : Files) (list : PathList) (from : FilePlace) (state new : FileState) (views now : List DriveView) (user : asker.user ≡ walker.user) (stands : StandsFor state views files) (has : HasFileAt state.disks views from) (io : new.io ≡ state.io) (directories : new.directories ≡ state.directories) (most : ℕ) (enough : (v : DiskVolume) → volume_at files from.drive ≡ Some v → walk_calls v.files walker.user walker.execute from.number list.names ≤ most) where
+module _ (asker : Asker) (walker : Walker) (files : Files) (list : PathList) (from : FilePlace)
+    (state new : FileState) (views now : List DriveView) (user : asker.user ≡ walker.user)
+    (stands : StandsFor state views files) (has : HasFileAt state.disks views from) (io : new.io ≡ state.io)
+    (directories : new.directories ≡ state.directories) (most : ℕ) (enough : (v : DiskVolume)
+    → volume_at files from.drive ≡ Some v → walk_calls v.files walker.user walker.execute from.number list.names ≤
+    most) where
   abbrev step : Step FoundBy
   step = walks asker files walker.execute from list.names (λ found. comes (found_by list found))
 
-  pub walk-located : (arrived : Result FilePlace DirError) (next : ℕ) → next ≡ list.next → Walks walker from list.names arrived state.disks views new.disks now → Locates step most (located_by arrived next) files new views now
+  pub walk-located : (arrived : Result FilePlace DirError) (next : ℕ) → next ≡ list.next → Walks walker from
+      list.names arrived state.disks views new.disks now → Locates step most (located_by arrived next) files new views
+      now
   walk-located (Ok place) next next_is it =
-      walk-found (IsLocated step files) (found_by list) asker walker files from list.names state new views now user stands has io directories most enough place (record { place = place; next = next }) it
+      walk-found (IsLocated step files) (found_by list) asker walker files from list.names state new views now user
+      stands has io directories most enough place (record { place = place; next = next }) it
       (λ found. record {
         place_is = found.place_is;
         next_is = next_is;
@@ -89,13 +100,15 @@ as-many state views files stands = ap (λ (drives : List DriveState). length dri
 -- ---- by the route
 
 -- a file is there where a way along names starts, and it has some names or none
-pub starts-along : (disks : List (Option Volume)) (views : List DriveView) (way : Taken) (from : FilePlace) (first : Option ℕ) → way ≡ Along from first → StartsOn disks views way → HasFileAt disks views from
+pub starts-along : (disks : List (Option Volume)) (views : List DriveView) (way : Taken) (from : FilePlace)
+    (first : Option ℕ) → way ≡ Along from first → StartsOn disks views way → HasFileAt disks views from
 starts-along disks views way from first is starts = subst (λ (way : Taken). StartsOn disks views way) is starts
 
 pub has-along : (cells : Cells) (way : Taken) (from : FilePlace) (first : Option ℕ) → way ≡ Along from first → HasNames cells way → SomeFrom cells first
 has-along cells way from first is has = subst (λ (way : Taken). HasNames cells way) is has
 
-module _ (asker : Asker) (files : Files) (terms : ℕ) (execute : Bool) (refusal : Option ℕ) (cells : Cells) (route : Route) (it : IsRoute cells asker (leads asker refusal (way_of asker files terms execute)) route) where
+module _ (asker : Asker) (files : Files) (terms : ℕ) (execute : Bool) (refusal : Option ℕ) (cells : Cells)
+    (route : Route) (it : IsRoute cells asker (leads asker refusal (way_of asker files terms execute)) route) where
   -- it leads to a terminal or a pipe
   pub locates-device : route.way ≡ Device → locates execute refusal asker files terms ≡ refused E_FNA
   locates-device is =
@@ -117,7 +130,9 @@ module _ (asker : Asker) (files : Files) (terms : ℕ) (execute : Bool) (refusal
         (way-is asker refusal (way_of asker files terms execute) it.list it.way it.read it.comes_to
         ∙ it.route_is.way_is ∙ ap (λ (way : Taken). way_to (Ok way) it.list.names) is)
 
-    calls-enough : (walker : Walker) → walker.execute ≡ execute → asker.user ≡ walker.user → (v : DiskVolume) → volume_at files from.drive ≡ Some v → walk_calls v.files walker.user walker.execute from.number it.list.names ≤ located_calls execute (λ v file. 0) asker files terms
+    calls-enough : (walker : Walker) → walker.execute ≡ execute → asker.user ≡ walker.user → (v : DiskVolume)
+        → volume_at files from.drive ≡ Some v → walk_calls v.files walker.user walker.execute from.number
+        it.list.names ≤ located_calls execute (λ v file. 0) asker files terms
     calls-enough walker searches user v there =
         subst (λ (n : ℕ). walk_calls v.files walker.user walker.execute from.number it.list.names ≤ n)
         (ap (λ (e : Bool). walk_and walker.user e from.number it.list.names (λ v file. 0) (volume_at files from.drive)) searches
@@ -128,15 +143,26 @@ module _ (asker : Asker) (files : Files) (terms : ℕ) (execute : Bool) (refusal
     pub names-along : NamesFrom cells first it.list.names
     names-along = subst (λ (way : Taken). NamesOn cells way it.list.names) is it.route_is.names
 
-    pub along-located : (walker : Walker) (state new : FileState) (views now : List DriveView) → walker.execute ≡ execute → asker.user ≡ walker.user → StandsFor state views files → HasFileAt state.disks views from → new.io ≡ state.io → new.directories ≡ state.directories → (arrived : Result FilePlace DirError) (result : Result Located ℕ) → result ≡ located_by arrived route.next → Walks walker from it.list.names arrived state.disks views new.disks now → Locates (locates execute refusal asker files terms) (located_calls execute (λ v file. 0) asker files terms) result files new views now
+    pub along-located : (walker : Walker) (state new : FileState) (views now : List DriveView)
+        → walker.execute ≡ execute → asker.user ≡ walker.user → StandsFor state views files → HasFileAt state.disks
+        views from → new.io ≡ state.io → new.directories ≡ state.directories → (arrived : Result FilePlace DirError)
+        (result : Result Located ℕ) → result ≡ located_by arrived route.next → Walks walker from it.list.names arrived
+        state.disks views new.disks now → Locates (locates execute refusal asker files terms)
+        (located_calls execute (λ v file. 0) asker files terms) result files new views now
     along-located walker state new views now searches user stands has io directories arrived result result_is walk =
         subst (λ (step : Step FoundBy). Locates step (located_calls execute (λ v file. 0) asker files terms) result files new views now)
         (ap (λ (e : Bool). walks asker files e from it.list.names (λ found. comes (found_by it.list found))) searches ∙ sym locates-along)
-        (subst (λ (r : Result Located ℕ). Locates (walks asker files walker.execute from it.list.names (λ found. comes (found_by it.list found))) (located_calls execute (λ v file. 0) asker files terms) r files new views now) (sym result_is)
-        (walk-located asker walker files it.list from state new views now user stands has io directories (located_calls execute (λ v file. 0) asker files terms) (calls-enough walker searches user) arrived route.next it.route_is.next_is walk))
+        (subst (λ (r : Result Located ℕ). Locates (walks asker files walker.execute from it.list.names
+        (λ found. comes (found_by it.list found))) (located_calls execute (λ v file. 0) asker files terms) r files
+        new views now) (sym result_is)
+        (walk-located asker walker files it.list from state new views now user stands has io directories
+        (located_calls execute (λ v file. 0) asker files terms) (calls-enough walker searches user) arrived
+        route.next it.route_is.next_is walk))
 
 -- the file that was reached is there
-pub reached-file : (drive next : ℕ) (disks : List (Option Volume)) (views : List DriveView) (arrived : Result FilePlace DirError) (result : Result Located ℕ) → result ≡ located_by arrived next → IfOk arrived (ArrivesOn drive disks views) → IfOk result (λ located. HasFileAt disks views located.place)
+pub reached-file : (drive next : ℕ) (disks : List (Option Volume)) (views : List DriveView)
+    (arrived : Result FilePlace DirError) (result : Result Located ℕ) → result ≡ located_by arrived next
+    → IfOk arrived (ArrivesOn drive disks views) → IfOk result (λ located. HasFileAt disks views located.place)
 reached-file drive next disks views arrived result is holds =
     subst (λ (r : Result Located ℕ). IfOk r (λ located. HasFileAt disks views located.place)) (sym is) (by arrived holds)
   where

@@ -21,11 +21,15 @@ use Rattle.dir_calls.proofs.CallLemmas.{called-nothing, calls-few}
 use Rattle.dir_calls.specs.Looks.{AnswersBy, HasFound, Looks, LooksFor, answer_of}
 
 -- an answer for which no drive was called
-pub looks-none : {A : Type 0} (step : Step A) (answer : Result A ℕ) (files : Files) (state : FileState) (views : List DriveView) → StandsFor state views files → answer ≡ answer_of step → Looks step answer files state views views
+pub looks-none : {A : Type 0} (step : Step A) (answer : Result A ℕ) (files : Files) (state : FileState)
+    (views : List DriveView) → StandsFor state views files → answer ≡ answer_of step → Looks step answer files state
+    views views
 looks-none step answer files state views stands is = inl (record { is = is; drive = 0; reached = inr refl; read = read-none 0 state views files stands })
 
 -- a refusal that reaches no drive
-pub refused-there : {A R : Type 0} (fact : A → R → Type 0) (step : Step A) (most number : ℕ) (files : Files) (state : FileState) (views : List DriveView) → StandsFor state views files → step ≡ refused number → LooksFor fact step most (Err number) files state views views
+pub refused-there : {A R : Type 0} (fact : A → R → Type 0) (step : Step A) (most number : ℕ) (files : Files)
+    (state : FileState) (views : List DriveView) → StandsFor state views files → step ≡ refused number
+    → LooksFor fact step most (Err number) files state views views
 refused-there fact step most number files state views stands is = record {
   answer = Err number;
   is = refl;
@@ -42,7 +46,8 @@ deed-on (comes other) next files it is =
     let same : other ≡ it = cc in ap (λ it. deed_of (next it) files) same
 deed-on (reaches drive step) next files it is = deed-on step next files it is
 
-pub deed-refused : {A : Type 0} (step : Step A) (next : A → FileStep) (files : Files) (number : ℕ) → answer_of step ≡ Err number → deed_of (next_step step next) files ≡ leaves_so (refuses_so number files)
+pub deed-refused : {A : Type 0} (step : Step A) (next : A → FileStep) (files : Files) (number : ℕ)
+    → answer_of step ≡ Err number → deed_of (next_step step next) files ≡ leaves_so (refuses_so number files)
 deed-refused (refused other) next files number is =
     let same : other ≡ number = cc in ap (λ (n : ℕ). leaves_so (refuses_so n files)) same
 deed-refused (comes it) next files number is = cc
@@ -66,14 +71,17 @@ drive-on (refused number) next drive is = cc
 drive-on (comes it) next drive is = cc
 drive-on (reaches other step) next drive is = is
 
-pub reaches-next : {A B : Type 0} (step : Step A) (next : A → Step B) (drive : ℕ) (before now : List DriveView) → ReachesAtMost step drive before now → ReachesAtMost (next_step step next) drive before now
+pub reaches-next : {A B : Type 0} (step : Step A) (next : A → Step B) (drive : ℕ) (before now : List DriveView)
+    → ReachesAtMost step drive before now → ReachesAtMost (next_step step next) drive before now
 reaches-next step next drive before now reached =
     ⊎_elim (λ at. inl (drive-on step next drive at)) (λ same. inr same) reached
 
 -- ---- what was found
 
 module _ {A R : Type 0} (fact : A → R → Type 0) (look : Step A) (most : ℕ) (files : Files) (thing : R) (mid : FileState) (before views : List DriveView) where
-  found-answer : files.drives ≡ drive_states before → CalledAtMost (calls_of look most) before views → (answer : Result A ℕ) → AnswersBy fact answer (Ok thing) → Looks look answer files mid before views → HasFound fact look most thing files mid before views
+  found-answer : files.drives ≡ drive_states before → CalledAtMost (calls_of look most) before views
+      → (answer : Result A ℕ) → AnswersBy fact answer (Ok thing) → Looks look answer files mid before views
+      → HasFound fact look most thing files mid before views
   found-answer drives calls (Err number) is looks = absurd is
   found-answer drives calls (Ok it) is looks = elim looks [
     | inl well ↦ record { it = it; is = is; answer = sym well.is; drive = well.drive; reached = well.reached; read = well.read; drives_are = drives; calls = calls }
@@ -97,8 +105,15 @@ module _ {A R : Type 0} (fact : A → R → Type 0) (look : Step A) (most : ℕ)
 
 -- ---- a walk on a volume, in two parts
 
-module _ {A E : Type 0} (asker : Asker) (files : Files) (execute : Bool) (one : Found → Step E) (look : Found → Step A) (next : A → Step E) (same : (found : Found) → one found ≡ next_step (look found) next) where
-  with-file : (drive n : ℕ) (v : DiskVolume) (file : Option DiskFile) → needs file E_PNNF (λ file. one (record { place = record { drive = drive; number = n }; volume = v; file = file })) ≡ next_step (needs file E_PNNF (λ file. look (record { place = record { drive = drive; number = n }; volume = v; file = file }))) next
+module _ {A E : Type 0} (asker : Asker) (files : Files) (execute : Bool) (one : Found → Step E) (look : Found
+    → Step A) (next : A → Step E) (same : (found : Found) → one found ≡ next_step (look found) next) where
+  with-file : (drive n : ℕ) (v : DiskVolume) (file : Option DiskFile) → needs file E_PNNF
+      (λ file. one (record { place = record { drive = drive; number = n }; volume = v; file = file })) ≡ next_step
+      (needs file E_PNNF (λ file. look (record {
+        place = record { drive = drive; number = n };
+        volume = v;
+        file = file;
+      }))) next
   with-file drive n v None = refl
   with-file drive n v (Some file) = same (record { place = record { drive = drive; number = n }; volume = v; file = file })
 
@@ -110,6 +125,10 @@ module _ {A E : Type 0} (asker : Asker) (files : Files) (execute : Bool) (one : 
   pub walks-on : (from : FilePlace) (names : List (List ℕ)) → walks asker files execute from names one ≡ next_step (walks asker files execute from names look) next
   walks-on from names = by (volume_at files from.drive)
     where
-      by : (volume : Option DiskVolume) → needs volume E_MNF (λ v. reaches from.drive (walk_ends from.drive v (walk v.files asker.user execute from.number names) one)) ≡ next_step (needs volume E_MNF (λ v. reaches from.drive (walk_ends from.drive v (walk v.files asker.user execute from.number names) look))) next
+      by : (volume : Option DiskVolume) → needs volume E_MNF
+          (λ v. reaches from.drive (walk_ends from.drive v (walk v.files asker.user execute from.number names) one)) ≡
+          next_step (needs volume E_MNF
+          (λ v. reaches from.drive (walk_ends from.drive v (walk v.files asker.user execute from.number names) look)))
+          next
       by None = refl
       by (Some v) = ap (reaches from.drive) (with-end from.drive v (walk v.files asker.user execute from.number names))

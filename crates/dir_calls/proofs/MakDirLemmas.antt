@@ -56,11 +56,16 @@ module _ (asker : Asker) (files : Files) (terms : ℕ) (execute : Bool) (list : 
 -- ---- the parts
 
 module _ (asker : Asker) (files : Files) where
-  by-last : (list : PathList) (from : FilePlace) (names : List (List ℕ)) (last : Option (List ℕ)) → needs last E_BPNAM (λ name. walks asker files false from (before_last names) (makes_in asker files list name)) ≡ next_step (names_on New asker files false list (along from names) last) (makes_it asker files)
+  by-last : (list : PathList) (from : FilePlace) (names : List (List ℕ)) (last : Option (List ℕ)) → needs last E_BPNAM
+      (λ name. walks asker files false from (before_last names) (makes_in asker files list name)) ≡ next_step
+      (names_on New asker files false list (along from names) last) (makes_it asker files)
   by-last list from names None = refl
-  by-last list from names (Some name) = walks-on asker files false (makes_in asker files list name) (λ directory. comes (named_by list name directory)) (makes_it asker files) (λ found. refl) from (before_last names)
+  by-last list from names (Some name) = walks-on asker files false (makes_in asker files list name)
+      (λ directory. comes (named_by list name directory)) (makes_it asker files) (λ found. refl) from
+      (before_last names)
 
-  with-way : (list : PathList) (way : Way) → HasNamesOf list.names way → makes_on_way asker files list way ≡ next_step (names_on New asker files false list way (last_of list.names)) (makes_it asker files)
+  with-way : (list : PathList) (way : Way) → HasNamesOf list.names way → makes_on_way asker files list way ≡ next_step
+      (names_on New asker files false list way (last_of list.names)) (makes_it asker files)
   with-way list (along from names) same =
       by-last list from names (last_of names)
       ∙ ap (λ (all : List (List ℕ)). next_step (names_on New asker files false list (along from names) (last_of all)) (makes_it asker files)) same
@@ -70,7 +75,10 @@ module _ (asker : Asker) (files : Files) where
   pub makdir-parts : (terms : ℕ) → i_makdir asker files terms ≡ next_step (names_last New false None asker files terms) (makes_it asker files)
   makdir-parts terms = by (list_of asker)
     where
-      by : (read : Result PathList NameFault) → reads_list read (λ step. step) (λ list. makes_on_way asker files list (way_to_new asker files terms false list)) ≡ next_step (reads_list read (refuses_by None) (λ list. names_on New asker files false list (way_to_new asker files terms false list) (last_of list.names))) (makes_it asker files)
+      by : (read : Result PathList NameFault) → reads_list read (λ step. step) (λ list. makes_on_way asker files list
+          (way_to_new asker files terms false list)) ≡ next_step (reads_list read (refuses_by None)
+          (λ list. names_on New asker files false list (way_to_new asker files terms false list)
+          (last_of list.names))) (makes_it asker files)
       by (Ok list) = with-way list (way_to_new asker files terms false list) (new-names asker files terms false list (ends_in_dots list || is_root files terms list))
       by (Err Unreadable) = refl
       by (Err NoName) = refl

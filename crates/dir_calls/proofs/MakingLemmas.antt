@@ -116,7 +116,10 @@ module _ (closed there full long : Bool) (change : VolumeChange) (files : Files)
 -- whatever was found, a fault before the change may leave the volume as it was
 pub makes-quiet : (asker : Asker) (files : Files) (it : NamedBy) → WritesNothing (deed_of (makes_it asker files it) files)
 makes-quiet asker files it =
-    quiet-deed (not (may_change it.directory.file asker.user false)) (is_some (look_up it.directory.file.contents it.name)) (nat_lt (free_total it.directory.volume) (clusters_for it.directory new_directory_size)) (nat_lt 0 (entry_clusters (cluster_size it.directory.volume) it.directory.file) && (length it.directory.file.segments == 48))
+    quiet-deed (not (may_change it.directory.file asker.user false))
+    (is_some (look_up it.directory.file.contents it.name)) (nat_lt (free_total it.directory.volume)
+    (clusters_for it.directory new_directory_size)) (nat_lt 0 (entry_clusters (cluster_size it.directory.volume)
+    it.directory.file) && (length it.directory.file.segments == 48))
     (record {
       drive = it.directory.place.drive;
       change = makes_directory it.directory.place.number it.name asker.caller.regs.b;
@@ -126,7 +129,10 @@ makes-quiet asker files it =
 
 -- ---- by what was answered
 
-module _ (making : Making) (last : LastLocated) (look : Step NamedBy) (seen : ℕ) (asker : Asker) (files : Files) (old new : FileState) (before between now : List DriveView) (who : Makes making asker) (loc : HasFound (IsNamed New look files) look seen last files old before between) (called : CalledAtMost (makes_it_calls seen asker loc.it) before now) where
+module _ (making : Making) (last : LastLocated) (look : Step NamedBy) (seen : ℕ) (asker : Asker) (files : Files)
+    (old new : FileState) (before between now : List DriveView) (who : Makes making asker)
+    (loc : HasFound (IsNamed New look files) look seen last files old before between)
+    (called : CalledAtMost (makes_it_calls seen asker loc.it) before now) where
   abbrev it : NamedBy
   it = loc.it
 
@@ -170,11 +176,14 @@ module _ (making : Making) (last : LastLocated) (look : Step NamedBy) (seen : �
   abbrev most : ℕ
   most = makes_it_calls seen asker it
 
-  refused-by : (number : ℕ) → HasRead None last.directory.drive files new before now → deed_of (ladder closed there full long change) files ≡ leaves_so (refuses_so number files) → Tries step most asker files (Err number) new before now
+  refused-by : (number : ℕ) → HasRead None last.directory.drive files new before now
+      → deed_of (ladder closed there full long change) files ≡ leaves_so (refuses_so number files)
+      → Tries step most asker files (Err number) new before now
   refused-by number read deed = tries-refused look (makes_it asker files) most asker files it loc.answer new before now called last.directory.drive at number read deed
 
   broken-by : (number : ℕ) → HasRead (Some number) last.directory.drive files new before now → Tries step most asker files (Err number) new before now
-  broken-by number read = tries-broken look (makes_it asker files) most asker files it loc.answer new before now called last.directory.drive at v volume-is number (quiet-deed closed there full long change files tt) read
+  broken-by number read = tries-broken look (makes_it asker files) most asker files it loc.answer new before now
+      called last.directory.drive at v volume-is number (quiet-deed closed there full long change files tt) read
 
   -- the place is looked for
   pub place-answers : (result : Result ℕ DirError) → AnswersPlace dir last.name making.user false result → AnswersPlace dir it.name asker.user false result
@@ -182,7 +191,9 @@ module _ (making : Making) (last : LastLocated) (look : Step NamedBy) (seen : �
       subst (λ (user : ℕ). AnswersPlace dir it.name user false result) (sym who.user_is)
       (subst (λ (name : List ℕ). AnswersPlace dir name making.user false result) (sym loc.is.name_is) fact)
 
-  pub no-place : (error : DirError) → AnswersPlace dir it.name asker.user false (Err error) → HasRead (directory_fault {A = NewPlace} (Err error)) last.directory.drive files new before now → Tries step most asker files (Err (directory_error error)) new before now
+  pub no-place : (error : DirError) → AnswersPlace dir it.name asker.user false (Err error)
+      → HasRead (directory_fault {A = NewPlace} (Err error)) last.directory.drive files new before now
+      → Tries step most asker files (Err (directory_error error)) new before now
   no-place NotAllowed fact read =
       refused-by E_FNA read (closed-deed closed there full long change files
       (is-closed (is_dots it.name) closed there full long (fact (cluster_size v) (free_total v) new_directory_size)))
@@ -220,13 +231,16 @@ module _ (making : Making) (last : LastLocated) (look : Step NamedBy) (seen : �
     absent : there ≡ false
     absent = ap (λ (o : Option ℕ). is_some o) found.absent.names_none
 
-    as-asked : (answer : Result ℕ DirError) → HasChanged asked answer last.directory.drive v dir files new before now → HasChanged (asked_of change asker) answer change.drive v dir files new before now
+    as-asked : (answer : Result ℕ DirError) → HasChanged asked answer last.directory.drive v dir files new before now
+        → HasChanged (asked_of change asker) answer change.drive v dir files new before now
     as-asked answer changed =
         subst (λ (drive : ℕ). HasChanged (asked_of change asker) answer drive v dir files new before now) (ap (λ (at : FilePlace). at.drive) (sym loc.is.place_is))
         (subst (λ (asked : Asked). HasChanged asked answer last.directory.drive v dir files new before now) asked-is changed)
 
     -- the drive failed: where it was to be refused, nothing has changed
-    broken-change : (number : ℕ) (few none : Bool) → full ≡ few → long ≡ none → HasChanged asked (Err (File (Device number))) last.directory.drive v dir files new before now → Tries step most asker files (Err number) new before now
+    broken-change : (number : ℕ) (few none : Bool) → full ≡ few → long ≡ none
+        → HasChanged asked (Err (File (Device number))) last.directory.drive v dir files new before now
+        → Tries step most asker files (Err number) new before now
     broken-change number true none is list changed =
         let refused : is_refused asked v dir ≡ true = ap (λ (b : Bool). b || long) is in
         broken-by number (unchanged asked (Err (File (Device number))) last.directory.drive v dir files new before now volume-is changed (inr refused) (changed.answers.refused refused))
@@ -234,12 +248,16 @@ module _ (making : Making) (last : LastLocated) (look : Step NamedBy) (seen : �
         let refused : is_refused asked v dir ≡ true = ap (λ (b : Bool). b || long) is ∙ list in
         broken-by number (unchanged asked (Err (File (Device number))) last.directory.drive v dir files new before now volume-is changed (inr refused) (changed.answers.refused refused))
     broken-change number false false is list changed =
-        tries-broken-change look (makes_it asker files) most asker files it loc.answer new before now called change v dir loc.is.reached loc.is.there.volume_is loc.is.there.file_is (room-deed closed there full long change files false may absent is list) number loc.drives_are
+        tries-broken-change look (makes_it asker files) most asker files it loc.answer new before now called change v
+        dir loc.is.reached loc.is.there.volume_is loc.is.there.file_is (room-deed closed there full long change
+        files false may absent is list) number loc.drives_are
         (as-asked (Err (File (Device number))) changed)
 
     pub is-made : (n : ℕ) → HasChanged asked (Ok n) last.directory.drive v dir files new before now → Tries step most asker files (Ok last.next) new before now
     is-made n changed =
-        tries-changed look (makes_it asker files) most asker files it loc.answer new before now called change v dir loc.is.reached loc.is.there.volume_is loc.is.there.file_is (room-deed closed there full long change files false may absent changed.answers.enough changed.answers.list) n last.next
+        tries-changed look (makes_it asker files) most asker files it loc.answer new before now called change v dir
+        loc.is.reached loc.is.there.volume_is loc.is.there.file_is (room-deed closed there full long change files
+        false may absent changed.answers.enough changed.answers.list) n last.next
         (ap (λ (next : ℕ). leaves (answers (record asker.caller.regs { x = next % 65536 })) files) (sym loc.is.next_is))
         (as-asked (Ok n) changed)
 
@@ -258,7 +276,13 @@ module _ (making : Making) (last : LastLocated) (look : Step NamedBy) (seen : �
 
 -- ---- as the calls of the drive answered
 
-module _ (making : Making) (last : LastLocated) (look : Step NamedBy) (seen : ℕ) (asker : Asker) (files : Files) (old mid : FileState) (before between views : List DriveView) (who : Makes making asker) (loc : HasFound (IsNamed New look files) look seen last files old before between) (found : Result NewPlace DirError) (io : mid.io ≡ old.io) (directories : mid.directories ≡ old.directories) (answer : OnDisks old.disks between last.directory (λ v file. AnswersPlace file last.name making.user false (place_found found))) (reads : ReadsFile last.directory (directory_fault found) (λ v file. place_calls file last.name making.user false) old.disks between mid.disks views) where
+module _ (making : Making) (last : LastLocated) (look : Step NamedBy) (seen : ℕ) (asker : Asker) (files : Files)
+    (old mid : FileState) (before between views : List DriveView) (who : Makes making asker)
+    (loc : HasFound (IsNamed New look files) look seen last files old before between)
+    (found : Result NewPlace DirError) (io : mid.io ≡ old.io) (directories : mid.directories ≡ old.directories)
+    (answer : OnDisks old.disks between last.directory (λ v file. AnswersPlace file last.name making.user false
+    (place_found found))) (reads : ReadsFile last.directory (directory_fault found) (λ v file. place_calls file
+    last.name making.user false) old.disks between mid.disks views) where
   abbrev way : FileStep
   way = next_step look (makes_it asker files)
 
@@ -292,28 +316,43 @@ module _ (making : Making) (last : LastLocated) (look : Step NamedBy) (seen : �
   place-called =
       called-then seen (place_calls folder last.name making.user false) before between views
       (found-calls (IsNamed New look files) look seen files last old before between loc)
-      (again.read-calls files last.directory volume folder volume-there file-there old mid before between views searched (directory_fault found) (λ v file. place_calls file last.name making.user false) reads)
+      (again.read-calls files last.directory volume folder volume-there file-there old mid before between views
+      searched (directory_fault found) (λ v file. place_calls file last.name making.user false) reads)
 
   called : CalledAtMost bound before views
   called = called-more (seen + place_calls folder last.name making.user false) bound before views (omega (arith, same-calls)) place-called
 
   fact : AnswersPlace folder last.name making.user false (place_found found)
-  fact = again.of-found files last.directory volume folder volume-there file-there old mid before between views searched (λ v file. AnswersPlace file last.name making.user false (place_found found)) answer
+  fact = again.of-found files last.directory volume folder volume-there file-there old mid before between views
+      searched (λ v file. AnswersPlace file last.name making.user false (place_found found)) answer
 
   was-read : HasRead (directory_fault found) last.directory.drive files mid before views
-  was-read = again.read-again files last.directory volume folder volume-there file-there old mid before between views searched (directory_fault found) (λ v file. place_calls file last.name making.user false) io directories reads
+  was-read = again.read-again files last.directory volume folder volume-there file-there old mid before between views
+      searched (directory_fault found) (λ v file. place_calls file last.name making.user false) io directories reads
 
   -- no place was found
   pub place-refused : (error : DirError) (number : ℕ) → found ≡ Err error → number ≡ directory_error error → Tries way bound asker files (Err number) mid before views
   place-refused error number is number_is =
       subst (λ (n : ℕ). Tries way bound asker files (Err n) mid before views) (sym number_is)
       (no-place making last look seen asker files old mid before between views who loc called error
-      (place-answers making last look seen asker files old mid before between views who loc called (Err error) (subst (λ (r : Result NewPlace DirError). AnswersPlace folder last.name making.user false (place_found r)) is fact))
+      (place-answers making last look seen asker files old mid before between views who loc called (Err error)
+      (subst (λ (r : Result NewPlace DirError). AnswersPlace folder last.name making.user false (place_found r))
+      is fact))
       (subst (λ (r : Result NewPlace DirError). HasRead (directory_fault r) last.directory.drive files mid before views) is was-read))
 
-  module _ (place : NewPlace) (is : found ≡ Ok place) (user_is : place.user ≡ making.user) (new : FileState) (now : List DriveView) (new_io : new.io ≡ mid.io) (new_directories : new.directories ≡ mid.directories) (result : Result ℕ FileFault) (makes : ChangesVolume last.directory (record { change = makes_directory last.directory.number last.name making.attributes; user = place.user; now = making.now }) (widened result) (drives.making_calls (widened result)) mid.disks views new.disks now) where
+  module _ (place : NewPlace) (is : found ≡ Ok place) (user_is : place.user ≡ making.user) (new : FileState)
+      (now : List DriveView) (new_io : new.io ≡ mid.io) (new_directories : new.directories ≡ mid.directories)
+      (result : Result ℕ FileFault) (makes : ChangesVolume last.directory
+      (record {
+        change = makes_directory last.directory.number last.name making.attributes;
+        user = place.user;
+        now =
+            making.now;
+      }) (widened result) (drives.making_calls (widened result)) mid.disks views new.disks now) where
     new-place : IsNewPlace folder loc.it.name asker.user false place.place
-    new-place = place-answers making last look seen asker files old mid before between views who loc called (Ok place.place) (subst (λ (r : Result NewPlace DirError). AnswersPlace folder last.name making.user false (place_found r)) is fact)
+    new-place = place-answers making last look seen asker files old mid before between views who loc called
+        (Ok place.place) (subst (λ (r : Result NewPlace DirError). AnswersPlace folder last.name making.user false
+        (place_found r)) is fact)
 
     read : HasRead None last.directory.drive files mid before views
     read = subst (λ (r : Result NewPlace DirError). HasRead (directory_fault r) last.directory.drive files mid before views) is was-read
@@ -322,7 +361,8 @@ module _ (making : Making) (last : LastLocated) (look : Step NamedBy) (seen : �
     wanted = record { change = makes_directory last.directory.number last.name making.attributes; user = place.user; now = making.now }
 
     changed : HasChanged wanted (widened result) last.directory.drive volume folder files new before now
-    changed = again.changed-again files last.directory volume folder volume-there file-there mid new before views now read wanted (widened result) (drives.making_calls (widened result)) new_io new_directories makes
+    changed = again.changed-again files last.directory volume folder volume-there file-there mid new before views now
+        read wanted (widened result) (drives.making_calls (widened result)) new_io new_directories makes
 
     -- the calls for the new directory besides
     abbrev making-it : ℕ
@@ -332,7 +372,9 @@ module _ (making : Making) (last : LastLocated) (look : Step NamedBy) (seen : �
     all-called =
         called-more (seen + place_calls folder last.name making.user false + making-it) bound before now (omega (arith, same-calls))
         (called-then (seen + place_calls folder last.name making.user false) making-it before views now place-called
-        (again.change-calls files last.directory volume folder volume-there file-there mid new before views now read wanted (widened result) (drives.making_calls (widened result)) making-it (making-within result volume folder) makes))
+        (again.change-calls files last.directory volume folder volume-there file-there mid new before views now read
+        wanted (widened result) (drives.making_calls (widened result)) making-it (making-within result volume
+        folder) makes))
 
     pub directory-made : (n : ℕ) → result ≡ Ok n → Tries way bound asker files (Ok last.next) new before now
     directory-made n done =

@@ -54,7 +54,9 @@ module _ (purpose : Purpose) (asker : Asker) (files : Files) (terms : ℕ) (exec
   by-leads = leads-on asker refusal way (λ list led. names_on purpose asker files execute list led (last_of list.names)) (λ list number. refl)
 
   -- along the way that was found
-  pub names-way : (list : PathList) (to : Way) → leads asker refusal way ≡ comes (record { list = list; way = to }) → names_last purpose execute refusal asker files terms ≡ names_on purpose asker files execute list to (last_of list.names)
+  pub names-way : (list : PathList) (to : Way) → leads asker refusal way ≡ comes (record { list = list; way = to })
+      → names_last purpose execute refusal asker files terms ≡ names_on purpose asker files execute list to
+      (last_of list.names)
   names-way list to is = by-leads ∙ ap (λ (step : Step Led). next_step step (λ led. names_on purpose asker files execute led.list led.way (last_of led.list.names))) is
 
   -- or it is refused
@@ -67,7 +69,9 @@ no-dots : (dots root : Bool) (way : Way) (from : FilePlace) (names : List (List 
 no-dots true root way from names is = absurd (let no : nowhere E_BPNAM ≡ along from names = is in cc)
 no-dots false root way from names is = refl
 
-pub proper-name : (purpose : Purpose) (asker : Asker) (files : Files) (terms : ℕ) (execute : Bool) (list : PathList) (from : FilePlace) (names : List (List ℕ)) (name : List ℕ) → way_for purpose asker files terms execute list ≡ along from names → last_of list.names ≡ Some name → purpose ≡ New → is_dots name ≡ false
+pub proper-name : (purpose : Purpose) (asker : Asker) (files : Files) (terms : ℕ) (execute : Bool) (list : PathList)
+    (from : FilePlace) (names : List (List ℕ)) (name : List ℕ) → way_for purpose asker files terms execute list ≡
+    along from names → last_of list.names ≡ Some name → purpose ≡ New → is_dots name ≡ false
 proper-name Existing asker files terms execute list from names name is last made = cc
 proper-name New asker files terms execute list from names name is last made =
     sym (ap (λ (o : Option (List ℕ)). option_map_or is_dots o false) last)
@@ -75,7 +79,12 @@ proper-name New asker files terms execute list from names name is last made =
 
 -- ---- the walk
 
-module _ (purpose : Purpose) (asker : Asker) (walker : Walker) (files : Files) (list : PathList) (from : FilePlace) (state new : FileState) (views now : List DriveView) (user : asker.user ≡ walker.user) (stands : StandsFor state views files) (has : HasFileAt state.disks views from) (io : new.io ≡ state.io) (directories : new.directories ≡ state.directories) (most : ℕ) (enough : (v : DiskVolume) → volume_at files from.drive ≡ Some v → walk_calls v.files walker.user walker.execute from.number (before_last list.names) ≤ most) where
+module _ (purpose : Purpose) (asker : Asker) (walker : Walker) (files : Files) (list : PathList) (from : FilePlace)
+    (state new : FileState) (views now : List DriveView) (user : asker.user ≡ walker.user)
+    (stands : StandsFor state views files) (has : HasFileAt state.disks views from) (io : new.io ≡ state.io)
+    (directories : new.directories ≡ state.directories) (most : ℕ) (enough : (v : DiskVolume)
+    → volume_at files from.drive ≡ Some v → walk_calls v.files walker.user walker.execute from.number
+    (before_last list.names) ≤ most) where
   abbrev step : Step NamedBy
   step = names_on purpose asker files walker.execute list (along from list.names) (last_of list.names)
 
@@ -83,9 +92,13 @@ module _ (purpose : Purpose) (asker : Asker) (walker : Walker) (files : Files) (
   step-of name = walks asker files walker.execute from (before_last list.names) (λ directory. comes (named_by list name directory))
 
   module _ (proper : (name : List ℕ) → last_of list.names ≡ Some name → purpose ≡ New → is_dots name ≡ false) (next : ℕ) (next_is : next ≡ list.next) where
-    pub last-located : (name : List ℕ) → last_of list.names ≡ Some name → (reached : Result LastName DirError) → WalksToLast walker from list.names reached state.disks views new.disks now → LocatesLast purpose (step-of name) most (last_by reached next) files new views now
+    pub last-located : (name : List ℕ) → last_of list.names ≡ Some name → (reached : Result LastName DirError)
+        → WalksToLast walker from list.names reached state.disks views new.disks now → LocatesLast purpose
+        (step-of name) most (last_by reached next) files new views now
     last-located name last (Ok at) it =
-        walk-found (IsNamed purpose (step-of name) files) (named_by list name) asker walker files from (before_last list.names) state new views now user stands has io directories most enough at.directory (record { directory = at.directory; name = at.name; next = next }) it.walks
+        walk-found (IsNamed purpose (step-of name) files) (named_by list name) asker walker files from
+        (before_last list.names) state new views now user stands has io directories most enough at.directory
+        (record { directory = at.directory; name = at.name; next = next }) it.walks
         (λ found. record {
           place_is = found.place_is;
           name_is = let same : Some name ≡ Some at.name = sym last ∙ it.name in cc;
@@ -95,10 +108,14 @@ module _ (purpose : Purpose) (asker : Asker) (walker : Walker) (files : Files) (
           proper = proper name last;
         })
     last-located name last (Err error) it =
-        walk-lost (IsNamed purpose (step-of name) files) (named_by list name) asker walker files from (before_last list.names) state new views now user stands has io directories most enough error it.walks
+        walk-lost (IsNamed purpose (step-of name) files) (named_by list name) asker walker files from
+        (before_last list.names) state new views now user stands has io directories most enough error it.walks
 
 -- of a list without names no drive is called
-pub unnamed-there : (purpose : Purpose) (asker : Asker) (files : Files) (execute : Bool) (whole : Step NamedBy) (most : ℕ) (list : PathList) (from : FilePlace) (state : FileState) (views : List DriveView) → StandsFor state views files → HasFileAt state.disks views from → whole ≡ names_on purpose asker files execute list (along from []) None → LocatesLast purpose whole most (Err (unnamed_number purpose)) files state views views
+pub unnamed-there : (purpose : Purpose) (asker : Asker) (files : Files) (execute : Bool) (whole : Step NamedBy)
+    (most : ℕ) (list : PathList) (from : FilePlace) (state : FileState) (views : List DriveView)
+    → StandsFor state views files → HasFileAt state.disks views from → whole ≡ names_on purpose asker files execute
+    list (along from []) None → LocatesLast purpose whole most (Err (unnamed_number purpose)) files state views views
 unnamed-there New asker files execute whole most list from state views stands has is = record {
   answer = Err E_BPNAM;
   is = refl;
@@ -127,7 +144,9 @@ unnamed-there Existing asker files execute whole most list from state views stan
 
 -- ---- by the route
 
-module _ (purpose : Purpose) (asker : Asker) (files : Files) (terms : ℕ) (execute : Bool) (refusal : Option ℕ) (cells : Cells) (route : Route) (it : IsRoute cells asker (leads asker refusal (way_for purpose asker files terms execute)) route) where
+module _ (purpose : Purpose) (asker : Asker) (files : Files) (terms : ℕ) (execute : Bool) (refusal : Option ℕ)
+    (cells : Cells) (route : Route)
+    (it : IsRoute cells asker (leads asker refusal (way_for purpose asker files terms execute)) route) where
   abbrev whole : Step NamedBy
   whole = names_last purpose execute refusal asker files terms
 
@@ -160,12 +179,15 @@ module _ (purpose : Purpose) (asker : Asker) (files : Files) (terms : ℕ) (exec
     -- the calls of the walk
     calls-along : (name : List ℕ) → last_of it.list.names ≡ Some name → most ≡ walk_and asker.user execute from.number (before_last it.list.names) (λ v file. 0) (volume_at files from.drive)
     calls-along name last =
-        ap (λ (read : Result PathList NameFault). listed_calls read (λ list. last_calls asker files execute (λ name v dir. 0) (way_for purpose asker files terms execute list) (last_of list.names))) it.read
+        ap (λ (read : Result PathList NameFault). listed_calls read (λ list. last_calls asker files execute
+        (λ name v dir. 0) (way_for purpose asker files terms execute list) (last_of list.names))) it.read
         ∙ ap (λ (way : Way). last_calls asker files execute (λ name v dir. 0) way (last_of it.list.names))
         (way-is asker refusal (way_for purpose asker files terms execute) it.list it.way it.read it.comes_to ∙ is-along)
         ∙ ap (last_calls asker files execute (λ name v dir. 0) (along from it.list.names)) last
 
-    calls-enough : (name : List ℕ) → last_of it.list.names ≡ Some name → (walker : Walker) → walker.execute ≡ execute → asker.user ≡ walker.user → (v : DiskVolume) → volume_at files from.drive ≡ Some v → walk_calls v.files walker.user walker.execute from.number (before_last it.list.names) ≤ most
+    calls-enough : (name : List ℕ) → last_of it.list.names ≡ Some name → (walker : Walker) → walker.execute ≡ execute
+        → asker.user ≡ walker.user → (v : DiskVolume) → volume_at files from.drive ≡ Some v → walk_calls v.files
+        walker.user walker.execute from.number (before_last it.list.names) ≤ most
     calls-enough name last walker searches user v there =
         subst (λ (n : ℕ). walk_calls v.files walker.user walker.execute from.number (before_last it.list.names) ≤ n)
         (ap (λ (e : Bool). walk_and walker.user e from.number (before_last it.list.names) (λ v file. 0) (volume_at files from.drive)) searches
@@ -174,7 +196,9 @@ module _ (purpose : Purpose) (asker : Asker) (files : Files) (terms : ℕ) (exec
         (walk-part walker.user walker.execute from.number (before_last it.list.names) (λ v file. 0) (volume_at files from.drive) v there)
 
     -- a list without names
-    pub along-unnamed : (state : FileState) (views : List DriveView) (number : ℕ) → first ≡ None → number ≡ unnamed_number purpose → StandsFor state views files → HasFileAt state.disks views from → LocatesLast purpose whole most (Err number) files state views views
+    pub along-unnamed : (state : FileState) (views : List DriveView) (number : ℕ) → first ≡ None
+        → number ≡ unnamed_number purpose → StandsFor state views files → HasFileAt state.disks views from
+        → LocatesLast purpose whole most (Err number) files state views views
     along-unnamed state views number none number_is stands has =
         let empty : it.list.names ≡ [] = subst (λ (first : Option ℕ). NamesFrom cells first it.list.names) none names-along in
         subst (λ (n : ℕ). LocatesLast purpose whole most (Err n) files state views views) (sym number_is)
@@ -182,13 +206,22 @@ module _ (purpose : Purpose) (asker : Asker) (files : Files) (terms : ℕ) (exec
         (names-along-way ∙ ap (λ (names : List (List ℕ)). names_on purpose asker files execute it.list (along from names) (last_of names)) empty))
 
     -- by its last name
-    pub along-named : (walker : Walker) (state new : FileState) (views now : List DriveView) → walker.execute ≡ execute → asker.user ≡ walker.user → StandsFor state views files → HasFileAt state.disks views from → new.io ≡ state.io → new.directories ≡ state.directories → (name : List ℕ) → last_of it.list.names ≡ Some name → (reached : Result LastName DirError) (result : Result LastLocated ℕ) → result ≡ last_by reached route.next → WalksToLast walker from it.list.names reached state.disks views new.disks now → LocatesLast purpose whole most result files new views now
+    pub along-named : (walker : Walker) (state new : FileState) (views now : List DriveView)
+        → walker.execute ≡ execute → asker.user ≡ walker.user → StandsFor state views files → HasFileAt state.disks
+        views from → new.io ≡ state.io → new.directories ≡ state.directories → (name : List ℕ) → last_of it.list.names
+        ≡ Some name → (reached : Result LastName DirError) (result : Result LastLocated ℕ) → result ≡ last_by reached
+        route.next → WalksToLast walker from it.list.names reached state.disks views new.disks now
+        → LocatesLast purpose whole most result files new views now
     along-named walker state new views now searches user stands has io directories name last reached result result_is walk =
         subst (λ (step : Step NamedBy). LocatesLast purpose step most result files new views now)
         (ap (λ (e : Bool). walks asker files e from (before_last it.list.names) (λ directory. comes (named_by it.list name directory))) searches
         ∙ sym (names-along-way ∙ ap (names_on purpose asker files execute it.list (along from it.list.names)) last))
-        (subst (λ (r : Result LastLocated ℕ). LocatesLast purpose (walks asker files walker.execute from (before_last it.list.names) (λ directory. comes (named_by it.list name directory))) most r files new views now) (sym result_is)
-        (last-located purpose asker walker files it.list from state new views now user stands has io directories most (calls-enough name last walker searches user) proper route.next it.route_is.next_is name last reached walk))
+        (subst (λ (r : Result LastLocated ℕ). LocatesLast purpose (walks asker files walker.execute from
+        (before_last it.list.names) (λ directory. comes (named_by it.list name directory))) most r files new views
+        now) (sym result_is)
+        (last-located purpose asker walker files it.list from state new views now user stands has io directories most
+        (calls-enough name last walker searches user) proper route.next it.route_is.next_is name last reached
+        walk))
 
 -- ---- some names
 
@@ -207,7 +240,8 @@ with-some rest name next a_slash names is = cons-some (record { names = name ∷
 with-some rest name next nothing names is = cons-some (record { names = name ∷ []; slash = false; next = next }) names is (omega arith)
 with-some rest name next unreadable names is = cc
 
-behind-some : (rest : ℕ → Result Names NameFault) (cells : Cells) (at : ℕ) (name : Result (List ℕ) NameFault) (names : List (List ℕ)) → name_list (names_behind rest cells at name) ≡ Ok names → 1 ≤ length names
+behind-some : (rest : ℕ → Result Names NameFault) (cells : Cells) (at : ℕ) (name : Result (List ℕ) NameFault)
+    (names : List (List ℕ)) → name_list (names_behind rest cells at name) ≡ Ok names → 1 ≤ length names
 behind-some rest cells at (Ok name) names is = with-some rest name (at + length name) (behind cells (at + length name)) names is
 behind-some rest cells at (Err fault) names is = cc
 
@@ -222,7 +256,10 @@ has-last cells at names stand =
     (_, slice_get-get_or names (length names - 1) [] (omega arith))
 
 -- the directory that was reached is there
-pub reached-directory : (drive next : ℕ) (disks : List (Option Volume)) (views : List DriveView) (reached : Result LastName DirError) (result : Result LastLocated ℕ) → result ≡ last_by reached next → IfOk (directory_reached reached) (ArrivesOn drive disks views) → IfOk result (λ last. HasFileAt disks views last.directory)
+pub reached-directory : (drive next : ℕ) (disks : List (Option Volume)) (views : List DriveView)
+    (reached : Result LastName DirError) (result : Result LastLocated ℕ) → result ≡ last_by reached next
+    → IfOk (directory_reached reached) (ArrivesOn drive disks views)
+    → IfOk result (λ last. HasFileAt disks views last.directory)
 reached-directory drive next disks views reached result is holds =
     subst (λ (r : Result LastLocated ℕ). IfOk r (λ last. HasFileAt disks views last.directory)) (sym is) (by reached holds)
   where

@@ -26,13 +26,17 @@ use Rattle.dir_calls.specs.Looks.{AnswersBy, Looks, LooksFor, answer_of}
 use Rattle.dir_calls.specs.Tries.{Tries, end_by}
 
 -- one step, said in two ways
-pub tries-same : (one two : FileStep) (few most : ℕ) (asker : Asker) (files : Files) (result : Result ℕ ℕ) (new : FileState) (before now : List DriveView) → one ≡ two → few ≡ most → Tries one few asker files result new before now → Tries two most asker files result new before now
+pub tries-same : (one two : FileStep) (few most : ℕ) (asker : Asker) (files : Files) (result : Result ℕ ℕ)
+    (new : FileState) (before now : List DriveView) → one ≡ two → few ≡ most → Tries one few asker files result new
+    before now → Tries two most asker files result new before now
 tries-same one two few most asker files result new before now same as_often it =
     subst (λ (step : FileStep). Tries step most asker files result new before now) same
     (subst (λ (n : ℕ). Tries one n asker files result new before now) as_often it)
 
 -- more calls may be allowed
-pub tries-more : (step : FileStep) (few most : ℕ) (asker : Asker) (files : Files) (result : Result ℕ ℕ) (new : FileState) (before now : List DriveView) → few ≤ most → Tries step few asker files result new before now → Tries step most asker files result new before now
+pub tries-more : (step : FileStep) (few most : ℕ) (asker : Asker) (files : Files) (result : Result ℕ ℕ)
+    (new : FileState) (before now : List DriveView) → few ≤ most → Tries step few asker files result new before now
+    → Tries step most asker files result new before now
 tries-more step few most asker files result new before now more it = record {
   left = it.left;
   does = it.does;
@@ -58,7 +62,8 @@ image-of : (kept : Option Volume) (view : DriveView) (v : DiskVolume) → Agrees
 image-of None view v on = absurd on
 image-of (Some volume) view v on = (on.on.image, on.on.vol)
 
-image-there : (disks : List (Option Volume)) (views : List DriveView) (volumes : List (Option DiskVolume)) (n : ℕ) (v : DiskVolume) → AreMounted disks views volumes → mounted_at volumes n ≡ Some v → (image : List ℕ) × Vol image v
+image-there : (disks : List (Option Volume)) (views : List DriveView) (volumes : List (Option DiskVolume)) (n : ℕ)
+    (v : DiskVolume) → AreMounted disks views volumes → mounted_at volumes n ≡ Some v → (image : List ℕ) × Vol image v
 image-there disks views volumes n v mounted is =
     let there : (view : DriveView) × (slice_get views n ≡ Some view) = view-there disks views volumes n v mounted is in
     image-of (kept_at disks n) there.0 v (agrees-at disks views volumes n v there.0 mounted is there.1)
@@ -67,7 +72,9 @@ image-there disks views volumes n v mounted is =
 
 module _ (step : FileStep) (most : ℕ) (asker : Asker) (files : Files) (new : FileState) (before now : List DriveView) (calls : CalledAtMost (calls_of step most) before now) where
   -- refused, and no drive failed
-  goes-refused : (number drive : ℕ) → ReachesAtMost step drive before now → HasRead None drive files new before now → deed_of step files ≡ leaves_so (refuses_so number files) → Tries step most asker files (Err number) new before now
+  goes-refused : (number drive : ℕ) → ReachesAtMost step drive before now → HasRead None drive files new before now
+      → deed_of step files ≡ leaves_so (refuses_so number files) → Tries step most asker files (Err number) new before
+      now
   goes-refused number drive reached read deed = record {
     left = with_drives files (drive_states now);
     does = λ terms. goes-well step asker files (refuses_so number files) (drive_states now) terms deed read.moved;
@@ -77,7 +84,9 @@ module _ (step : FileStep) (most : ℕ) (asker : Asker) (files : Files) (new : F
   }
 
   -- a drive failed, and the volume is as it was
-  goes-broken : (number drive : ℕ) (v : DiskVolume) → drive_of step ≡ Some drive → volume_at files drive ≡ Some v → WritesNothing (deed_of step files) → HasRead (Some number) drive files new before now → Tries step most asker files (Err number) new before now
+  goes-broken : (number drive : ℕ) (v : DiskVolume) → drive_of step ≡ Some drive → volume_at files drive ≡ Some v
+      → WritesNothing (deed_of step files) → HasRead (Some number) drive files new before now → Tries step most asker
+      files (Err number) new before now
   goes-broken number drive v at is quiet read =
       let image : (image : List ℕ) × Vol image v = image-there new.disks now files.volumes drive v read.stands.mounted is in
       record {
@@ -91,11 +100,14 @@ module _ (step : FileStep) (most : ℕ) (asker : Asker) (files : Files) (new : F
       }
 
 -- nothing was found
-module _ {A R : Type 0} (fact : A → R → Type 0) (look : Step A) (next : A → FileStep) (most : ℕ) (asker : Asker) (files : Files) (number : ℕ) (new : FileState) (before now : List DriveView) (quiet : (it : A) → WritesNothing (deed_of (next it) files)) where
+module _ {A R : Type 0} (fact : A → R → Type 0) (look : Step A) (next : A → FileStep) (most : ℕ) (asker : Asker)
+    (files : Files) (number : ℕ) (new : FileState) (before now : List DriveView) (quiet : (it : A)
+    → WritesNothing (deed_of (next it) files)) where
   abbrev whole : FileStep
   whole = next_step look next
 
-  unfound-by : CalledAtMost (calls_of whole most) before now → (answer : Result A ℕ) → AnswersBy {R = R} fact answer (Err number) → Looks look answer files new before now → Tries whole most asker files (Err number) new before now
+  unfound-by : CalledAtMost (calls_of whole most) before now → (answer : Result A ℕ) → AnswersBy {R = R} fact answer
+      (Err number) → Looks look answer files new before now → Tries whole most asker files (Err number) new before now
   unfound-by calls (Ok it) is looks = absurd is
   unfound-by calls (Err other) is looks = elim looks [
     | inl well ↦
@@ -112,7 +124,9 @@ module _ {A R : Type 0} (fact : A → R → Type 0) (look : Step A) (next : A �
 
 -- ---- by what was found
 
-module _ {A : Type 0} (look : Step A) (next : A → FileStep) (most : ℕ) (asker : Asker) (files : Files) (it : A) (found : answer_of look ≡ Ok it) (new : FileState) (before now : List DriveView) (called : CalledAtMost most before now) where
+module _ {A : Type 0} (look : Step A) (next : A → FileStep) (most : ℕ) (asker : Asker) (files : Files) (it : A)
+    (found : answer_of look ≡ Ok it) (new : FileState) (before now : List DriveView) (called : CalledAtMost most
+    before now) where
   deed : deed_of (next_step look next) files ≡ deed_of (next it) files
   deed = deed-on look next files it found
 
@@ -124,16 +138,23 @@ module _ {A : Type 0} (look : Step A) (next : A → FileStep) (most : ℕ) (aske
     calls = called-more most (calls_of (next_step look next) most) before now (calls-reached (next_step look next) drive most reached-on) called
 
     -- it is refused
-    pub tries-refused : (number : ℕ) → HasRead None drive files new before now → deed_of (next it) files ≡ leaves_so (refuses_so number files) → Tries (next_step look next) most asker files (Err number) new before now
+    pub tries-refused : (number : ℕ) → HasRead None drive files new before now → deed_of (next it) files ≡ leaves_so
+        (refuses_so number files) → Tries (next_step look next) most asker files (Err number) new before now
     tries-refused number read is = goes-refused (next_step look next) most asker files new before now calls number drive (inl reached-on) read (deed ∙ is)
 
     -- the drive failed, and the volume is as it was
-    pub tries-broken : (v : DiskVolume) → volume_at files drive ≡ Some v → (number : ℕ) → WritesNothing (deed_of (next it) files) → HasRead (Some number) drive files new before now → Tries (next_step look next) most asker files (Err number) new before now
+    pub tries-broken : (v : DiskVolume) → volume_at files drive ≡ Some v → (number : ℕ)
+        → WritesNothing (deed_of (next it) files) → HasRead (Some number) drive files new before now
+        → Tries (next_step look next) most asker files (Err number) new before now
     tries-broken v volume_is number quiet read = goes-broken (next_step look next) most asker files new before now calls number drive v reached-on volume_is (subst WritesNothing (sym deed) quiet) read
 
-  module _ (change : VolumeChange) (v : DiskVolume) (file : DiskFile) (at : drive_of look ≡ Some change.drive) (volume_is : volume_at files change.drive ≡ Some v) (there : v.files (file_changed change.change) ≡ Some file) (is : deed_of (next it) files ≡ changes change) where
+  module _ (change : VolumeChange) (v : DiskVolume) (file : DiskFile) (at : drive_of look ≡ Some change.drive)
+      (volume_is : volume_at files change.drive ≡ Some v) (there : v.files (file_changed change.change) ≡ Some file)
+      (is : deed_of (next it) files ≡ changes change) where
     -- the change is made
-    pub tries-changed : (n end : ℕ) → change.effect n ≡ leaves (end_by asker.caller.regs (Ok end)) files → HasChanged (asked_of change asker) (Ok n) change.drive v file files new before now → Tries (next_step look next) most asker files (Ok end) new before now
+    pub tries-changed : (n end : ℕ) → change.effect n ≡ leaves (end_by asker.caller.regs (Ok end)) files
+        → HasChanged (asked_of change asker) (Ok n) change.drive v file files new before now
+        → Tries (next_step look next) most asker files (Ok end) new before now
     tries-changed n end effect_is changed = record {
       left = with_drives (with_volume files change.drive changed.left) (drive_states now);
       does = λ terms.
@@ -145,10 +166,13 @@ module _ {A : Type 0} (look : Step A) (next : A → FileStep) (most : ℕ) (aske
     }
 
     -- the drive failed in it
-    pub tries-broken-change : (number : ℕ) → files.drives ≡ drive_states before → HasChanged (asked_of change asker) (Err (File (Device number))) change.drive v file files new before now → Tries (next_step look next) most asker files (Err number) new before now
+    pub tries-broken-change : (number : ℕ) → files.drives ≡ drive_states before → HasChanged (asked_of change asker)
+        (Err (File (Device number))) change.drive v file files new before now → Tries (next_step look next) most asker
+        files (Err number) new before now
     tries-broken-change number drives changed = record {
       left = with_drives (with_volume files change.drive changed.left) (drive_states now);
-      does = λ terms. breaks-change (next_step look next) asker files change number v changed.left file (drive_states now) terms (reached-on change.drive at) (deed ∙ is) volume_is changed.answers changed.moved;
+      does = λ terms. breaks-change (next_step look next) asker files change number v changed.left file
+          (drive_states now) terms (reached-on change.drive at) (deed ∙ is) volume_is changed.answers changed.moved;
       stands = changed.stands;
       calls = calls change.drive at;
       drives = keeps-broken (next_step look next) asker files change v file new before now (reached-on change.drive at) (deed ∙ is) volume_is there number drives changed;

@@ -30,7 +30,9 @@ has_root media volume n mounted root =
     record { content = v; on = mounted.on; file = file.0; is = ap v.files there ∙ file.1 }
 
 -- a node that is no directory is that of such a file
-pub data_file : (media now : Option (List ℕ)) (image : List ℕ) (tree : Tree) → media ≡ Some image → now ≡ media → (known : IsTreeOf image tree) → (i : ℕ) (node : Node) → slice_get tree.nodes i ≡ Some node → i < length tree.nodes
+pub data_file : (media now : Option (List ℕ)) (image : List ℕ) (tree : Tree) → media ≡ Some image → now ≡ media
+    → (known : IsTreeOf image tree) → (i : ℕ) (node : Node) → slice_get tree.nodes i ≡ Some node
+    → i < length tree.nodes
     → is_directory_node node ≡ false → HasDataFile now node.fd
 data_file media now image tree is same known i node at low not_directory =
     let there : get_or tree.nodes i node ≡ node = get_or_from_slice_get tree.nodes i node node at in

@@ -27,7 +27,9 @@ record SameFirst (entries others : List (Option ModuleEntry)) (number other : �
   pub one_number : number ≡ other
   pub one_program : program ≡ second
 
-first-one : (file : List ℕ) (entries others : List (Option ModuleEntry)) (number other : ℕ) (program second : ModuleEntry) → HasFirst file entries number program → HasFirst file others other second → SameFirst entries others number other program second
+first-one : (file : List ℕ) (entries others : List (Option ModuleEntry)) (number other : ℕ)
+    (program second : ModuleEntry) → HasFirst file entries number program → HasFirst file others other second
+    → SameFirst entries others number other program second
 first-one file entries others number other program second one two =
     let lists : entries ≡ others = entries-one file entries others one.entered two.entered in
     let programs : first_program entries ≡ first_program others = ap first_program lists in
@@ -36,14 +38,17 @@ first-one file entries others number other program second one two =
     record { one_list = lists; one_number = numbers; one_program = cc (one.is, two.is, at) }
 
 -- a file with a first program is not one without
-never-without : (file : List ℕ) (entries others : List (Option ModuleEntry)) (number : ℕ) (program : ModuleEntry) → HasFirst file entries number program → EntersBoot file (Ok others) → first_program others ≡ None → ⊥
+never-without : (file : List ℕ) (entries others : List (Option ModuleEntry)) (number : ℕ) (program : ModuleEntry)
+    → HasFirst file entries number program → EntersBoot file (Ok others) → first_program others ≡ None → ⊥
 never-without file entries others number program has ending without =
     let lists : entries ≡ others = entries-one file entries others has.entered ending in
     let programs : first_program entries ≡ first_program others = ap first_program lists in
     cc (has.found_it, without, programs)
 
 -- what a file starts with comes to one end
-started-one : (file : List ℕ) (blocks : ℕ) (entries others : List (Option ModuleEntry)) (number other : ℕ) (entry second : ModuleEntry) → HasFirst file entries number entry → HasFirst file others other second → first_started file blocks entries number entry ≡ first_started file blocks others other second
+started-one : (file : List ℕ) (blocks : ℕ) (entries others : List (Option ModuleEntry)) (number other : ℕ)
+    (entry second : ModuleEntry) → HasFirst file entries number entry → HasFirst file others other second
+    → first_started file blocks entries number entry ≡ first_started file blocks others other second
 started-one file blocks entries others number other entry second one two =
     let same = first-one file entries others number other entry second one two in
     λ i. first_started file blocks (same.one_list i) (same.one_number i) (same.one_program i)
@@ -51,19 +56,25 @@ started-one file blocks entries others number other entry second one two =
 pub Starts-one : (file : List ℕ) (blocks : ℕ) (m n : Inner) → StartsProcesses file blocks m → StartsProcesses file blocks n → m ≡ n
 Starts-one file blocks m n one other =
     let same = first-one file one.entries other.entries one.number other.number one.entry other.entry one.has other.has in
-    let ends : first_started file blocks one.entries one.number one.entry ≡ first_started file blocks other.entries other.number other.entry = started-one file blocks one.entries other.entries one.number other.number one.entry other.entry one.has other.has in
+    let ends : first_started file blocks one.entries one.number one.entry ≡ first_started file blocks other.entries
+    other.number other.entry = started-one file blocks one.entries other.entries one.number other.number one.entry
+    other.entry one.has other.has in
     let memories : one.memory ≡ other.memory = cc (one.begins, other.begins, ends) in
     one.is ∙ rw (memories, same.one_number, same.one_program) (sym other.is)
 
 -- a program that begins is not one that does not
-begins-once : (file : List ℕ) (blocks : ℕ) (entries others : List (Option ModuleEntry)) (number other : ℕ) (entry second : ModuleEntry) (memory : MemoryState) → HasFirst file entries number entry → HasFirst file others other second → first_started file blocks entries number entry ≡ Ok memory → IsErr (first_started file blocks others other second) → ⊥
+begins-once : (file : List ℕ) (blocks : ℕ) (entries others : List (Option ModuleEntry)) (number other : ℕ)
+    (entry second : ModuleEntry) (memory : MemoryState) → HasFirst file entries number entry → HasFirst file others
+    other second → first_started file blocks entries number entry ≡ Ok memory
+    → IsErr (first_started file blocks others other second) → ⊥
 begins-once file blocks entries others number other entry second memory one two begins fails =
     let ends : first_started file blocks entries number entry ≡ first_started file blocks others other second = started-one file blocks entries others number other entry second one two in
     let ok : first_started file blocks others other second ≡ Ok memory = sym ends ∙ begins in cc (ok, fails)
 
 pub never-both : (file : List ℕ) (blocks : ℕ) (m : Inner) (fault : BootFault) → StartsProcesses file blocks m → Refuses file blocks fault → ⊥
 never-both file blocks m TooLarge starts (inl long) = let short : length file ≤ longest_file = starts.has.short in absurd (omega arith)
-never-both file blocks m TooLarge starts (inr (entries, number, program, has, wants)) = begins-once file blocks starts.entries entries starts.number number starts.entry program starts.memory starts.has has starts.begins wants
+never-both file blocks m TooLarge starts (inr (entries, number, program, has, wants)) = begins-once file blocks
+    starts.entries entries starts.number number starts.entry program starts.memory starts.has has starts.begins wants
 never-both file blocks m (BadModule at error) starts (short, refusal) = never-refused file starts.entries at error starts.has.entered refusal
 never-both file blocks m NoFirst starts (short, (entries, ending, without)) = never-without file starts.entries entries starts.number starts.entry starts.has ending without
 never-both file blocks m OutOfMemory starts refusal = refusal
@@ -102,7 +113,9 @@ abbrev Ends : List ℕ → ℕ → Type 0
 Ends file blocks = ((m : Inner) × StartsProcesses file blocks m) ⊎ ((fault : BootFault) × Refuses file blocks fault)
 
 -- a file with a first program starts where that can begin
-by_start : (file : List ℕ) (blocks : ℕ) (entries : List (Option ModuleEntry)) (number : ℕ) (entry : ModuleEntry) (began : Result MemoryState MemoryFault) → first_started file blocks entries number entry ≡ began → HasFirst file entries number entry → Ends file blocks
+by_start : (file : List ℕ) (blocks : ℕ) (entries : List (Option ModuleEntry)) (number : ℕ) (entry : ModuleEntry)
+    (began : Result MemoryState MemoryFault) → first_started file blocks entries number entry ≡ began
+    → HasFirst file entries number entry → Ends file blocks
 by_start file blocks entries number entry (Err fault) is has =
     inr (TooLarge, inr (entries, number, entry, has, rw is refl))
 by_start file blocks entries number entry (Ok memory) is has =
@@ -112,7 +125,8 @@ by_room : (file : List ℕ) (blocks : ℕ) (entries : List (Option ModuleEntry))
 by_room file blocks entries number entry has =
     by_start file blocks entries number entry (first_started file blocks entries number entry) refl has
 
-by_first : (file : List ℕ) (blocks : ℕ) (entries : List (Option ModuleEntry)) (first : Option ℕ) → length file ≤ longest_file → EntersBoot file (Ok entries) → first_program entries ≡ first → Ends file blocks
+by_first : (file : List ℕ) (blocks : ℕ) (entries : List (Option ModuleEntry)) (first : Option ℕ)
+    → length file ≤ longest_file → EntersBoot file (Ok entries) → first_program entries ≡ first → Ends file blocks
 by_first file blocks entries None short entering without = inr (NoFirst, (short, (entries, entering, without)))
 by_first file blocks entries (Some number) short entering found_it =
     let first = first_entry entries number found_it in

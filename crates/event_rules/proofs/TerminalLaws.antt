@@ -57,7 +57,8 @@ gains-read request answer old new before now it = record {
     put true broken = ap (λ put. is_some put) broken.echo ∙ observed-with before.put _
     put false whole = ap (λ put. is_some put) whole.echo ∙ observed-with before.put _
 
-gains-write : (process : Pid) (bytes : List ℕ) (count : ℕ) (answer : Progress) (old new : Terminal) (before now : TerminalState) → Writes process bytes count answer old new before now → OnlyGains before now
+gains-write : (process : Pid) (bytes : List ℕ) (count : ℕ) (answer : Progress) (old new : Terminal)
+    (before now : TerminalState) → Writes process bytes count answer old new before now → OnlyGains before now
 gains-write process bytes count answer old new before now it = record {
   keys = ([], sym it.driver.keys);
   faults = gains-faults answer before now it.driver;
@@ -100,7 +101,9 @@ gain-set (terminal ∷ terms) zero old new is gains =
     (subst (λ (t : TerminalState). OnlyGains t new) (sym same) gains, gain-same terms)
 gain-set (terminal ∷ terms) (suc n) old new is gains = (gains-same terminal, gain-set terms n old new is gains)
 
-gain-one : (change : TerminalState → TerminalState → Type 0) (n : ℕ) (before now : List TerminalState) → ((old new : TerminalState) → change old new → OnlyGains old new) → ChangesOneTerminal change n before now → TerminalsOnlyGain before now
+gain-one : (change : TerminalState → TerminalState → Type 0) (n : ℕ) (before now : List TerminalState)
+    → ((old new : TerminalState) → change old new → OnlyGains old new) → ChangesOneTerminal change n before now
+    → TerminalsOnlyGain before now
 gain-one change n before now gains (old, new, found, is, changed) =
     subst (TerminalsOnlyGain before) (sym is) (gain-set before n old new found (gains old new changed))
 
@@ -118,7 +121,9 @@ gain-arrivals tick n (suc count) old new (between, here, later) =
     (gain-arrivals tick (n + 1) count between new later)
 
 -- the keys of so many terminals have arrived, and then those of the next one
-pub gain-broken : (tick count : ℕ) (old new : Desk) (terminal : Terminal) (answer : Arrival) (terms : List TerminalState) → ArrivesFrom tick 0 count old new → ChangesOneTerminal (λ before now. Arrives tick (terminal_at new.io count) terminal before now answer) count new.terms terms → TerminalsOnlyGain old.terms terms
+pub gain-broken : (tick count : ℕ) (old new : Desk) (terminal : Terminal) (answer : Arrival)
+    (terms : List TerminalState) → ArrivesFrom tick 0 count old new → ChangesOneTerminal (λ before now. Arrives tick
+    (terminal_at new.io count) terminal before now answer) count new.terms terms → TerminalsOnlyGain old.terms terms
 gain-broken tick count old new terminal answer terms arrive device =
     gain-then old.terms new.terms terms (gain-arrivals tick 0 count old new arrive)
     (gain-one _ count new.terms terms (λ before now arrives. gains-arrival tick (terminal_at new.io count) terminal before now answer arrives) device)
@@ -133,5 +138,7 @@ gain-does (reads read) caller io effect before after does =
 gain-does (writes write) caller io effect before after does =
     gain-one _ write.terminal before after (λ old new it. gains-write caller.process write.put write.count does.answer (terminal_at io write.terminal) does.new old new it) does.device
 
-pub gain-attempt : (call : IoCall) (m : Inner) (old new : Io) (drives p : ℕ) (result : CallResult) (before after : List TerminalState) → IoAttempts call m old drives p result new before after → TerminalsOnlyGain before after
+pub gain-attempt : (call : IoCall) (m : Inner) (old new : Io) (drives p : ℕ) (result : CallResult)
+    (before after : List TerminalState) → IoAttempts call m old drives p result new before after → TerminalsOnlyGain
+    before after
 gain-attempt call m old new drives p result before after attempt = gain-does _ _ old attempt.effect before after attempt.does

@@ -99,40 +99,206 @@ module _ (m : Inner) where
 module _ (m : Inner) (p : ℕ) where
   -- F$Fork and F$Chain, once the program was read
   abbrev forking : Program → CallResult
-  forking program = needs (free_process m.records) E_PRCFUL (λ child. refuses (nat_lt most_pages program.pages) E_MEMFUL (changes (started m.memory child program.entered.number (blocks_of_pages program.pages)) (λ memory. done (with_regs_of (with_child m p child program memory) p (forked_regs (regs_at m p) child program)))))
+  forking program = needs (free_process m.records) E_PRCFUL (λ child. refuses (nat_lt most_pages program.pages)
+      E_MEMFUL (changes (started m.memory child program.entered.number (blocks_of_pages program.pages))
+      (λ memory. done (with_regs_of (with_child m p child program memory) p (forked_regs (regs_at m p) child
+      program)))))
 
   forking-tick : (program : Program) → KeepsTick m (forking program)
-  forking-tick program = of-needs m (free_process m.records) E_PRCFUL (λ child. refuses (nat_lt most_pages program.pages) E_MEMFUL (changes (started m.memory child program.entered.number (blocks_of_pages program.pages)) (λ memory. done (with_regs_of (with_child m p child program memory) p (forked_regs (regs_at m p) child program))))) (λ child. of-refuses m (nat_lt most_pages program.pages) E_MEMFUL (changes (started m.memory child program.entered.number (blocks_of_pages program.pages)) (λ memory. done (with_regs_of (with_child m p child program memory) p (forked_regs (regs_at m p) child program)))) (of-changes m (started m.memory child program.entered.number (blocks_of_pages program.pages)) (λ memory. done (with_regs_of (with_child m p child program memory) p (forked_regs (regs_at m p) child program))) (λ memory. refl)))
+  forking-tick program = of-needs m (free_process m.records) E_PRCFUL
+      (λ child. refuses (nat_lt most_pages program.pages) E_MEMFUL
+      (changes (started m.memory child program.entered.number (blocks_of_pages program.pages))
+      (λ memory. done (with_regs_of (with_child m p child program memory) p (forked_regs (regs_at m p) child
+      program))))) (λ child. of-refuses m (nat_lt most_pages program.pages) E_MEMFUL
+      (changes (started m.memory child program.entered.number (blocks_of_pages program.pages))
+      (λ memory. done (with_regs_of (with_child m p child program memory) p (forked_regs (regs_at m p) child
+      program)))) (of-changes m (started m.memory child program.entered.number (blocks_of_pages program.pages))
+      (λ memory. done (with_regs_of (with_child m p child program memory) p (forked_regs (regs_at m p) child
+      program))) (λ memory. refl)))
 
   abbrev chaining : Program → CallResult
-  chaining program = refuses (nat_lt most_pages program.pages) E_MEMFUL (changes (started m.memory p program.entered.number (blocks_of_pages program.pages)) (λ memory. done (without_primary_link (begun_anew (with_program m p program memory) p program) (own_at m p))))
+  chaining program = refuses (nat_lt most_pages program.pages) E_MEMFUL
+      (changes (started m.memory p program.entered.number (blocks_of_pages program.pages))
+      (λ memory. done (without_primary_link (begun_anew (with_program m p program memory) p program) (own_at m p))))
 
   chaining-tick : (program : Program) → KeepsTick m (chaining program)
-  chaining-tick program = of-refuses m (nat_lt most_pages program.pages) E_MEMFUL (changes (started m.memory p program.entered.number (blocks_of_pages program.pages)) (λ memory. done (without_primary_link (begun_anew (with_program m p program memory) p program) (own_at m p)))) (of-changes m (started m.memory p program.entered.number (blocks_of_pages program.pages)) (λ memory. done (without_primary_link (begun_anew (with_program m p program memory) p program) (own_at m p))) (λ memory. primary-tick (begun_anew (with_program m p program memory) p program) (own_at m p)))
+  chaining-tick program = of-refuses m (nat_lt most_pages program.pages) E_MEMFUL
+      (changes (started m.memory p program.entered.number (blocks_of_pages program.pages))
+      (λ memory. done (without_primary_link (begun_anew (with_program m p program memory) p program) (own_at m p))))
+      (of-changes m (started m.memory p program.entered.number (blocks_of_pages program.pages))
+      (λ memory. done (without_primary_link (begun_anew (with_program m p program memory) p program) (own_at m p)))
+      (λ memory. primary-tick (begun_anew (with_program m p program memory) p program) (own_at m p)))
 
   f_link-tick : KeepsTick m (f_link m p)
-  f_link-tick = of-name m (name_at (cells_at m p) (regs_at m p).x) E_BNAM (λ name. needs (found_entry m.memory.modules name (regs_at m p).a) E_MNF (λ found. refuses (has_most_links found.entry) E_MEMFUL (needs (mapped_group m.memory p found.entry.group) E_MEMFUL (λ mapped. refuses (nat_le MOST_LINKS (links_at (own_at m p) mapped.slot)) E_MEMFUL (done (after_link m p found mapped (length name))))))) (λ name. of-needs m (found_entry m.memory.modules name (regs_at m p).a) E_MNF (λ found. refuses (has_most_links found.entry) E_MEMFUL (needs (mapped_group m.memory p found.entry.group) E_MEMFUL (λ mapped. refuses (nat_le MOST_LINKS (links_at (own_at m p) mapped.slot)) E_MEMFUL (done (after_link m p found mapped (length name)))))) (λ found. of-refuses m (has_most_links found.entry) E_MEMFUL (needs (mapped_group m.memory p found.entry.group) E_MEMFUL (λ mapped. refuses (nat_le MOST_LINKS (links_at (own_at m p) mapped.slot)) E_MEMFUL (done (after_link m p found mapped (length name))))) (of-needs m (mapped_group m.memory p found.entry.group) E_MEMFUL (λ mapped. refuses (nat_le MOST_LINKS (links_at (own_at m p) mapped.slot)) E_MEMFUL (done (after_link m p found mapped (length name)))) (λ mapped. of-refuses m (nat_le MOST_LINKS (links_at (own_at m p) mapped.slot)) E_MEMFUL (done (after_link m p found mapped (length name))) (refl)))))
+  f_link-tick = of-name m (name_at (cells_at m p) (regs_at m p).x) E_BNAM
+      (λ name. needs (found_entry m.memory.modules name (regs_at m p).a) E_MNF
+      (λ found. refuses (has_most_links found.entry) E_MEMFUL (needs (mapped_group m.memory p found.entry.group)
+      E_MEMFUL (λ mapped. refuses (nat_le MOST_LINKS (links_at (own_at m p) mapped.slot)) E_MEMFUL
+      (done (after_link m p found mapped (length name)))))))
+      (λ name. of-needs m (found_entry m.memory.modules name (regs_at m p).a) E_MNF
+      (λ found. refuses (has_most_links found.entry) E_MEMFUL (needs (mapped_group m.memory p found.entry.group)
+      E_MEMFUL (λ mapped. refuses (nat_le MOST_LINKS (links_at (own_at m p) mapped.slot)) E_MEMFUL
+      (done (after_link m p found mapped (length name)))))) (λ found. of-refuses m (has_most_links found.entry)
+      E_MEMFUL (needs (mapped_group m.memory p found.entry.group) E_MEMFUL
+      (λ mapped. refuses (nat_le MOST_LINKS (links_at (own_at m p) mapped.slot)) E_MEMFUL
+      (done (after_link m p found mapped (length name))))) (of-needs m (mapped_group m.memory p found.entry.group)
+      E_MEMFUL (λ mapped. refuses (nat_le MOST_LINKS (links_at (own_at m p) mapped.slot)) E_MEMFUL
+      (done (after_link m p found mapped (length name))))
+      (λ mapped. of-refuses m (nat_le MOST_LINKS (links_at (own_at m p) mapped.slot)) E_MEMFUL
+      (done (after_link m p found mapped (length name))) (refl)))))
 
   f_unlink-tick : KeepsTick m (f_unlink m p)
   f_unlink-tick = of-needs m (module_at m.memory.modules (map_at m.memory p) (regs_at m p).u) E_MNF (λ found. done (after_unlink m p found)) (λ found. unlink-tick m p found)
 
   f_unload-tick : KeepsTick m (f_unload m p)
-  f_unload-tick = of-name m (name_at (cells_at m p) (regs_at m p).x) E_BNAM (λ name. needs (found_entry m.memory.modules name (regs_at m p).a) E_MNF (λ found. done (without_module_link m found.number))) (λ name. of-needs m (found_entry m.memory.modules name (regs_at m p).a) E_MNF (λ found. done (without_module_link m found.number)) (λ found. refl))
+  f_unload-tick = of-name m (name_at (cells_at m p) (regs_at m p).x) E_BNAM
+      (λ name. needs (found_entry m.memory.modules name (regs_at m p).a) E_MNF
+      (λ found. done (without_module_link m found.number)))
+      (λ name. of-needs m (found_entry m.memory.modules name (regs_at m p).a) E_MNF
+      (λ found. done (without_module_link m found.number)) (λ found. refl))
 
   f_fork-tick : KeepsTick m (f_fork m p)
-  f_fork-tick = of-refuses m (is_unreadable (name_at_x m p)) E_BPADDR (needs (user_bytes (cells_at m p) (regs_at m p).u (regs_at m p).y) E_BPADDR (λ parameters. refuses (not (asks_for_program (regs_at m p).a)) E_NEMOD (needs (module_name (name_at_x m p)) E_BNAM (λ name. needs (found_entry m.memory.modules name (regs_at m p).a) E_MNF (λ found. refuses (not (found.entry.info.kind == program_kind)) E_NEMOD (forking (record { entered = found; pages = area_pages found.entry (regs_at m p).b (length parameters); parameters = parameters; count = length name }))))))) (of-needs m (user_bytes (cells_at m p) (regs_at m p).u (regs_at m p).y) E_BPADDR (λ parameters. refuses (not (asks_for_program (regs_at m p).a)) E_NEMOD (needs (module_name (name_at_x m p)) E_BNAM (λ name. needs (found_entry m.memory.modules name (regs_at m p).a) E_MNF (λ found. refuses (not (found.entry.info.kind == program_kind)) E_NEMOD (forking (record { entered = found; pages = area_pages found.entry (regs_at m p).b (length parameters); parameters = parameters; count = length name })))))) (λ parameters. of-refuses m (not (asks_for_program (regs_at m p).a)) E_NEMOD (needs (module_name (name_at_x m p)) E_BNAM (λ name. needs (found_entry m.memory.modules name (regs_at m p).a) E_MNF (λ found. refuses (not (found.entry.info.kind == program_kind)) E_NEMOD (forking (record { entered = found; pages = area_pages found.entry (regs_at m p).b (length parameters); parameters = parameters; count = length name }))))) (of-needs m (module_name (name_at_x m p)) E_BNAM (λ name. needs (found_entry m.memory.modules name (regs_at m p).a) E_MNF (λ found. refuses (not (found.entry.info.kind == program_kind)) E_NEMOD (forking (record { entered = found; pages = area_pages found.entry (regs_at m p).b (length parameters); parameters = parameters; count = length name })))) (λ name. of-needs m (found_entry m.memory.modules name (regs_at m p).a) E_MNF (λ found. refuses (not (found.entry.info.kind == program_kind)) E_NEMOD (forking (record { entered = found; pages = area_pages found.entry (regs_at m p).b (length parameters); parameters = parameters; count = length name }))) (λ found. of-refuses m (not (found.entry.info.kind == program_kind)) E_NEMOD (forking (record { entered = found; pages = area_pages found.entry (regs_at m p).b (length parameters); parameters = parameters; count = length name })) (forking-tick (record { entered = found; pages = area_pages found.entry (regs_at m p).b (length parameters); parameters = parameters; count = length name })))))))
+  f_fork-tick = of-refuses m (is_unreadable (name_at_x m p)) E_BPADDR
+      (needs (user_bytes (cells_at m p) (regs_at m p).u (regs_at m p).y) E_BPADDR
+      (λ parameters. refuses (not (asks_for_program (regs_at m p).a)) E_NEMOD (needs (module_name (name_at_x m p))
+      E_BNAM (λ name. needs (found_entry m.memory.modules name (regs_at m p).a) E_MNF
+      (λ found. refuses (not (found.entry.info.kind == program_kind)) E_NEMOD
+      (forking (record {
+        entered = found;
+        pages = area_pages found.entry (regs_at m p).b (length parameters);
+        parameters = parameters;
+        count = length name;
+      })))))))
+      (of-needs m (user_bytes (cells_at m p) (regs_at m p).u (regs_at m p).y) E_BPADDR
+      (λ parameters. refuses (not (asks_for_program (regs_at m p).a)) E_NEMOD (needs (module_name (name_at_x m p))
+      E_BNAM (λ name. needs (found_entry m.memory.modules name (regs_at m p).a) E_MNF
+      (λ found. refuses (not (found.entry.info.kind == program_kind)) E_NEMOD
+      (forking (record {
+        entered = found;
+        pages = area_pages found.entry (regs_at m p).b (length parameters);
+        parameters = parameters;
+        count = length name;
+      })))))) (λ parameters. of-refuses m
+      (not (asks_for_program (regs_at m p).a)) E_NEMOD (needs (module_name (name_at_x m p)) E_BNAM
+      (λ name. needs (found_entry m.memory.modules name (regs_at m p).a) E_MNF
+      (λ found. refuses (not (found.entry.info.kind == program_kind)) E_NEMOD
+      (forking (record {
+        entered = found;
+        pages = area_pages found.entry (regs_at m p).b (length parameters);
+        parameters = parameters;
+        count = length name;
+      }))))) (of-needs m (module_name (name_at_x m p)) E_BNAM
+      (λ name. needs (found_entry m.memory.modules name (regs_at m p).a) E_MNF
+      (λ found. refuses (not (found.entry.info.kind == program_kind)) E_NEMOD
+      (forking (record {
+        entered = found;
+        pages = area_pages found.entry (regs_at m p).b (length parameters);
+        parameters = parameters;
+        count = length name;
+      }))))
+      (λ name. of-needs m (found_entry m.memory.modules name (regs_at m p).a) E_MNF
+      (λ found. refuses (not (found.entry.info.kind == program_kind)) E_NEMOD
+      (forking (record {
+        entered = found;
+        pages = area_pages found.entry (regs_at m p).b (length parameters);
+        parameters = parameters;
+        count = length name;
+      })))
+      (λ found. of-refuses m (not (found.entry.info.kind == program_kind)) E_NEMOD
+      (forking (record {
+        entered = found;
+        pages = area_pages found.entry (regs_at m p).b (length parameters);
+        parameters = parameters;
+        count = length name;
+      }))
+      (forking-tick (record {
+        entered = found;
+        pages = area_pages found.entry (regs_at m p).b (length parameters);
+        parameters = parameters;
+        count = length name;
+      })))))))
 
   f_chain-tick : KeepsTick m (f_chain m p)
-  f_chain-tick = of-refuses m (is_unreadable (name_at_x m p)) E_BPADDR (needs (user_bytes (cells_at m p) (regs_at m p).u (regs_at m p).y) E_BPADDR (λ parameters. refuses (not (asks_for_program (regs_at m p).a)) E_NEMOD (needs (module_name (name_at_x m p)) E_BNAM (λ name. needs (found_entry m.memory.modules name (regs_at m p).a) E_MNF (λ found. refuses (not (found.entry.info.kind == program_kind)) E_NEMOD (chaining (record { entered = found; pages = area_pages found.entry (regs_at m p).b (length parameters); parameters = parameters; count = length name }))))))) (of-needs m (user_bytes (cells_at m p) (regs_at m p).u (regs_at m p).y) E_BPADDR (λ parameters. refuses (not (asks_for_program (regs_at m p).a)) E_NEMOD (needs (module_name (name_at_x m p)) E_BNAM (λ name. needs (found_entry m.memory.modules name (regs_at m p).a) E_MNF (λ found. refuses (not (found.entry.info.kind == program_kind)) E_NEMOD (chaining (record { entered = found; pages = area_pages found.entry (regs_at m p).b (length parameters); parameters = parameters; count = length name })))))) (λ parameters. of-refuses m (not (asks_for_program (regs_at m p).a)) E_NEMOD (needs (module_name (name_at_x m p)) E_BNAM (λ name. needs (found_entry m.memory.modules name (regs_at m p).a) E_MNF (λ found. refuses (not (found.entry.info.kind == program_kind)) E_NEMOD (chaining (record { entered = found; pages = area_pages found.entry (regs_at m p).b (length parameters); parameters = parameters; count = length name }))))) (of-needs m (module_name (name_at_x m p)) E_BNAM (λ name. needs (found_entry m.memory.modules name (regs_at m p).a) E_MNF (λ found. refuses (not (found.entry.info.kind == program_kind)) E_NEMOD (chaining (record { entered = found; pages = area_pages found.entry (regs_at m p).b (length parameters); parameters = parameters; count = length name })))) (λ name. of-needs m (found_entry m.memory.modules name (regs_at m p).a) E_MNF (λ found. refuses (not (found.entry.info.kind == program_kind)) E_NEMOD (chaining (record { entered = found; pages = area_pages found.entry (regs_at m p).b (length parameters); parameters = parameters; count = length name }))) (λ found. of-refuses m (not (found.entry.info.kind == program_kind)) E_NEMOD (chaining (record { entered = found; pages = area_pages found.entry (regs_at m p).b (length parameters); parameters = parameters; count = length name })) (chaining-tick (record { entered = found; pages = area_pages found.entry (regs_at m p).b (length parameters); parameters = parameters; count = length name })))))))
+  f_chain-tick = of-refuses m (is_unreadable (name_at_x m p)) E_BPADDR
+      (needs (user_bytes (cells_at m p) (regs_at m p).u (regs_at m p).y) E_BPADDR
+      (λ parameters. refuses (not (asks_for_program (regs_at m p).a)) E_NEMOD (needs (module_name (name_at_x m p))
+      E_BNAM (λ name. needs (found_entry m.memory.modules name (regs_at m p).a) E_MNF
+      (λ found. refuses (not (found.entry.info.kind == program_kind)) E_NEMOD
+      (chaining (record {
+        entered = found;
+        pages = area_pages found.entry (regs_at m p).b (length parameters);
+        parameters = parameters;
+        count = length name;
+      })))))))
+      (of-needs m (user_bytes (cells_at m p) (regs_at m p).u (regs_at m p).y) E_BPADDR
+      (λ parameters. refuses (not (asks_for_program (regs_at m p).a)) E_NEMOD (needs (module_name (name_at_x m p))
+      E_BNAM (λ name. needs (found_entry m.memory.modules name (regs_at m p).a) E_MNF
+      (λ found. refuses (not (found.entry.info.kind == program_kind)) E_NEMOD
+      (chaining (record {
+        entered = found;
+        pages = area_pages found.entry (regs_at m p).b (length parameters);
+        parameters = parameters;
+        count = length name;
+      })))))) (λ parameters. of-refuses m
+      (not (asks_for_program (regs_at m p).a)) E_NEMOD (needs (module_name (name_at_x m p)) E_BNAM
+      (λ name. needs (found_entry m.memory.modules name (regs_at m p).a) E_MNF
+      (λ found. refuses (not (found.entry.info.kind == program_kind)) E_NEMOD
+      (chaining (record {
+        entered = found;
+        pages = area_pages found.entry (regs_at m p).b (length parameters);
+        parameters = parameters;
+        count = length name;
+      }))))) (of-needs m (module_name (name_at_x m p)) E_BNAM
+      (λ name. needs (found_entry m.memory.modules name (regs_at m p).a) E_MNF
+      (λ found. refuses (not (found.entry.info.kind == program_kind)) E_NEMOD
+      (chaining (record {
+        entered = found;
+        pages = area_pages found.entry (regs_at m p).b (length parameters);
+        parameters = parameters;
+        count = length name;
+      }))))
+      (λ name. of-needs m (found_entry m.memory.modules name (regs_at m p).a) E_MNF
+      (λ found. refuses (not (found.entry.info.kind == program_kind)) E_NEMOD
+      (chaining (record {
+        entered = found;
+        pages = area_pages found.entry (regs_at m p).b (length parameters);
+        parameters = parameters;
+        count = length name;
+      })))
+      (λ found. of-refuses m (not (found.entry.info.kind == program_kind)) E_NEMOD
+      (chaining (record {
+        entered = found;
+        pages = area_pages found.entry (regs_at m p).b (length parameters);
+        parameters = parameters;
+        count = length name;
+      }))
+      (chaining-tick (record {
+        entered = found;
+        pages = area_pages found.entry (regs_at m p).b (length parameters);
+        parameters = parameters;
+        count = length name;
+      })))))))
 
   f_crc-tick : KeepsTick m (f_crc m p)
-  f_crc-tick = of-needs m (user_bytes (cells_at m p) (regs_at m p).x (regs_at m p).y) E_BPADDR (λ bytes. needs (user_bytes (cells_at m p) (regs_at m p).u 3) E_BPADDR (λ accumulator. done (with_memory m (stored m.memory p (regs_at m p).u (crc_continued accumulator bytes))))) (λ bytes. of-needs m (user_bytes (cells_at m p) (regs_at m p).u 3) E_BPADDR (λ accumulator. done (with_memory m (stored m.memory p (regs_at m p).u (crc_continued accumulator bytes)))) (λ accumulator. refl))
+  f_crc-tick = of-needs m (user_bytes (cells_at m p) (regs_at m p).x (regs_at m p).y) E_BPADDR
+      (λ bytes. needs (user_bytes (cells_at m p) (regs_at m p).u 3) E_BPADDR
+      (λ accumulator. done (with_memory m (stored m.memory p (regs_at m p).u (crc_continued accumulator bytes)))))
+      (λ bytes. of-needs m (user_bytes (cells_at m p) (regs_at m p).u 3) E_BPADDR
+      (λ accumulator. done (with_memory m (stored m.memory p (regs_at m p).u (crc_continued accumulator bytes))))
+      (λ accumulator. refl))
 
   f_prsnam-tick : KeepsTick m (f_prsnam m p)
-  f_prsnam-tick = of-name m (name_at (cells_at m p) (past_slash (cells_at m p) (regs_at m p).x)) E_BNAM (λ name. needs (user_cell (cells_at m p) (past_slash (cells_at m p) (regs_at m p).x + length name)) E_BPADDR (λ next. done (with_regs_of m p (name_regs (regs_at m p) (past_slash (cells_at m p) (regs_at m p).x) (length name) next)))) (λ name. of-needs m (user_cell (cells_at m p) (past_slash (cells_at m p) (regs_at m p).x + length name)) E_BPADDR (λ next. done (with_regs_of m p (name_regs (regs_at m p) (past_slash (cells_at m p) (regs_at m p).x) (length name) next))) (λ next. refl))
+  f_prsnam-tick = of-name m (name_at (cells_at m p) (past_slash (cells_at m p) (regs_at m p).x)) E_BNAM
+      (λ name. needs (user_cell (cells_at m p) (past_slash (cells_at m p) (regs_at m p).x + length name)) E_BPADDR
+      (λ next. done (with_regs_of m p (name_regs (regs_at m p) (past_slash (cells_at m p) (regs_at m p).x)
+      (length name) next)))) (λ name. of-needs m (user_cell (cells_at m p) (past_slash (cells_at m p) (regs_at m p).x
+      + length name)) E_BPADDR (λ next. done
+      (with_regs_of m p (name_regs (regs_at m p) (past_slash (cells_at m p) (regs_at m p).x) (length name) next)))
+      (λ next. refl))
 
   f_cmpnam-tick : KeepsTick m (f_cmpnam m p)
-  f_cmpnam-tick = of-needs m (same_names (cells_at m p) (regs_at m p).x (regs_at m p).y (regs_at m p).b) E_BPADDR (λ same. refuses (not same) E_BNAM (done (m))) (λ same. of-refuses m (not same) E_BNAM (done (m)) (refl))
+  f_cmpnam-tick = of-needs m (same_names (cells_at m p) (regs_at m p).x (regs_at m p).y (regs_at m p).b) E_BPADDR
+      (λ same. refuses (not same) E_BNAM (done (m))) (λ same. of-refuses m (not same) E_BNAM (done (m)) (refl))
 
   f_sprior-tick : KeepsTick m (f_sprior m p)
   f_sprior-tick = of-refuses m (not (is_reached m.records (user_at m p) (regs_at m p).a)) E_IPRCID (done (with_records m (with_priority m.records (regs_at m p).a (regs_at m p).b))) (refl)
@@ -160,7 +326,10 @@ module _ (m : Inner) (p : ℕ) where
   f_sleep-tick : KeepsTick m (f_sleep m p)
   f_sleep-tick = by_waits (is_waiting (record_at m.records p).life) (may_wake m.tick (own_at m p))
     where
-      by_waits : (waiting wake : Bool) → KeepsTick m (if waiting then (if wake then done (with_regs_of m p (record (regs_at m p) { x = ticks_left m.tick (own_at m p) })) else waits m) else falls_asleep m p)
+      by_waits : (waiting wake : Bool)
+          → KeepsTick m (if waiting then
+          (if wake then done (with_regs_of m p (record (regs_at m p) { x = ticks_left m.tick (own_at m p) })) else
+          waits m) else falls_asleep m p)
       by_waits true true = refl
       by_waits true false = refl
       by_waits false wake = refl

@@ -63,7 +63,9 @@ gain-set (terminal ∷ terms) zero old new is gains =
 gain-set (terminal ∷ terms) (suc n) old new is gains =
     (record { keys = ([], refl); faults = omega arith; observed = refl }, gain-set terms n old new is gains)
 
-gain-one : (change : TerminalState → TerminalState → Type 0) (n : ℕ) (before now : List TerminalState) → ((old new : TerminalState) → change old new → OnlyGains old new) → ChangesOneTerminal change n before now → TerminalsOnlyGain before now
+gain-one : (change : TerminalState → TerminalState → Type 0) (n : ℕ) (before now : List TerminalState)
+    → ((old new : TerminalState) → change old new → OnlyGains old new) → ChangesOneTerminal change n before now
+    → TerminalsOnlyGain before now
 gain-one change n before now gains (old, new, found, is, changed) =
     subst (TerminalsOnlyGain before) (sym is) (gain-set before n old new found (gains old new changed))
 
@@ -91,6 +93,7 @@ event-breaks old before after (s, tied) breaks =
     gains-so old before after s tied (wants-gain it.lacks.step (caller_of s.inner it.p) s.files.io s.terms after.terms it.lacks.wants) it.drives
 
 -- a tick is broken off
-pub tick-breaks : (old : Kernel) (before after : Outside) → Stands old before → ((s : State) → Represents old before s → BreaksTick s after.terms × HoldsVolumes s after.drives) → DevicesGain before after
+pub tick-breaks : (old : Kernel) (before after : Outside) → Stands old before → ((s : State) → Represents old before s
+    → BreaksTick s after.terms × HoldsVolumes s after.drives) → DevicesGain before after
 tick-breaks old before after (s, tied) breaks =
     let it = breaks s tied in gains-so old before after s tied (broken-gains s after.terms it.0) it.1

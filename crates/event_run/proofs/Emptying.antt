@@ -18,7 +18,8 @@ abbrev pub emptied_front : ℕ → List TerminalState → List TerminalState
 emptied_front count terms = terminals_emptied (take count terms) ++ drop count terms
 
 -- one more
-pub empties-more : (n : ℕ) (screens before now : List TerminalState) → n < length screens → before ≡ emptied_front n screens → ChangesOneTerminal IsEmptied n before now → now ≡ emptied_front (n + 1) screens
+pub empties-more : (n : ℕ) (screens before now : List TerminalState) → n < length screens → before ≡ emptied_front n
+    screens → ChangesOneTerminal IsEmptied n before now → now ≡ emptied_front (n + 1) screens
 empties-more n screens before now within so_far (old, new, is, set, took) =
     let here : old ≡ get_or before n old = sym (get_or_from_slice_get before n old old is) in
     set ∙ ap (λ screen. slice_set before n screen) took ∙ map_over_more without_bytes screens before n old within so_far here

@@ -86,13 +86,17 @@ terms-are kernel devices s tied = ap (λ (s : State). s.terms) tied.is
 module _ (old new : Kernel) (before after : Outside) (s t : State) (from : Represents old before s) (to : Represents new after t) where
   pub gains-outside : OnlyGain s t → DevicesGain before after
   gains-outside gained = record {
-    terminals = subst (TerminalsOnlyGain before.terms) (terms-are new after t to) (subst (λ (terms : List TerminalState). TerminalsOnlyGain terms t.terms) (terms-are old before s from) gained.terminals);
+    terminals = subst (TerminalsOnlyGain before.terms) (terms-are new after t to)
+        (subst (λ (terms : List TerminalState). TerminalsOnlyGain terms t.terms) (terms-are old before s from)
+        gained.terminals);
     drives = subst (DrivesOnlyGain (drive_states before.drives)) to.files.drives (subst (λ (drives : List DriveState). DrivesOnlyGain drives t.files.drives) from.files.drives gained.drives);
   }
 
   pub unfailed-inside : Unfailed before after → NoneFailed s t
   unfailed-inside none = record {
-    terminals = subst (AllZip NotFailed s.terms) (sym (terms-are new after t to)) (subst (λ (terms : List TerminalState). AllZip NotFailed terms after.terms) (sym (terms-are old before s from)) none.terminals);
+    terminals = subst (AllZip NotFailed s.terms) (sym (terms-are new after t to))
+        (subst (λ (terms : List TerminalState). AllZip NotFailed terms after.terms)
+        (sym (terms-are old before s from)) none.terminals);
     drives = subst (NoDriveFailed s.files.drives) (sym to.files.drives) (subst (λ (drives : List DriveState). NoDriveFailed drives (drive_states after.drives)) (sym from.files.drives) none.drives);
   }
 

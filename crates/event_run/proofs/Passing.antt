@@ -88,7 +88,9 @@ pub record Passed (left : ℕ) (slices : List ℕ) (s : State) (states : List St
   pub drives : t.files.drives ≡ s.files.drives
 
 module _ (slices : List ℕ) (final : State) where
-  event-passed : (left : ℕ) (s t : State) (states : List State) (count : ℕ) (end : EventEnd) → cost s ≡ count → HasNoVolumes s → ContinuesIn left slices s states final → NoneFailed s final → Event s end t → NoneFailed s t → Passed left slices s states final count 1 end t
+  event-passed : (left : ℕ) (s t : State) (states : List State) (count : ℕ) (end : EventEnd) → cost s ≡ count
+      → HasNoVolumes s → ContinuesIn left slices s states final → NoneFailed s final → Event s end t → NoneFailed s t
+      → Passed left slices s states final count 1 end t
   event-passed left s t states count end costs bare it faultless event none =
       let step : Stepped (left - cost s) slices t end states final = stepped left slices s states final bare it faultless t end event none in
       let so : Stepped (left - count) slices t end states final = subst (λ n. Stepped (left - n) slices t end states final) costs step in
@@ -106,7 +108,10 @@ module _ (slices : List ℕ) (final : State) where
       }
 
   -- one instruction before others
-  more-passed : (left : ℕ) (s m t : State) (states : List State) (count : ℕ) (end : EventEnd) → cost s ≡ 1 → (event : Event s EventEnd.Ran m) → NoneFailed s m → (step : Stepped (left - cost s) slices m EventEnd.Ran states final) → Passed (left - cost s) slices m step.later final count count end t → Passed left slices s states final (count + 1) (count + 1) end t
+  more-passed : (left : ℕ) (s m t : State) (states : List State) (count : ℕ) (end : EventEnd) → cost s ≡ 1
+      → (event : Event s EventEnd.Ran m) → NoneFailed s m → (step : Stepped (left - cost s) slices m EventEnd.Ran
+      states final) → Passed (left - cost s) slices m step.later final count count end t → Passed left slices s states
+      final (count + 1) (count + 1) end t
   more-passed left s m t states count end one event none step rest =
       let left_is : left - cost s - count ≡ left - (count + 1) = omega (arith, one) in
       record {
@@ -122,7 +127,9 @@ module _ (slices : List ℕ) (final : State) where
         drives = rest.drives ∙ event-drives s m EventEnd.Ran event none;
       }
 
-  instructions-passed : {s t : State} {end : EventEnd} {count : ℕ} → Instructions s count end t → (left : ℕ) (states : List State) → count ≤ left → HasNoVolumes s → ContinuesIn left slices s states final → NoneFailed s final → NoneFailed s t → Passed left slices s states final count count end t
+  instructions-passed : {s t : State} {end : EventEnd} {count : ℕ} → Instructions s count end t
+      → (left : ℕ) (states : List State) → count ≤ left → HasNoVolumes s → ContinuesIn left slices s states final
+      → NoneFailed s final → NoneFailed s t → Passed left slices s states final count count end t
   instructions-passed (last {s = s} {t = t} {end = end} one event) left states few bare it faultless none =
       event-passed left s t states 1 end one bare it faultless event none
   instructions-passed (more {count = count} {s = s} {m = m} {t = t} {end = end} one event rest) left states few bare it faultless none =
@@ -134,7 +141,10 @@ module _ (slices : List ℕ) (final : State) where
       more-passed left s m t states count end one event none_here step
       (instructions-passed rest (left - cost s) step.later (omega (arith, one, few)) (event-bare s m EventEnd.Ran event bare) goes step.faultless (none-then s m t gained onward none))
 
-  pub turn-passed : (left : ℕ) (s t : State) (states : List State) (count events : ℕ) (end : EventEnd) → IsTurn s count end t → (0 < count → events ≡ count) → (count ≡ 0 → events ≡ 1) → count ≤ left → HasNoVolumes s → ContinuesIn left slices s states final → NoneFailed s final → NoneFailed s t → Passed left slices s states final count events end t
+  pub turn-passed : (left : ℕ) (s t : State) (states : List State) (count events : ℕ) (end : EventEnd)
+      → IsTurn s count end t → (0 < count → events ≡ count) → (count ≡ 0 → events ≡ 1) → count ≤ left → HasNoVolumes s
+      → ContinuesIn left slices s states final → NoneFailed s final → NoneFailed s t → Passed left slices s states
+      final count events end t
   turn-passed left s t states count events end (inl (no_count, free, event)) many one few bare it faultless none =
       subst (λ n. Passed left slices s states final count n end t) (sym (one no_count)) (event-passed left s t states count end (free ∙ sym no_count) bare it faultless event none)
   turn-passed left s t states count events end (inr done) many one few bare it faultless none =

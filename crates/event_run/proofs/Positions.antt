@@ -87,7 +87,8 @@ next-below (m ∷ slices) (suc k) n is = omega (arith, next-below slices k n is)
 -- ---- devices
 
 -- the kernel represents the state with terminals without bytes, where these were taken
-pub represents-taken : (kernel : Kernel) (mid now : Outside) (t : State) → now.drives ≡ mid.drives → now.terms ≡ terminals_emptied mid.terms → Represents kernel mid t → Represents kernel now (emptied t)
+pub represents-taken : (kernel : Kernel) (mid now : Outside) (t : State) → now.drives ≡ mid.drives
+    → now.terms ≡ terminals_emptied mid.terms → Represents kernel mid t → Represents kernel now (emptied t)
 represents-taken kernel mid now t drives terms tied =
     let taken : Outside = record mid { terms = terminals_emptied mid.terms } in
     let is : taken ≡ now = λ i. record { drives = sym drives i; terms = sym terms i } in
@@ -159,7 +160,9 @@ module _ (old : Position) (kernel : Kernel) (before mid : Outside) (count events
     shown-is = sym (ap shown there ∙ ap (λ who. unwrap_or who first_process.0) (behind-it.chosen ∙ chosen-is at.s at.represents))
 
     -- the position behind it, where the kernel represents what looks like its state
-    behind-at : (slice : ℕ) (after : Outside) (u : State) → Represents kernel after u → HasNoVolumes u → NoneFailed u last → LooksAlike t u → u.files.drives ≡ t.files.drives → Remains slices (behind slice) u behind-it.later last → IsAt course last slices (behind slice) after
+    behind-at : (slice : ℕ) (after : Outside) (u : State) → Represents kernel after u → HasNoVolumes u
+        → NoneFailed u last → LooksAlike t u → u.files.drives ≡ t.files.drives → Remains slices (behind slice) u
+        behind-it.later last → IsAt course last slices (behind slice) after
     behind-at slice after u tied bare faultless looks drives rest = record {
       s = u;
       represents = tied;
@@ -186,7 +189,9 @@ module _ (old : Position) (kernel : Kernel) (before mid : Outside) (count events
       (subst (λ rest. ContinuesIn (old.slice - executed old.kernel - count) rest t it.later last) (slices-are slices course last at t turn none) goes) in
       behind-at slices course last at t turn none old.slice mid t tied it.bare it.faultless (looks-same t) refl (inr goes_so)
 
-  pub stays-over : (slices : List ℕ) → (end ≡ EventEnd.Ran → old.slice ≤ executed kernel) → (after : Outside) → after.drives ≡ mid.drives → after.terms ≡ terminals_emptied mid.terms → StaysIn slices old (behind 0) before after
+  pub stays-over : (slices : List ℕ) → (end ≡ EventEnd.Ran → old.slice ≤ executed kernel) → (after : Outside)
+      → after.drives ≡ mid.drives → after.terms ≡ terminals_emptied mid.terms → StaysIn slices old (behind 0) before
+      after
   stays-over slices no_more after drives terms course last at unfailed =
       let (t, turn, tied) = steps at.s at.represents in
       let taken = represents-taken kernel mid after t drives terms tied in
@@ -239,7 +244,9 @@ module _ (old : Position) (kernel : Kernel) (before mid : Outside) (count events
       few = events-within;
     }
 
-    pub had-over : (end ≡ EventEnd.Ran → old.slice ≤ executed kernel) → Stands old.kernel before → (after : Outside) → after.drives ≡ mid.drives → after.terms ≡ terminals_emptied mid.terms → HasEvents k old (behind 0) (Ok tt) before after
+    pub had-over : (end ≡ EventEnd.Ran → old.slice ≤ executed kernel) → Stands old.kernel before → (after : Outside)
+        → after.drives ≡ mid.drives → after.terms ≡ terminals_emptied mid.terms → HasEvents k old (behind 0) (Ok tt)
+        before after
     had-over no_more stands after drives terms = record {
       goes_on = λ slices can. record {
         stands = taken-stands kernel mid after drives terms (turn-stands stands);
@@ -268,7 +275,9 @@ module _ (n : ℕ) (old : Position) (kernel : Kernel) (before mid : Outside)
   begin-gains s ticked t ticks chooses =
       gain-two s ticked t (tick-gains s ticked ticks) (subst (OnlyGain ticked) (sym chooses) (record { terminals = gain-same ticked.terms; drives = drives-same ticked.files.drives }))
 
-  module _ (slices : List ℕ) (course : Course) (last : State) (at : IsAt course last slices old before) (starts : BeginsWith n slices old before) (ticked t : State) (ticks-on : Tick at.s ticked) (chooses : Choose ticked t) (none : NoneFailed at.s t) where
+  module _ (slices : List ℕ) (course : Course) (last : State) (at : IsAt course last slices old before)
+      (starts : BeginsWith n slices old before) (ticked t : State) (ticks-on : Tick at.s ticked)
+      (chooses : Choose ticked t) (none : NoneFailed at.s t) where
     cont : Continues (slices_left slices old) at.s at.later last
     cont = by_rest at.rest
       where
@@ -282,9 +291,13 @@ module _ (n : ℕ) (old : Position) (kernel : Kernel) (before mid : Outside)
     then-left : Opened n (drop (ticks kernel) slices) t at.later last
     then-left =
         let dropped : slices_left slices old ≡ n ∷ drop (ticks kernel) slices = drop-next slices (ticks old.kernel) n starts.next ∙ ap (λ k. n ∷ drop k slices) (sym next) in
-        opened n (drop (ticks kernel) slices) at.s at.later last (starts.lives at.s at.represents) (subst (λ rest. Continues rest at.s at.later last) dropped cont) at.faultless ticked t ticks-on chooses none-ticked
+        opened n (drop (ticks kernel) slices) at.s at.later last (starts.lives at.s at.represents)
+        (subst (λ rest. Continues rest at.s at.later last) dropped cont) at.faultless ticked t ticks-on chooses
+        none-ticked
 
-    begun-at : (slice : ℕ) (after : Outside) (u : State) → Represents kernel after u → HasNoVolumes u → NoneFailed u last → LooksAlike t u → u.files.drives ≡ t.files.drives → Remains slices (begun slice) u at.later last → IsAt course last slices (begun slice) after
+    begun-at : (slice : ℕ) (after : Outside) (u : State) → Represents kernel after u → HasNoVolumes u
+        → NoneFailed u last → LooksAlike t u → u.files.drives ≡ t.files.drives → Remains slices (begun slice) u
+        at.later last → IsAt course last slices (begun slice) after
     begun-at slice after u tied bare faultless looks drives rest = record {
       s = u;
       represents = tied;
@@ -303,7 +316,8 @@ module _ (n : ℕ) (old : Position) (kernel : Kernel) (before mid : Outside)
     bare-then : HasNoVolumes t
     bare-then = choice-bare ticked t chooses (tick-bare at.s ticked ticks-on at.bare)
 
-  pub begins-in : (slices : List ℕ) (p : ℕ) → ((s : State) → Represents kernel mid s → s.chosen ≡ Some p) → 0 < n → executed kernel ≡ 0 → BeginsWith n slices old before → StaysIn slices old (begun n) before mid
+  pub begins-in : (slices : List ℕ) (p : ℕ) → ((s : State) → Represents kernel mid s → s.chosen ≡ Some p) → 0 < n
+      → executed kernel ≡ 0 → BeginsWith n slices old before → StaysIn slices old (begun n) before mid
   begins-in slices p chosen some fresh starts course last at unfailed =
       let (ticked, t, ticks-on, chooses, tied) = steps at.s at.represents in
       let none : NoneFailed at.s t = unfailed-inside old.kernel kernel before mid at.s t at.represents tied unfailed in
@@ -313,7 +327,9 @@ module _ (n : ℕ) (old : Position) (kernel : Kernel) (before mid : Outside)
       begun-at slices course last at starts ticked t ticks-on chooses none n mid t tied (bare-then slices course last at starts ticked t ticks-on chooses none) it.faultless (looks-same t) refl
       (inr (subst (λ k. ContinuesIn k (drop (ticks kernel) slices) t at.later last) left_is goes))
 
-  pub begins-idle : (slices : List ℕ) → ((s : State) → Represents kernel mid s → (s.chosen ≡ None) ⊎ (n ≡ 0)) → (after : Outside) → after.drives ≡ mid.drives → after.terms ≡ terminals_emptied mid.terms → BeginsWith n slices old before → StaysIn slices old (begun old.slice) before after
+  pub begins-idle : (slices : List ℕ) → ((s : State) → Represents kernel mid s → (s.chosen ≡ None) ⊎ (n ≡ 0))
+      → (after : Outside) → after.drives ≡ mid.drives → after.terms ≡ terminals_emptied mid.terms
+      → BeginsWith n slices old before → StaysIn slices old (begun old.slice) before after
   begins-idle slices nobody after drives terms starts course last at unfailed =
       let (ticked, t, ticks-on, chooses, tied) = steps at.s at.represents in
       let taken = represents-taken kernel mid after t drives terms tied in
@@ -323,7 +339,9 @@ module _ (n : ℕ) (old : Position) (kernel : Kernel) (before mid : Outside)
       let it = then-left slices course last at starts ticked t ticks-on chooses none in
       let rest : Continues (drop (ticks kernel) slices) (emptied t) at.later last = it.idle (nobody t tied) in
       let faultless : NoneFailed (emptied t) last = none-then t (emptied t) last (emptied-gains t) (continues-gain (drop (ticks kernel) slices) (emptied t) at.later last rest) it.faultless in
-      begun-at slices course last at starts ticked t ticks-on chooses none old.slice after (emptied t) taken (bare-then slices course last at starts ticked t ticks-on chooses none) faultless (emptied-looks t) refl (inl (between, rest))
+      begun-at slices course last at starts ticked t ticks-on chooses none old.slice after (emptied t) taken
+      (bare-then slices course last at starts ticked t ticks-on chooses none) faultless (emptied-looks t) refl
+      (inl (between, rest))
 
   pub begin-gained : Stands old.kernel before → DevicesGain before mid
   begin-gained (s, tied) =
@@ -333,7 +351,8 @@ module _ (n : ℕ) (old : Position) (kernel : Kernel) (before mid : Outside)
   begin-stands (s, tied) = let (ticked, t, ticks-on, chooses, there) = steps s tied in (t, there)
 
   -- a slice in which a process is Ready, and one that is over at once
-  pub begun-in : (p : ℕ) → ((s : State) → Represents kernel mid s → s.chosen ≡ Some p) → 0 < n → executed kernel ≡ 0 → IsGoing kernel → Stands old.kernel before → HasBegun n old (begun n) (Ok AnEvent) before mid
+  pub begun-in : (p : ℕ) → ((s : State) → Represents kernel mid s → s.chosen ≡ Some p) → 0 < n → executed kernel ≡ 0
+      → IsGoing kernel → Stands old.kernel before → HasBegun n old (begun n) (Ok AnEvent) before mid
   begun-in p chosen some fresh going stands = record {
     goes_on = λ slices starts can. record {
       stands = begin-stands stands;
@@ -351,7 +370,9 @@ module _ (n : ℕ) (old : Position) (kernel : Kernel) (before mid : Outside)
     events = refl;
   }
 
-  pub begun-idle : ((s : State) → Represents kernel mid s → (s.chosen ≡ None) ⊎ (n ≡ 0)) → Stands old.kernel before → (after : Outside) → after.drives ≡ mid.drives → after.terms ≡ terminals_emptied mid.terms → HasBegun n old (begun old.slice) (Ok End) before after
+  pub begun-idle : ((s : State) → Represents kernel mid s → (s.chosen ≡ None) ⊎ (n ≡ 0)) → Stands old.kernel before
+      → (after : Outside) → after.drives ≡ mid.drives → after.terms ≡ terminals_emptied mid.terms
+      → HasBegun n old (begun old.slice) (Ok End) before after
   begun-idle nobody stands after drives terms = record {
     goes_on = λ slices starts can. record {
       stands = taken-stands kernel mid after drives terms (begin-stands stands);
@@ -380,7 +401,8 @@ module _ (slices : List ℕ) (position : Position) (devices : Outside) (between 
       by_rest (inr it) = absurd (omega (arith, it.some, between))
 
   -- nobody lives
-  pub last-idle : ((s : State) → Represents position.kernel devices s → living_count s.inner ≡ 0) → (course : Course) (last : State) → IsAt course last slices position devices → last_of course ≡ position.events
+  pub last-idle : ((s : State) → Represents position.kernel devices s → living_count s.inner ≡ 0) → (course : Course)
+      (last : State) → IsAt course last slices position devices → last_of course ≡ position.events
   last-idle nobody course last at =
       last-here course at.past at.later position.events at.count at.all
       (ends-idle (slices_left slices position) at.s at.later last (none-living at.s (nobody at.s at.represents)) (continues course last at))
@@ -402,7 +424,9 @@ module _ (course : Course) (last : State) (slices : List ℕ) (position : Positi
   regs-shown result is =
       is at.s at.represents ∙ at.looks.regs position.process.0 ∙ ap (λ p. living_regs here.inner p) at.process
 
-  pub byte-shown : (address : ℕ) (result : Option ℕ) → address < 65536 → ((s : State) → Represents position.kernel devices s → result ≡ user_cell (cells_at s.inner position.process.0) address) → result ≡ shown_cells here address
+  pub byte-shown : (address : ℕ) (result : Option ℕ) → address < 65536
+      → ((s : State) → Represents position.kernel devices s → result ≡ user_cell (cells_at s.inner position.process.0)
+      address) → result ≡ shown_cells here address
   byte-shown address result within is =
       is at.s at.represents
       ∙ (rw (lt-ltb address 65536 within) refl)
@@ -425,7 +449,9 @@ module _ (kernel : Kernel) (fresh : ticks kernel ≡ 0) where
     numbered = omega arith;
   }
 
-  pub start-at : (boot : Boot) (slices : List ℕ) (course : Course) (devices : Outside) → boot.images ≡ [] → (is : IsCourse boot slices course) → Represents kernel devices course.start → IsAt course is.last slices first_position devices
+  pub start-at : (boot : Boot) (slices : List ℕ) (course : Course) (devices : Outside) → boot.images ≡ []
+      → (is : IsCourse boot slices course) → Represents kernel devices course.start → IsAt course is.last slices
+      first_position devices
   start-at boot slices course devices none is tied = record {
     s = course.start;
     represents = tied;
@@ -466,11 +492,16 @@ stays-then slices a b c x y z one two first next course last at none =
     next course last (first course last at (unfailed-first x y z one two none)) (unfailed-then x y z one two none)
 
 -- the position that was reached is the last one
-pub last-then : (slices : List ℕ) (a b : Position) (x y : Outside) → b.events ≡ a.events → StaysIn slices a b x y → ((course : Course) (last : State) → IsAt course last slices b y → last_of course ≡ b.events) → IsLast slices a x y
+pub last-then : (slices : List ℕ) (a b : Position) (x y : Outside) → b.events ≡ a.events → StaysIn slices a b x y
+    → ((course : Course) (last : State) → IsAt course last slices b y → last_of course ≡ b.events) → IsLast slices a x
+    y
 last-then slices a b x y same first ends course last at none = ends course last (first course last at none) ∙ same
 
 -- the next slice is the one at this place
-pub begins-with : (n : ℕ) (slices : List ℕ) (position : Position) (devices : Outside) (index : ℕ) → ticks position.kernel ≡ index → slice_get slices index ≡ Some n → ((s : State) → Represents position.kernel devices s → living_count s.inner ≢ 0) → BeginsWith n slices position devices
+pub begins-with : (n : ℕ) (slices : List ℕ) (position : Position) (devices : Outside) (index : ℕ)
+    → ticks position.kernel ≡ index → slice_get slices index ≡ Some n
+    → ((s : State) → Represents position.kernel devices s → living_count s.inner ≢ 0) → BeginsWith n slices position
+    devices
 begins-with n slices position devices index at is some = record {
   next = ap (slice_get slices) at ∙ is;
   lives = λ s tied. some-living s (some s tied);
@@ -491,7 +522,8 @@ pub record FoundSoFar (slices : List ℕ) (old : Position) (index : ℕ) (now : 
   pub stays : StaysIn slices old now before after
   pub events : now.events ≡ old.events
 
-pub found-start : (slices : List ℕ) (old : Position) (index : ℕ) (before : Outside) → ticks old.kernel ≡ index → CanGoOn slices old before → old.slice ≡ 0 → FoundSoFar slices old index old before before
+pub found-start : (slices : List ℕ) (old : Position) (index : ℕ) (before : Outside) → ticks old.kernel ≡ index
+    → CanGoOn slices old before → old.slice ≡ 0 → FoundSoFar slices old index old before before
 found-start slices old index before begun can between = record {
   goes_on = can;
   between = between;
@@ -523,7 +555,8 @@ module _ (slices : List ℕ) (old : Position) (index : ℕ) (now : Position) (be
   }
 
   -- memory was out
-  pub found-broken : (n : ℕ) (next : Position) (then : Outside) (fault : OutOfMemory) {told : OutOfMemory} → HasBegun n now next (Err fault) after then → HasFound slices old next (Err told) before then
+  pub found-broken : (n : ℕ) (next : Position) (then : Outside) (fault : OutOfMemory) {told : OutOfMemory}
+      → HasBegun n now next (Err fault) after then → HasFound slices old next (Err told) before then
   found-broken n next then fault begun = record {
     goes_on = tt;
     gains = devices-gain before after then so_far.gains begun.gains;
@@ -574,7 +607,8 @@ gone-start k slices old before can within =
 
 module _ (k : ℕ) (slices : List ℕ) (old now : Position) (before after : Outside) (so_far : GoneSoFar k slices old now before after) where
   -- a slice with an event was found, and a turn was had in it
-  pub gone-more : (mid next : Position) (between then : Outside) → HasFound slices now mid (Ok AnEvent) after between → HasEvents k mid next (Ok tt) between then → GoneSoFar k slices old next before then
+  pub gone-more : (mid next : Position) (between then : Outside) → HasFound slices now mid (Ok AnEvent) after between
+      → HasEvents k mid next (Ok tt) between then → GoneSoFar k slices old next before then
   gone-more mid next between then found had = record {
     goes_on = had.goes_on slices found.goes_on;
     gains = devices-gain before after then so_far.gains (devices-gain after between then found.gains had.gains);

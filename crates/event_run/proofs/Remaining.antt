@@ -100,7 +100,9 @@ module _ (slices : List ℕ) (m : State) (later : List State) (last : State) (re
       let at : Stepped (left - cost s) slices t other (u ∷ (us ++ later)) last = subst (λ (u' : State). Stepped (left - cost s) slices u' other (u ∷ (us ++ later)) last) (sym same.last) there in
       subst (λ (e : EventEnd). Stepped (left - cost s) slices t e (u ∷ (us ++ later)) last) (sym same.ends) at
 
-pub stepped : (left : ℕ) (slices : List ℕ) (s : State) (states : List State) (last : State) → HasNoVolumes s → ContinuesIn left slices s states last → NoneFailed s last → (t : State) (end : EventEnd) → Event s end t → NoneFailed s t
+pub stepped : (left : ℕ) (slices : List ℕ) (s : State) (states : List State) (last : State) → HasNoVolumes s
+    → ContinuesIn left slices s states last → NoneFailed s last → (t : State) (end : EventEnd) → Event s end t
+    → NoneFailed s t
     → Stepped (left - cost s) slices t end states last
 stepped left slices s states last bare it faultless t end event none =
     subst (λ (states : List State). Stepped (left - cost s) slices t end states last) (sym it.all)
@@ -151,13 +153,19 @@ module _ (n : ℕ) (slices : List ℕ) (m : State) (later : List State) (last : 
       by_reason (inl none) = absurd (none-some p (sym none ∙ is))
       by_reason (inr none) = let gone = steps-over n t first m none steps in over-then slices m later last rest t first gone.0 gone.1
 
-  opened-slice : (s : State) (first : List State) (end : SliceEnd) → Slice n s first end m → NoneFailed s last → (ticked t : State) → Tick s ticked → Choose ticked t → NoneFailed s ticked → Opened n slices t (first ++ later) last
+  opened-slice : (s : State) (first : List State) (end : SliceEnd) → Slice n s first end m → NoneFailed s last
+      → (ticked t : State) → Tick s ticked → Choose ticked t → NoneFailed s ticked → Opened n slices t
+      (first ++ later) last
   opened-slice s first end (ticked_too, chosen, ticks_too, chooses_too, events) faultless ticked t ticks chooses none =
       let events_so : Begun n (begun ticked_too) (begun ticked_too).chosen first end m = subst (λ (chosen : State). Begun n chosen chosen.chosen first end m) chooses_too events in
       let gained : OnlyGain s ticked_too = tick-gains s ticked_too ticks_too in
-      let to_last : OnlyGain ticked_too last = choice-gain ticked_too last (gain-two (begun ticked_too) m last (begun-gain n (begun ticked_too) (begun ticked_too).chosen first end m events_so) (over-gain slices m later last rest)) in
+      let to_last : OnlyGain ticked_too last = choice-gain ticked_too last (gain-two (begun ticked_too) m last
+      (begun-gain n (begun ticked_too) (begun ticked_too).chosen first end m events_so)
+      (over-gain slices m later last rest)) in
       let same : ticked ≡ ticked_too = tick-one s ticked ticked_too ticks ticks_too none (none-first s ticked_too last gained to_last faultless) in
-      let there : Opened n slices (begun ticked_too) (first ++ later) last = opened-as (begun ticked_too) first end (begun ticked_too).chosen refl events_so (choice-none ticked_too last (none-then s ticked_too last gained to_last faultless)) in
+      let there : Opened n slices (begun ticked_too) (first ++ later) last = opened-as (begun ticked_too) first end
+      (begun ticked_too).chosen refl events_so (choice-none ticked_too last (none-then s ticked_too last gained
+      to_last faultless)) in
       let is : t ≡ begun ticked_too = chooses ∙ ap begun same in
       subst (λ (t : State). Opened n slices t (first ++ later) last) (sym is) there
 
@@ -166,14 +174,17 @@ Goes n slices s states written last =
     (end : SliceEnd) × (m : State) × (first later : List State) × (rest : List ℕ) × Slice n s first end m
     × (states ≡ first ++ later) × (written ≡ console_bytes m.terms ++ rest) × Run slices (record m { terms = terminals_emptied m.terms }) later rest last
 
-goes-on : (n : ℕ) (slices : List ℕ) (s : State) (states : List State) (written : List ℕ) (last : State) → has_living s ≡ true → Run (n ∷ slices) s states written last → Goes n slices s states written last
+goes-on : (n : ℕ) (slices : List ℕ) (s : State) (states : List State) (written : List ℕ) (last : State)
+    → has_living s ≡ true → Run (n ∷ slices) s states written last → Goes n slices s states written last
 goes-on n slices s states written last lives run = by_living (has_living s) lives run
   where
     by_living : (living : Bool) → living ≡ true → MatchBool living (Goes n slices s states written last) ((states ≡ []) × (written ≡ []) × (last ≡ s)) → Goes n slices s states written last
     by_living true is goes = goes
     by_living false is over = absurd (cc)
 
-pub opened : (n : ℕ) (slices : List ℕ) (s : State) (states : List State) (last : State) → has_living s ≡ true → Continues (n ∷ slices) s states last → NoneFailed s last → (ticked t : State) → Tick s ticked → Choose ticked t → NoneFailed s ticked
+pub opened : (n : ℕ) (slices : List ℕ) (s : State) (states : List State) (last : State) → has_living s ≡ true
+    → Continues (n ∷ slices) s states last → NoneFailed s last → (ticked t : State) → Tick s ticked → Choose ticked t
+    → NoneFailed s ticked
     → Opened n slices t states last
 opened n slices s states last lives (written, run) faultless ticked t ticks chooses none =
     let (end, m, first, later, rest, slice, all, put, after) = goes-on n slices s states written last lives run in

@@ -49,13 +49,20 @@ abbrev pub some-terms : ℕ → List TerminalState
 some-terms n = replicate n unused_terminal
 
 -- so none was wanting where all attempts come to something
-pub never-memory : (most : Asker → Files → ℕ → ℕ) (call : PathCall) (now : TimePacket) (p : ℕ) (end : CallEnd) (terms terms_after : List TerminalState) (old processes : ProcState) (state new : FileState) (views later : List DriveView) → IsSound state views → AttemptsWithin most call now p end terms terms_after (record { processes = old; files = state; views = views }) (record { processes = processes; files = new; views = later }) → end ≢ NoMemory
+pub never-memory : (most : Asker → Files → ℕ → ℕ) (call : PathCall) (now : TimePacket) (p : ℕ) (end : CallEnd)
+    (terms terms_after : List TerminalState) (old processes : ProcState) (state new : FileState)
+    (views later : List DriveView) → IsSound state views → AttemptsWithin most call now p end terms terms_after
+    (record { processes = old; files = state; views = views })
+    (record { processes = processes; files = new; views = later }) → end ≢ NoMemory
 never-memory most call now p end terms terms_after old processes state new views later sound attempts =
     let (m, tied) = some-machine old in
     let it = attempts m sound.files tied sound.stands sound.kinds in
     not-memory m p it.attempts.result end processes it.attempts.comes
 
-pub tries-of : (call : PathCall) (m : Inner) (files : Files) (now : TimePacket) (p : ℕ) (end : CallEnd) (terms terms_after : List TerminalState) (before after : Standing) → AttemptsIn (attempt_calls call (asker_of m p now) files (length terms)) call m files now p end terms terms_after before after → Tries call m files now p end terms terms_after before after
+pub tries-of : (call : PathCall) (m : Inner) (files : Files) (now : TimePacket) (p : ℕ) (end : CallEnd)
+    (terms terms_after : List TerminalState) (before after : Standing)
+    → AttemptsIn (attempt_calls call (asker_of m p now) files (length terms)) call m files now p end terms terms_after
+    before after → Tries call m files now p end terms terms_after before after
 tries-of call m files now p end terms terms_after before after it = record {
   attempted = λ differ. it;
   memory = λ is. absurd (not-memory m p it.attempts.result end after.processes it.attempts.comes is);
@@ -63,7 +70,12 @@ tries-of call m files now p end terms terms_after before after it = record {
 
 module _ (call : PathCall) (m : Inner) (files : Files) (now : TimePacket) (p : ℕ) (end : CallEnd) (processes : ProcState) where
   -- no drive is called where the step is one of terminals and pipes
-  pub uncalled-in : (most : ℕ) (step : IoStep) (old : ProcState) (state new : FileState) (views : List DriveView) (terms terms_after : List TerminalState) → deed_of (file_step call (asker_of m p now) files (length terms)) files ≡ as_io step → Attempts call m files now p end processes new views terms terms_after → AttemptsIn most call m files now p end terms terms_after (record { processes = old; files = state; views = views }) (record { processes = processes; files = new; views = views })
+  pub uncalled-in : (most : ℕ) (step : IoStep) (old : ProcState) (state new : FileState) (views : List DriveView)
+      (terms terms_after : List TerminalState) → deed_of (file_step call (asker_of m p now) files (length terms))
+      files ≡ as_io step → Attempts call m files now p end processes new views terms terms_after
+      → AttemptsIn most call m files now p end terms terms_after
+      (record { processes = old; files = state; views = views })
+      (record { processes = processes; files = new; views = views })
   uncalled-in most step old state new views terms terms_after on attempts = record {
     attempts = attempts;
     calls = called-more 0 (calls_of (file_step call (asker_of m p now) files (length terms)) most) views views (omega arith) (called-none views);
@@ -72,7 +84,10 @@ module _ (call : PathCall) (m : Inner) (files : Files) (now : TimePacket) (p : �
 
   -- what a step of a call on terminals and pipes comes to
   module _ (state : FileState) (io : Io) (views : List DriveView) (before after : List TerminalState) (stands : StandsFor state views files) where
-    pub lifts-step : (step : IoStep) (effect : IoEffect) → deed_of (file_step call (asker_of m p now) files (length before)) files ≡ as_io step → Does step (caller_of m p) files.io effect before after → Comes m p (result_of m p effect) end processes → io ≡ io_after p effect → Attempts call m files now p end processes (record { io = io; disks = state.disks; directories = state.directories }) views before after
+    pub lifts-step : (step : IoStep) (effect : IoEffect) → deed_of (file_step call (asker_of m p now) files
+        (length before)) files ≡ as_io step → Does step (caller_of m p) files.io effect before after
+        → Comes m p (result_of m p effect) end processes → io ≡ io_after p effect → Attempts call m files now p end
+        processes (record { io = io; disks = state.disks; directories = state.directories }) views before after
     lifts-step step effect on does told io_is =
         let lifted : FileEffect = on_files files effect in
         record {
@@ -90,9 +105,13 @@ module _ (call : PathCall) (m : Inner) (files : Files) (now : TimePacket) (p : �
 
     -- a call on terminals and pipes
     module _ (device : IoCall) (drives : ℕ) (on : IsOnDevice call device m files now p drives before) where
-      pub lifts : AttemptsOnDevice device m state.io drives p end processes io before after → Attempts call m files now p end processes (record { io = io; disks = state.disks; directories = state.directories }) views before after
+      pub lifts : AttemptsOnDevice device m state.io drives p end processes io before after → Attempts call m files
+          now p end processes (record { io = io; disks = state.disks; directories = state.directories }) views before
+          after
       lifts attempts =
-          let here : IoAttempts device m files.io drives p attempts.result io before after = subst (λ (old : Io). IoAttempts device m old drives p attempts.result io before after) (sym stands.io) attempts.attempt in
+          let here : IoAttempts device m files.io drives p attempts.result io before after = subst
+          (λ (old : Io). IoAttempts device m old drives p attempts.result io before after) (sym stands.io)
+          attempts.attempt in
           lifts-step (step_of device m p files.io drives before) here.effect on here.does (subst (λ (result : CallResult). Comes m p result end processes) here.result_is attempts.comes) here.state
 
       pub lacks : WantsMemory (step_of device m p state.io drives before) (caller_of m p) state.io before after → LacksMemory call m files now p before after
@@ -102,9 +121,25 @@ module _ (call : PathCall) (m : Inner) (files : Files) (now : TimePacket) (p : �
         wants = subst (λ (old : Io). WantsMemory (step_of device m p old drives before) (caller_of m p) old before after) (sym stands.io) wants;
       }
 
-      pub tries-on-device : (old : ProcState) → (end ≢ NoMemory → AttemptsOnDevice device m state.io drives p end processes io before after) → (end ≡ NoMemory → WantsMemory (step_of device m p state.io drives before) (caller_of m p) state.io before after) → Tries call m files now p end before after (record { processes = old; files = state; views = views }) (record { processes = processes; files = record { io = io; disks = state.disks; directories = state.directories }; views = views })
+      pub tries-on-device : (old : ProcState) → (end ≢ NoMemory → AttemptsOnDevice device m state.io drives p end
+          processes io before after) → (end ≡ NoMemory → WantsMemory (step_of device m p state.io drives before)
+          (caller_of m p) state.io before after) → Tries call m files now p end before after
+          (record { processes = old; files = state; views = views })
+          (record {
+            processes = processes;
+            files = record {
+              io = io;
+              disks = state.disks;
+              directories =
+                  state.directories;
+            };
+            views = views;
+          })
       tries-on-device old attempts wants = record {
-        attempted = λ differ. uncalled-in (attempt_calls call (asker_of m p now) files (length before)) (step_of device m p files.io drives before) old state (record { io = io; disks = state.disks; directories = state.directories }) views before after on (lifts (attempts differ));
+        attempted = λ differ. uncalled-in (attempt_calls call (asker_of m p now) files (length before))
+            (step_of device m p files.io drives before) old state
+            (record { io = io; disks = state.disks; directories = state.directories }) views before after on
+            (lifts (attempts differ));
         memory = λ is. lacks (wants is);
       }
 
@@ -116,7 +151,14 @@ does-quiet (comes effect) caller io terms quiet = (refl, refl)
 does-quiet (reads read) caller io terms quiet = absurd quiet
 does-quiet (writes write) caller io terms quiet = absurd quiet
 
-pub lifts-quiet : (call : PathCall) (m : Inner) (files : Files) (now : TimePacket) (p : ℕ) (end : CallEnd) (processes : ProcState) (state : FileState) (io : Io) (views : List DriveView) (terms : List TerminalState) (step : Io → IoStep) → StandsFor state views files → deed_of (file_step call (asker_of m p now) files (length terms)) files ≡ as_io (step files.io) → IsQuiet (step files.io) → Ends (step state.io) m state.io p end processes io → Attempts call m files now p end processes (record { io = io; disks = state.disks; directories = state.directories }) views terms terms
+pub lifts-quiet : (call : PathCall) (m : Inner) (files : Files) (now : TimePacket) (p : ℕ) (end : CallEnd)
+    (processes : ProcState) (state : FileState) (io : Io) (views : List DriveView) (terms : List TerminalState)
+    (step : Io → IoStep) → StandsFor state views files → deed_of (file_step call (asker_of m p now) files
+    (length terms)) files ≡ as_io (step files.io) → IsQuiet (step files.io) → Ends (step state.io) m state.io p end
+    processes io → Attempts call m files now p end processes
+    (record { io = io; disks = state.disks; directories = state.directories }) views terms terms
 lifts-quiet call m files now p end processes state io views terms step stands on quiet ends =
     let here : Ends (step files.io) m files.io p end processes io = subst (λ (old : Io). Ends (step old) m old p end processes io) (sym stands.io) ends in
-    lifts-step call m files now p end processes state io views terms terms stands (step files.io) (effect_of (step files.io) files.io) on (does-quiet (step files.io) (caller_of m p) files.io terms quiet) here.0 here.1
+    lifts-step call m files now p end processes state io views terms terms stands (step files.io)
+    (effect_of (step files.io) files.io) on (does-quiet (step files.io) (caller_of m p) files.io terms quiet)
+    here.0 here.1

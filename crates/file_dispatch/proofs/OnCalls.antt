@@ -50,10 +50,19 @@ at-time call now time p dated is end terms terms_after before after attempts =
 
 -- what comes of a call is what comes of the one that it is
 module _ (call other : PathCall) (now : TimePacket) (p : ℕ) (is : other ≡ call) where
-  pub call-attempts : (end : CallEnd) (terms terms_after : List TerminalState) (old processes : ProcState) (state new : FileState) (views later : List DriveView) → AttemptsWithin (attempt_calls other) other now p end terms terms_after (record { processes = old; files = state; views = views }) (record { processes = processes; files = new; views = later }) → AttemptsWithin (attempt_calls call) call now p end terms terms_after (record { processes = old; files = state; views = views }) (record { processes = processes; files = new; views = later })
+  pub call-attempts : (end : CallEnd) (terms terms_after : List TerminalState) (old processes : ProcState)
+      (state new : FileState) (views later : List DriveView) → AttemptsWithin (attempt_calls other) other now p end
+      terms terms_after (record { processes = old; files = state; views = views })
+      (record { processes = processes; files = new; views = later }) → AttemptsWithin (attempt_calls call) call now p
+      end terms terms_after (record { processes = old; files = state; views = views })
+      (record { processes = processes; files = new; views = later })
   call-attempts end terms terms_after old processes state new views later attempts =
-      subst (λ (c : PathCall). AttemptsWithin (attempt_calls c) c now p end terms terms_after (record { processes = old; files = state; views = views }) (record { processes = processes; files = new; views = later })) is attempts
+      subst (λ (c : PathCall). AttemptsWithin (attempt_calls c) c now p end terms terms_after
+      (record { processes = old; files = state; views = views })
+      (record { processes = processes; files = new; views = later })) is attempts
 
-  pub call-tries : (end : CallEnd) (terms terms_after : List TerminalState) (before after : Standing) → TriesFrom other now p end terms terms_after before after → TriesFrom call now p end terms terms_after before after
+  pub call-tries : (end : CallEnd) (terms terms_after : List TerminalState) (before after : Standing)
+      → TriesFrom other now p end terms terms_after before after → TriesFrom call now p end terms terms_after before
+      after
   call-tries end terms terms_after before after tries =
       subst (λ (c : PathCall). TriesFrom c now p end terms terms_after before after) is tries

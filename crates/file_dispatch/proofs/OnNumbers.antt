@@ -17,7 +17,8 @@ use Rattle.file_dispatch.specs.declared.path_use.PathUse.{PathUse}
 use Rattle.file_dispatch.specs.declared.path_use.PathUse.TheVariants as Use
 
 -- what a use of a path asks for
-pub may-use : (used : PathUse) (processes : ProcState) (state : FileState) (p terms : ℕ) → MayAttempt (call_of used) processes state p terms → MayAttemptOnDevice (device_of used) processes state.io p terms
+pub may-use : (used : PathUse) (processes : ProcState) (state : FileState) (p terms : ℕ) → MayAttempt (call_of used)
+    processes state p terms → MayAttemptOnDevice (device_of used) processes state.io p terms
 may-use Use.Read processes state p terms may = may
 may-use Use.ReadLn processes state p terms may = may
 may-use Use.Write processes state p terms may = may
@@ -27,6 +28,9 @@ may-use Use.SetStt processes state p terms may = may
 may-use Use.PErr processes state p terms may = may
 
 -- what comes of a call is what comes of the one that it is
-pub number-tries : (call other : NumberCall) (m : Inner) (files : Files) (now : TimePacket) (p : ℕ) → call ≡ other → (end : CallEnd) (terms terms_after : List TerminalState) (before after : Standing) → Tries (number_call other) m files now p end terms terms_after before after → Tries (number_call call) m files now p end terms terms_after before after
+pub number-tries : (call other : NumberCall) (m : Inner) (files : Files) (now : TimePacket) (p : ℕ) → call ≡ other
+    → (end : CallEnd) (terms terms_after : List TerminalState) (before after : Standing) → Tries (number_call other) m
+    files now p end terms terms_after before after → Tries (number_call call) m files now p end terms terms_after
+    before after
 number-tries call other m files now p is end terms terms_after before after tries =
     subst (λ (call : NumberCall). Tries (number_call call) m files now p end terms terms_after before after) (sym is) tries

@@ -47,11 +47,15 @@ module _ (m : Inner) (files : Files) (now : TimePacket) (p drives : ℕ) (terms 
   on-device Use.PErr none = other-wise files _ _ _ none
 
 -- I$Seek there
-pub seeks-on-device : (m : Inner) (files : Files) (now : TimePacket) (p : ℕ) (terms : List TerminalState) → open_file files p (regs_at m p).a ≡ None → deed_of (file_step Call.Seek (asker_of m p now) files (length terms)) files ≡ as_io (seeks_nothing (caller_of m p) files.io)
+pub seeks-on-device : (m : Inner) (files : Files) (now : TimePacket) (p : ℕ) (terms : List TerminalState)
+    → open_file files p (regs_at m p).a ≡ None → deed_of (file_step Call.Seek (asker_of m p now) files (length terms))
+    files ≡ as_io (seeks_nothing (caller_of m p) files.io)
 seeks-on-device m files now p terms none = other-wise files _ _ _ none
 
 -- by the call that it is there
-pub on-device-as : (m : Inner) (files : Files) (now : TimePacket) (p drives : ℕ) (terms : List TerminalState) (call : PathUse) (device : IoCall) → device ≡ device_of call → open_file files p (path_number (device_of call) (regs_at m p)) ≡ None → IsOnDevice (call_of call) device m files now p drives terms
+pub on-device-as : (m : Inner) (files : Files) (now : TimePacket) (p drives : ℕ) (terms : List TerminalState)
+    (call : PathUse) (device : IoCall) → device ≡ device_of call → open_file files p (path_number (device_of call)
+    (regs_at m p)) ≡ None → IsOnDevice (call_of call) device m files now p drives terms
 on-device-as m files now p drives terms call device is none =
     subst (λ (d : IoCall). IsOnDevice (call_of call) d m files now p drives terms) (sym is) (on-device m files now p drives terms call none)
 
@@ -63,7 +67,9 @@ pub seeks-quiet : (caller : Caller) (io : Io) → IsQuiet (seeks_nothing caller 
 seeks-quiet caller io = quiet-seek caller io (open_path io caller.process.0 caller.regs.a)
 
 -- what waits of a process is no read of a terminal, where the number of its call names a file
-pub no-read : (state : FileState) (views : List DriveView) (p : ℕ) (opened : KernelFile) (call : IoCall) (regs : Regs) → IsSound state views → IsOpened state p (path_number call regs) opened → IsAgain call regs state.io p → ReadsNoTerminal state.io p
+pub no-read : (state : FileState) (views : List DriveView) (p : ℕ) (opened : KernelFile) (call : IoCall) (regs : Regs)
+    → IsSound state views → IsOpened state p (path_number call regs) opened → IsAgain call regs state.io p
+    → ReadsNoTerminal state.io p
 no-read state views p opened call regs sound is again =
     again-no_read state.io p (path_number call regs) opened call regs again refl (is-named state views sound p (path_number call regs) opened is)
 
@@ -72,6 +78,7 @@ pub none-reads : (io : Io) (p : ℕ) → kept_at io p ≡ None → ReadsNoTermin
 none-reads io p none = subst (λ (o : Option Kept). IfSome o (IsNoRead io)) (sym none) tt
 
 -- the number that a call takes is that of its process on the machine
-pub none-named : (files : Files) (p : ℕ) (call : IoCall) (m : Inner) (regs : Regs) (n : ℕ) → n ≡ path_number call regs → regs ≡ regs_at m p → open_file files p n ≡ None → open_file files p (path_number call (regs_at m p)) ≡ None
+pub none-named : (files : Files) (p : ℕ) (call : IoCall) (m : Inner) (regs : Regs) (n : ℕ) → n ≡ path_number call regs
+    → regs ≡ regs_at m p → open_file files p n ≡ None → open_file files p (path_number call (regs_at m p)) ≡ None
 none-named files p call m regs n number same none =
     subst (λ (k : ℕ). open_file files p k ≡ None) (number ∙ ap (path_number call) same) none

@@ -28,11 +28,19 @@ use Rattle.file_drives.specs.Slots.{LeavesMounted}
 pub none-needed : (free : ℕ) → nat_lt free 0 ≡ false
 none-needed free = grind arith
 
-module _ (slot : Option Volume) (volume new : Volume) (before after : DriveView) (n attributes user : ℕ) (now : TimePacket) (is : slot ≡ Some volume) (mounted : IsMounted new after.media) (kept_same : access.kept new ≡ access.kept volume) where
+module _ (slot : Option Volume) (volume new : Volume) (before after : DriveView) (n attributes user : ℕ)
+    (now : TimePacket) (is : slot ≡ Some volume) (mounted : IsMounted new after.media) (kept_same : access.kept new ≡
+    access.kept volume) where
   abbrev request : Asked
   request = record { change = sets_attributes n attributes; user = user; now = now }
 
-  leaves : (result : Result (Unit {0}) DirError) → OnOk result (Becomes before.media after.media (λ old new. SetsAttributes old new n attributes now)) → OnOk result (after.media ≡ with_new_attributes before.media n attributes now) → OnFile before.media n (λ file. AnswersOwner file user result) → OnErr result (after.media ≡ before.media) → OnFile before.media n (λ file. MovesCounts (directory_fault result) (attribute_calls file user) before.counts after.counts) → (v : DiskVolume) (file : DiskFile) → IsMountedAs volume before.media v → v.files n ≡ Some file → LeavesMounted request (numbered result) (λ left. attribute_calls file user) v file before (Some new) after
+  leaves : (result : Result (Unit {0}) DirError) → OnOk result (Becomes before.media after.media
+      (λ old new. SetsAttributes old new n attributes now)) → OnOk result (after.media ≡ with_new_attributes
+      before.media n attributes now) → OnFile before.media n (λ file. AnswersOwner file user result)
+      → OnErr result (after.media ≡ before.media) → OnFile before.media n
+      (λ file. MovesCounts (directory_fault result) (attribute_calls file user) before.counts after.counts)
+      → (v : DiskVolume) (file : DiskFile) → IsMountedAs volume before.media v → v.files n ≡ Some file
+      → LeavesMounted request (numbered result) (λ left. attribute_calls file user) v file before (Some new) after
   leaves (Ok done) ok written answer stayed counts v file was there =
       let it = ok v was.on in
       let made : ChangeIsMade request v file it.volume 0 =
@@ -73,7 +81,12 @@ module _ (slot : Option Volume) (volume new : Volume) (before after : DriveView)
   leaves (Err (File NoCluster)) ok written answer stayed counts v file was there = absurd (answer v file was.on there)
   leaves (Err (File TooManyRuns)) ok written answer stayed counts v file was there = absurd (answer v file was.on there)
 
-  pub attributes-changed : (result : Result (Unit {0}) DirError) → OnOk result (Becomes before.media after.media (λ old new. SetsAttributes old new n attributes now)) → OnOk result (after.media ≡ with_new_attributes before.media n attributes now) → OnFile before.media n (λ file. AnswersOwner file user result) → OnErr result (after.media ≡ before.media) → OnFile before.media n (λ file. MovesCounts (directory_fault result) (attribute_calls file user) before.counts after.counts) → SetsAttributesOn n attributes user now result slot before (Some new) after
+  pub attributes-changed : (result : Result (Unit {0}) DirError) → OnOk result (Becomes before.media after.media
+      (λ old new. SetsAttributes old new n attributes now)) → OnOk result (after.media ≡ with_new_attributes
+      before.media n attributes now) → OnFile before.media n (λ file. AnswersOwner file user result)
+      → OnErr result (after.media ≡ before.media) → OnFile before.media n
+      (λ file. MovesCounts (directory_fault result) (attribute_calls file user) before.counts after.counts)
+      → SetsAttributesOn n attributes user now result slot before (Some new) after
   attributes-changed result ok written answer stayed counts = record {
     changed = record {
       leaves = λ asked v file is_asked agrees there.

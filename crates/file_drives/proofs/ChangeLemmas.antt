@@ -73,7 +73,9 @@ only_full true h = refl
 only_full false h = h
 
 -- a file has room for its size, so that it needs no cluster for a smaller one
-none-for-shorter : (media : Option (List ℕ)) (v : DiskVolume) (n : ℕ) (file : DiskFile) (size : ℕ) → Represents media v → v.files n ≡ Some file → size < length file.contents → clusters_needed (cluster_size v) file.segments size ≤ free_total v
+none-for-shorter : (media : Option (List ℕ)) (v : DiskVolume) (n : ℕ) (file : DiskFile) (size : ℕ)
+    → Represents media v → v.files n ≡ Some file → size < length file.contents → clusters_needed (cluster_size v)
+    file.segments size ≤ free_total v
 none-for-shorter media v n file size on there shorter =
     let k = cluster_size v in
     let positive = some-cluster media v on in
@@ -115,7 +117,13 @@ module _ (slot : Option Volume) (volume new : Volume) (before after : DriveView)
       or_left_is true h = refl
       or_left_is false h = h
 
-  leaves : (user : ℕ) (result : Result (Unit {0}) FileFault) → OnVolumeFile before.media n (λ v file. AnswersWrite v file (record { number = n; at = at; bytes = bytes; now = now }) before.media after.media result) → OnErr result (IsRefusal result → after.counts.calls ≤ before.counts.calls + 1) → OnMarked before.media after.media n result (λ v file marks. MovesCounts (file_fault result) (write_calls v file marks at (length bytes)) before.counts after.counts) → (v : DiskVolume) (file : DiskFile) → Represents before.media v → v.files n ≡ Some file → LeavesMounted (asks user) (file_answer result) (writing_calls n at (length bytes) result v file) v file before (Some new) after
+  leaves : (user : ℕ) (result : Result (Unit {0}) FileFault) → OnVolumeFile before.media n
+      (λ v file. AnswersWrite v file (record { number = n; at = at; bytes = bytes; now = now }) before.media
+      after.media result) → OnErr result (IsRefusal result → after.counts.calls ≤ before.counts.calls + 1)
+      → OnMarked before.media after.media n result (λ v file marks. MovesCounts (file_fault result)
+      (write_calls v file marks at (length bytes)) before.counts after.counts) → (v : DiskVolume) (file : DiskFile)
+      → Represents before.media v → v.files n ≡ Some file → LeavesMounted (asks user) (file_answer result)
+      (writing_calls n at (length bytes) result v file) v file before (Some new) after
   leaves user (Ok done) answer few counts v file on there =
       let it = answer v file on there in
       let here : it.volume.files n ≡ Some it.writes.new = changed-there _ v it.volume n it.writes in
@@ -134,7 +142,9 @@ module _ (slot : Option Volume) (volume new : Volume) (before after : DriveView)
         counts =
             subst (λ f. MovesCounts None (write_calls v file (marks_made (Ok done) v file f) at (length bytes)) before.counts after.counts) (sym here)
             (counts v file on there (marking_sectors (shape v) (is_gained (cluster_size v) file.segments it.writes.new.segments))
-            (λ w shown other is_there. ap (λ (f : DiskFile). marking_sectors (shape v) (is_gained (cluster_size v) file.segments f.segments)) (shown-once after.media it.volume w n it.writes.new shown it.on other here is_there)));
+            (λ w shown other is_there. ap (λ (f : DiskFile). marking_sectors (shape v) (is_gained (cluster_size v)
+            file.segments f.segments)) (shown-once after.media it.volume w n it.writes.new shown it.on other here
+            is_there)));
         refused = λ h. absurd (made-anyway (asks user) v file it.volume 0 made h);
         disk = (Ok done, refl, it);
       }
@@ -149,9 +159,13 @@ module _ (slot : Option Volume) (volume new : Volume) (before after : DriveView)
           let same : it.ends.old ≡ file = same_Some it.ends.old file (sym it.ends.is ∙ there) in
           let enough = chosen-free before.media v on it.ends.old.segments (length (written it.ends.old.contents at bytes)) it.ends.taken it.choice in
           let fits = subst (λ (f : DiskFile). clusters_needed (cluster_size v) f.segments (length (written f.contents at bytes)) ≤ free_total v) same enough in
-          both_ways (nat_lt (free_total v) (clusters_needed (cluster_size v) file.segments (length (written file.contents at bytes)))) (le-ltb (free_total v) (clusters_needed (cluster_size v) file.segments (length (written file.contents at bytes))) fits) (only_full _ full)
+          both_ways (nat_lt (free_total v) (clusters_needed (cluster_size v) file.segments
+          (length (written file.contents at bytes)))) (le-ltb (free_total v) (clusters_needed (cluster_size v)
+          file.segments (length (written file.contents at bytes))) fits) (only_full _ full)
 
-      by : WriteIsEnded v (record { number = n; at = at; bytes = bytes; now = now }) before.media after.media → LeavesMounted (asks user) (Err (File (Device number))) (writing_calls n at (length bytes) (Err (Device number)) v file) v file before (Some new) after
+      by : WriteIsEnded v (record { number = n; at = at; bytes = bytes; now = now }) before.media after.media
+          → LeavesMounted (asks user) (Err (File (Device number))) (writing_calls n at (length bytes)
+          (Err (Device number)) v file) v file before (Some new) after
       by (unchanged some same) = record {
         left = v;
         answers = record { may_be = ends-before v file there some; refused = λ _. refl };
@@ -197,12 +211,20 @@ module _ (slot : Option Volume) (volume new : Volume) (before after : DriveView)
         disk = (Err TooManyRuns, refl, it);
       }
 
-  pub writes-on : (result : Result (Unit {0}) FileFault) → OnVolumeFile before.media n (λ v file. AnswersWrite v file (record { number = n; at = at; bytes = bytes; now = now }) before.media after.media result) → OnErr result (IsRefusal result → after.counts.calls ≤ before.counts.calls + 1) → OnMarked before.media after.media n result (λ v file marks. MovesCounts (file_fault result) (write_calls v file marks at (length bytes)) before.counts after.counts) → WritesOn n at bytes now result slot before (Some new) after
+  pub writes-on : (result : Result (Unit {0}) FileFault) → OnVolumeFile before.media n (λ v file. AnswersWrite v file
+      (record { number = n; at = at; bytes = bytes; now = now }) before.media after.media result)
+      → OnErr result (IsRefusal result → after.counts.calls ≤ before.counts.calls + 1) → OnMarked before.media
+      after.media n result (λ v file marks. MovesCounts (file_fault result) (write_calls v file marks at
+      (length bytes)) before.counts after.counts) → WritesOn n at bytes now result slot before (Some new) after
   writes-on result answer few counts = record {
     changed = record {
       leaves = λ asked v file asks_for agrees there.
-          subst (λ ch. LeavesMounted (record { change = ch; user = asked.user; now = asked.now }) (file_answer result) (writing_calls n at (length bytes) result v file) v file before (Some new) after) (sym asks_for.change_is)
-          (subst (λ t. LeavesMounted (record { change = writes n at bytes; user = asked.user; now = t }) (file_answer result) (writing_calls n at (length bytes) result v file) v file before (Some new) after) (sym asks_for.now_is)
+          subst (λ ch. LeavesMounted (record { change = ch; user = asked.user; now = asked.now }) (file_answer result)
+          (writing_calls n at (length bytes) result v file) v file before (Some new) after)
+          (sym asks_for.change_is)
+          (subst (λ t. LeavesMounted (record { change = writes n at bytes; user = asked.user; now = t })
+          (file_answer result) (writing_calls n at (length bytes) result v file) v file before (Some new) after)
+          (sym asks_for.now_is)
           (leaves asked.user result answer few counts v file (mounted-as slot volume before v is agrees).on there));
     };
   }
@@ -220,7 +242,10 @@ module _ (slot : Option Volume) (volume new : Volume) (before after : DriveView)
   size_stayed v same on = mounted-left new after.media v mounted (record { image = on.image; is = same ∙ on.is; vol = on.vol })
 
   -- a fault after which the size was to be refused has changed nothing
-  ends-refused : (v w : DiskVolume) (file : DiskFile) (image : List ℕ) → Represents before.media v → v.files n ≡ Some file → nat_lt (free_total v) (clusters_needed (cluster_size v) file.segments size) ≡ true → (it : SizeEnds image v w n size now) → IsTidyEnd image v w sizing (giving_up v file sizing) before.media after.media it → (w ≡ v) × (after.media ≡ before.media)
+  ends-refused : (v w : DiskVolume) (file : DiskFile) (image : List ℕ) → Represents before.media v
+      → v.files n ≡ Some file → nat_lt (free_total v) (clusters_needed (cluster_size v) file.segments size) ≡ true
+      → (it : SizeEnds image v w n size now) → IsTidyEnd image v w sizing (giving_up v file sizing) before.media
+      after.media it → (w ≡ v) × (after.media ≡ before.media)
   ends-refused v w file image on there full (ends.before same) tidy = (same, tidy)
   ends-refused v w file image on there full (ends.longer it) tidy =
       let same : it.old ≡ file = same_Some it.old file (sym it.is ∙ there) in
@@ -229,9 +254,17 @@ module _ (slot : Option Volume) (volume new : Volume) (before after : DriveView)
       absurd (both_ways (nat_lt (free_total v) (clusters_needed (cluster_size v) file.segments size)) (le-ltb (free_total v) (clusters_needed (cluster_size v) file.segments size) fits) full)
   ends-refused v w file image on there full (ends.cut it) tidy =
       let same : it.old ≡ file = same_Some it.old file (sym it.is ∙ there) in
-      absurd (both_ways (nat_lt (free_total v) (clusters_needed (cluster_size v) file.segments size)) (le-ltb (free_total v) (clusters_needed (cluster_size v) file.segments size) (none-for-shorter before.media v n file size on there (subst (λ (f : DiskFile). size < length f.contents) same it.shorter))) full)
+      absurd (both_ways (nat_lt (free_total v) (clusters_needed (cluster_size v) file.segments size))
+      (le-ltb (free_total v) (clusters_needed (cluster_size v) file.segments size) (none-for-shorter before.media
+      v n file size on there (subst (λ (f : DiskFile). size < length f.contents) same it.shorter))) full)
 
-  size_leaves : (user : ℕ) (result : Result (Unit {0}) FileFault) → OnVolumeFile before.media n (λ v file. AnswersSize v file sizing before.media after.media result) → OnErr result (IsNone (file_fault result) → after.counts.calls ≤ before.counts.calls + 1) → OnMarked before.media after.media n result (λ v file marks. MovesCounts (file_fault result) (size_calls v file marks sizing) before.counts after.counts) → (v : DiskVolume) (file : DiskFile) → Represents before.media v → v.files n ≡ Some file → LeavesMounted (asks_size user) (file_answer result) (sizing_calls sizing result v file) v file before (Some new) after
+  size_leaves : (user : ℕ) (result : Result (Unit {0}) FileFault) → OnVolumeFile before.media n
+      (λ v file. AnswersSize v file sizing before.media after.media result) → OnErr result (IsNone (file_fault result)
+      → after.counts.calls ≤ before.counts.calls + 1) → OnMarked before.media after.media n result
+      (λ v file marks. MovesCounts (file_fault result) (size_calls v file marks sizing) before.counts after.counts)
+      → (v : DiskVolume) (file : DiskFile) → Represents before.media v → v.files n ≡ Some file
+      → LeavesMounted (asks_size user) (file_answer result) (sizing_calls sizing result v file) v file before
+      (Some new) after
   size_leaves user (Ok done) answer few counts v file on there =
       let it = answer v file on there in
       let here : it.volume.files n ≡ Some it.sets.new = changed-there _ v it.volume n it.sets in
@@ -250,7 +283,9 @@ module _ (slot : Option Volume) (volume new : Volume) (before after : DriveView)
         counts =
             subst (λ f. MovesCounts None (size_calls v file (marks_made (Ok done) v file f) sizing) before.counts after.counts) (sym here)
             (counts v file on there (marking_sectors (shape v) (is_gained (cluster_size v) file.segments it.sets.new.segments))
-            (λ w shown other is_there. ap (λ (f : DiskFile). marking_sectors (shape v) (is_gained (cluster_size v) file.segments f.segments)) (shown-once after.media it.volume w n it.sets.new shown it.on other here is_there)));
+            (λ w shown other is_there. ap (λ (f : DiskFile). marking_sectors (shape v) (is_gained (cluster_size v)
+            file.segments f.segments)) (shown-once after.media it.volume w n it.sets.new shown it.on other here
+            is_there)));
         refused = λ h. absurd (made-anyway (asks_size user) v file it.volume 0 made h);
         disk = (Ok done, refl, it);
       }
@@ -296,12 +331,19 @@ module _ (slot : Option Volume) (volume new : Volume) (before after : DriveView)
         disk = (Err TooManyRuns, refl, it);
       }
 
-  pub sizes-on : (result : Result (Unit {0}) FileFault) → OnVolumeFile before.media n (λ v file. AnswersSize v file sizing before.media after.media result) → OnErr result (IsNone (file_fault result) → after.counts.calls ≤ before.counts.calls + 1) → OnMarked before.media after.media n result (λ v file marks. MovesCounts (file_fault result) (size_calls v file marks sizing) before.counts after.counts) → SizesOn n size now result slot before (Some new) after
+  pub sizes-on : (result : Result (Unit {0}) FileFault) → OnVolumeFile before.media n (λ v file. AnswersSize v file
+      sizing before.media after.media result) → OnErr result (IsNone (file_fault result) → after.counts.calls ≤
+      before.counts.calls + 1) → OnMarked before.media after.media n result (λ v file marks. MovesCounts
+      (file_fault result) (size_calls v file marks sizing) before.counts after.counts) → SizesOn n size now result
+      slot before (Some new) after
   sizes-on result answer few counts = record {
     changed = record {
       leaves = λ asked v file asks_for agrees there.
-          subst (λ ch. LeavesMounted (record { change = ch; user = asked.user; now = asked.now }) (file_answer result) (sizing_calls sizing result v file) v file before (Some new) after) (sym asks_for.change_is)
-          (subst (λ t. LeavesMounted (record { change = sizes n size; user = asked.user; now = t }) (file_answer result) (sizing_calls sizing result v file) v file before (Some new) after) (sym asks_for.now_is)
+          subst (λ ch. LeavesMounted (record { change = ch; user = asked.user; now = asked.now }) (file_answer result)
+          (sizing_calls sizing result v file) v file before (Some new) after) (sym asks_for.change_is)
+          (subst (λ t. LeavesMounted (record { change = sizes n size; user = asked.user; now = t })
+          (file_answer result) (sizing_calls sizing result v file) v file before (Some new) after)
+          (sym asks_for.now_is)
           (size_leaves asked.user result answer few counts v file (mounted-as slot volume before v is agrees).on there));
     };
   }

@@ -41,7 +41,11 @@ module _ (slot : Option Volume) (volume new : Volume) (before after : DriveView)
   abbrev deletion : ℕ → List ℕ → ℕ → TimePacket → Asked
   deletion n name user now = record { change = deletes n found.descriptor name; user = user; now = now }
 
-  deletion_leaves : (n : ℕ) (name : List ℕ) (user : ℕ) (now : TimePacket) (result : Result (Unit {0}) FileFault) (v : DiskVolume) (dir : DiskFile) → Represents before.media v → AnswersDeletionOf v n found.descriptor name before.media after.media result → MovesCounts (file_fault result) (deleting_calls found.descriptor v dir v) before.counts after.counts → LeavesMounted (deletion n name user now) (file_answer result) (deleting_calls found.descriptor v dir) v dir before (Some new) after
+  deletion_leaves : (n : ℕ) (name : List ℕ) (user : ℕ) (now : TimePacket) (result : Result (Unit {0}) FileFault)
+      (v : DiskVolume) (dir : DiskFile) → Represents before.media v → AnswersDeletionOf v n found.descriptor name
+      before.media after.media result → MovesCounts (file_fault result) (deleting_calls found.descriptor v dir v)
+      before.counts after.counts → LeavesMounted (deletion n name user now) (file_answer result)
+      (deleting_calls found.descriptor v dir) v dir before (Some new) after
   deletion_leaves n name user now (Ok done) v dir on it counts =
       let made : ChangeIsMade (deletion n name user now) v dir it.after 0 =
       record {
@@ -84,14 +88,19 @@ module _ (slot : Option Volume) (volume new : Volume) (before after : DriveView)
   deletion_leaves n name user now (Err NoCluster) v dir on it counts = absurd it
   deletion_leaves n name user now (Err TooManyRuns) v dir on it counts = absurd it
 
-  pub deletes-on : (result : Result (Unit {0}) FileFault) → ((dir : ℕ) (name : List ℕ) (v : DiskVolume) → IsDeletable before.media dir name found → Represents before.media v → AnswersDeletionOf v dir found.descriptor name before.media after.media result) → OnVolumeFile before.media found.descriptor (λ v file. MovesCounts (file_fault result) (file_deletion_calls v found.descriptor file) before.counts after.counts) → (n : ℕ) → DeletesOn n found result slot before (Some new) after
+  pub deletes-on : (result : Result (Unit {0}) FileFault) → ((dir : ℕ) (name : List ℕ) (v : DiskVolume)
+      → IsDeletable before.media dir name found → Represents before.media v → AnswersDeletionOf v dir found.descriptor
+      name before.media after.media result) → OnVolumeFile before.media found.descriptor
+      (λ v file. MovesCounts (file_fault result) (file_deletion_calls v found.descriptor file) before.counts
+      after.counts) → (n : ℕ) → DeletesOn n found result slot before (Some new) after
   deletes-on result answer counts n = record {
     changed = record {
       leaves = λ asked v dir asks agrees there.
           let on = (mounted-as slot volume before v is agrees).on in
           let gone = file_found before.media n asks.name found asks.is v on in
           let few = subst (λ most. MovesCounts (file_fault result) most before.counts after.counts) (file_marks v found.descriptor asks.is.free.file gone) (counts v asks.is.free.file on gone) in
-          subst (λ ch. LeavesMounted (record { change = ch; user = asked.user; now = asked.now }) (file_answer result) (deleting_calls found.descriptor v dir) v dir before (Some new) after) (sym asks.change_is)
+          subst (λ ch. LeavesMounted (record { change = ch; user = asked.user; now = asked.now }) (file_answer result)
+          (deleting_calls found.descriptor v dir) v dir before (Some new) after) (sym asks.change_is)
           (deletion_leaves n asks.name asked.user asked.now result v dir on (answer n asks.name v asks.is on) few);
     };
   }
@@ -107,30 +116,44 @@ file-to-delete (Some volume) view n found may has = record {
 }
 
 -- the drive in a box is lent as it is there
-module _ {Table : Type 0} {Driver : Table → Type 0} (members : (table : Table) → Ghosts (Driver table)) (drive : DynBox Table Global Driver) (lent : (table : Table) × Driver table) (same : lent ≡ (drive.vtable, drive.value)) where
+module _ {Table : Type 0} {Driver : Table → Type 0} (members : (table : Table) → Ghosts (Driver table))
+    (drive : DynBox Table Global Driver) (lent : (table : Table) × Driver table)
+    (same : lent ≡ (drive.vtable, drive.value)) where
   pub lent-file : (kept : Option Volume) (n : ℕ) → HasFileOn kept (boxed_drive_view members drive) n → HasFileOn kept (lent_drive_view members lent) n
   lent-file kept n has = subst (λ d. HasFileOn kept (lent_drive_view members d) n) (sym same) has
 
   pub lent-entry : (found : Deletable) → MayBeDeleted (boxed_drive_view members drive).media found → MayBeDeleted (lent_drive_view members lent).media found
   lent-entry found may = subst (λ d. MayBeDeleted (lent_drive_view members d).media found) (sym same) may
 
-  pub deletes-boxed : (n : ℕ) (found : Deletable) (result : Result (Unit {0}) FileFault) (kept new : Option Volume) (after : DriveView) → DeletesOn n found result kept (lent_drive_view members lent) new after → DeletesOn n found result kept (boxed_drive_view members drive) new after
+  pub deletes-boxed : (n : ℕ) (found : Deletable) (result : Result (Unit {0}) FileFault) (kept new : Option Volume)
+      (after : DriveView) → DeletesOn n found result kept (lent_drive_view members lent) new after → DeletesOn n found
+      result kept (boxed_drive_view members drive) new after
   deletes-boxed n found result kept new after it = subst (λ d. DeletesOn n found result kept (lent_drive_view members d) new after) same it
 
 -- ---- on the drives of a machine
 
-entry-here : (views : List DriveView) (view : DriveView) (dir : FilePlace) (name : List ℕ) (found : Deletable) → IsDeletableOn views dir name found → slice_get views dir.drive ≡ Some view → IsDeletable view.media dir.number name found
+entry-here : (views : List DriveView) (view : DriveView) (dir : FilePlace) (name : List ℕ) (found : Deletable)
+    → IsDeletableOn views dir name found → slice_get views dir.drive ≡ Some view → IsDeletable view.media dir.number
+    name found
 entry-here views view dir name found at is =
     subst (λ (w : DriveView). IsDeletable w.media dir.number name found) (same_Some at.view view (sym at.is ∙ is)) at.entry
 
-pub deletable-here : (views : List DriveView) (view : DriveView) (dir : FilePlace) (found : Deletable) → MayBeDeletedOn views dir found → slice_get views dir.drive ≡ Some view → MayBeDeleted view.media found
+pub deletable-here : (views : List DriveView) (view : DriveView) (dir : FilePlace) (found : Deletable)
+    → MayBeDeletedOn views dir found → slice_get views dir.drive ≡ Some view → MayBeDeleted view.media found
 deletable-here views view dir found may is = record { directory = dir.number; name = may.name; is = entry-here views view dir may.name found may.is is }
 
-module _ {Driver : Type 0} (view : Driver → DriveView) (items disks : List (Option Volume)) (drivers : List Driver) (dir : FilePlace) (kept : Option Volume) (driver : Driver) (same : items ≡ disks) (four : length items ≡ 4)
+module _ {Driver : Type 0} (view : Driver → DriveView) (items disks : List (Option Volume)) (drivers : List Driver)
+    (dir : FilePlace) (kept : Option Volume) (driver : Driver) (same : items ≡ disks) (four : length items ≡ 4)
     (kept_is : kept ≡ get_or items dir.drive kept) (driver_is : driver ≡ get_or drivers dir.drive driver) (has : HasFileAt disks (map view drivers) dir) where
-  pub deletes-at : (found : Deletable) (asked : Asked) (result : Result (Unit {0}) FileFault) (new : Option Volume) (after : Driver) → IsDeletionOn dir found asked (map view drivers) → ((n : ℕ) → DeletesOn n found result kept (view driver) new (view after)) → ChangesVolume dir asked (file_answer result) (deleting_calls found.descriptor) disks (map view drivers) (slice_set items dir.drive new) (map view (slice_set drivers dir.drive after))
+  pub deletes-at : (found : Deletable) (asked : Asked) (result : Result (Unit {0}) FileFault) (new : Option Volume)
+      (after : Driver) → IsDeletionOn dir found asked (map view drivers)
+      → ((n : ℕ) → DeletesOn n found result kept (view driver) new (view after)) → ChangesVolume dir asked
+      (file_answer result) (deleting_calls found.descriptor) disks (map view drivers) (slice_set items dir.drive new)
+      (map view (slice_set drivers dir.drive after))
   deletes-at found asked result new after it on =
-      changes-volume view items disks drivers dir kept driver same four kept_is driver_is has (AsksToDelete (view driver).media dir.number found) asked (file_answer result) (deleting_calls found.descriptor) new after
+      changes-volume view items disks drivers dir kept driver same four kept_is driver_is has
+      (AsksToDelete (view driver).media dir.number found) asked (file_answer result)
+      (deleting_calls found.descriptor) new after
       (record {
         name = it.name;
         is = entry-here (map view drivers) (view driver) dir it.name found it.is (view-before view items disks drivers dir kept driver same four kept_is driver_is has);

@@ -9,7 +9,9 @@ use Rattle.file_rules.specs.Files.{DriveState, NoneFailed, OneFailed, drive_at, 
 use Rattle.rbf_access.specs.Drive.{MovesCounts}
 use Rattle.file_drives.specs.Drives.{DriveView, ChangesOneDrive, OneDriveMoves, drive_state, drive_states, media_at, media_of, unused_drive}
 
-pub changes-one : {Driver : Type 0} (view : Driver → DriveView) (change : DriveView → DriveView → Type 0) (drivers : List Driver) (n : ℕ) (old new : Driver) → n < length drivers → old ≡ get_or drivers n old → change (view old) (view new) → ChangesOneDrive change n (map view drivers) (map view (slice_set drivers n new))
+pub changes-one : {Driver : Type 0} (view : Driver → DriveView) (change : DriveView → DriveView → Type 0)
+    (drivers : List Driver) (n : ℕ) (old new : Driver) → n < length drivers → old ≡ get_or drivers n old
+    → change (view old) (view new) → ChangesOneDrive change n (map view drivers) (map view (slice_set drivers n new))
 changes-one view change drivers n old new inside here changed = (
   view old,
   view new,
@@ -19,7 +21,9 @@ changes-one view change drivers n old new inside here changed = (
 )
 
 -- the media of all stay where that of the one stayed
-pub media-kept : {Driver : Type 0} (view : Driver → DriveView) (drivers : List Driver) (n : ℕ) (old new : Driver) → n < length drivers → old ≡ get_or drivers n old → (view new).media ≡ (view old).media → media_of (map view (slice_set drivers n new)) ≡ media_of (map view drivers)
+pub media-kept : {Driver : Type 0} (view : Driver → DriveView) (drivers : List Driver) (n : ℕ) (old new : Driver)
+    → n < length drivers → old ≡ get_or drivers n old → (view new).media ≡ (view old).media
+    → media_of (map view (slice_set drivers n new)) ≡ media_of (map view drivers)
 media-kept view drivers n old new inside here same =
     let media : DriveView → Option (List ℕ) = λ w. w.media in
     let within : n < length (map view drivers) = subst (λ k. n < k) (sym (length-map drivers view)) inside in
@@ -35,7 +39,9 @@ pub media-there : (views : List DriveView) (n : ℕ) (view : DriveView) → slic
 media-there views n view is = ap (λ (w : DriveView). w.media) (get_or_from_slice_get views n view unused_drive is)
 
 -- a weaker change
-pub changes-weaker : (change other : DriveView → DriveView → Type 0) (n : ℕ) (before after : List DriveView) → ((old new : DriveView) → change old new → other old new) → ChangesOneDrive change n before after → ChangesOneDrive other n before after
+pub changes-weaker : (change other : DriveView → DriveView → Type 0) (n : ℕ) (before after : List DriveView)
+    → ((old new : DriveView) → change old new → other old new) → ChangesOneDrive change n before after
+    → ChangesOneDrive other n before after
 changes-weaker change other n before after weaker (old, new, is, after_is, changed) = (old, new, is, after_is, weaker old new changed)
 
 -- ---- faults
@@ -73,7 +79,9 @@ one-failed number most n before after (old, new, is, after_is, moved) =
     let inside : n < length before = slice_get_within before n old is in
     subst (λ views. OneFailed n number (drive_states before) (drive_states views)) (sym after_is) (one-set number most n before old new is inside moved)
   where
-    one-set : (number most n : ℕ) (before : List DriveView) (old new : DriveView) → slice_get before n ≡ Some old → n < length before → MovesCounts (Some number) most old.counts new.counts → OneFailed n number (drive_states before) (drive_states (slice_set before n new))
+    one-set : (number most n : ℕ) (before : List DriveView) (old new : DriveView) → slice_get before n ≡ Some old
+        → n < length before → MovesCounts (Some number) most old.counts new.counts → OneFailed n number
+        (drive_states before) (drive_states (slice_set before n new))
     one-set number most n before old new is inside moved =
         let was : drive_at (drive_states before) n ≡ drive_state old = state-at before n old is in
         let now : drive_at (drive_states (slice_set before n new)) n ≡ drive_state new = state-set before n new inside in

@@ -77,7 +77,9 @@ module _ (v : DiskVolume) (dir : DiskFile) (e : Entering) (size : ℕ) (sized : 
   full = nat_lt (free_total v) (new_file_needs v dir size)
 
   by_size : refusal_of v dir e ≡ first_cause (is_dots e.name) (not (may_change dir e.user e.execute)) (is_some (look_up dir.contents e.name)) full (has_no_segment v dir)
-  by_size = ap (λ s. first_cause (is_dots e.name) (not (may_change dir e.user e.execute)) (is_some (look_up dir.contents e.name)) (nat_lt (free_total v) (new_file_needs v dir s)) (has_no_segment v dir)) sized
+  by_size = ap (λ s. first_cause (is_dots e.name) (not (may_change dir e.user e.execute))
+      (is_some (look_up dir.contents e.name)) (nat_lt (free_total v) (new_file_needs v dir s)) (has_no_segment v dir))
+      sized
 
   pub has_room : refusal_of v dir e ≡ None → (full ≡ false) × (has_no_segment v dir ≡ false)
   has_room allowed = room-for _ _ _ full (has_no_segment v dir) (sym by_size ∙ allowed)
@@ -94,7 +96,8 @@ not-refused true long a b h = absurd (cc a)
 not-refused false true a b h = absurd (cc b)
 not-refused false false a b h = absurd (cc h)
 
-module _ (slot : Option Volume) (volume new : Volume) (before after : DriveView) (found : NewPlace) (name : List ℕ) (attributes : ℕ) (now : TimePacket) (is : slot ≡ Some volume) (mounted : IsMounted new after.media) where
+module _ (slot : Option Volume) (volume new : Volume) (before after : DriveView) (found : NewPlace) (name : List ℕ)
+    (attributes : ℕ) (now : TimePacket) (is : slot ≡ Some volume) (mounted : IsMounted new after.media) where
   on-left : (w : DiskVolume) → Represents after.media w → IsMountedAs new after.media w
   on-left w on = mounted-left new after.media w mounted on
 
@@ -109,7 +112,10 @@ module _ (slot : Option Volume) (volume new : Volume) (before after : DriveView)
   abbrev file_asked : Entering
   file_asked = request found.dir.number name attributes found.user found.execute now
 
-  create_leaves : (result : Result ℕ FileFault) (v : DiskVolume) (dir : DiskFile) → Represents before.media v → AnswersEntering v dir file_asked before.media after.media (widened result) → MovesCounts (file_fault result) (entering_calls v dir 2 (widened result)) before.counts after.counts → LeavesMounted creation (widened result) (λ left. entering_calls v dir 2 (widened result)) v dir before (Some new) after
+  create_leaves : (result : Result ℕ FileFault) (v : DiskVolume) (dir : DiskFile) → Represents before.media v
+      → AnswersEntering v dir file_asked before.media after.media (widened result) → MovesCounts (file_fault result)
+      (entering_calls v dir 2 (widened result)) before.counts after.counts → LeavesMounted creation (widened result)
+      (λ left. entering_calls v dir 2 (widened result)) v dir before (Some new) after
   create_leaves (Ok n) v dir on it counts =
       let room = has_room v dir file_asked 0 refl it.allowed in
       let made : ChangeIsMade creation v dir it.after n = record { allowed = refl; enough = room.0; list = room.1; makes = it.enters } in
@@ -123,7 +129,9 @@ module _ (slot : Option Volume) (volume new : Volume) (before after : DriveView)
       }
   create_leaves (Err (Device number)) v dir on it counts = by it.1
     where
-      by : EnteringStops v dir file_asked before.media after.media → LeavesMounted creation (Err (File (Device number))) (λ left. entering_calls v dir 2 (Err (File (Device number)))) v dir before (Some new) after
+      by : EnteringStops v dir file_asked before.media after.media → LeavesMounted creation
+          (Err (File (Device number))) (λ left. entering_calls v dir 2 (Err (File (Device number)))) v dir before
+          (Some new) after
       by (unchanged same) = record {
         left = v;
         answers = record { may_be = ends.before refl; refused = λ _. refl };
@@ -165,7 +173,11 @@ module _ (slot : Option Volume) (volume new : Volume) (before after : DriveView)
         disk = (found.execute, it);
       }
 
-  pub creates-on : (result : Result ℕ FileFault) → OnVolumeFile before.media found.dir.number (λ v dir. AnswersEntering v dir file_asked before.media after.media (widened result)) → OnVolumeFile before.media found.dir.number (λ v dir. MovesCounts (file_fault result) (entering_calls v dir 2 (widened result)) before.counts after.counts) → CreatesOn found name attributes now result slot before (Some new) after
+  pub creates-on : (result : Result ℕ FileFault) → OnVolumeFile before.media found.dir.number
+      (λ v dir. AnswersEntering v dir file_asked before.media after.media (widened result))
+      → OnVolumeFile before.media found.dir.number (λ v dir. MovesCounts (file_fault result)
+      (entering_calls v dir 2 (widened result)) before.counts after.counts) → CreatesOn found name attributes now
+      result slot before (Some new) after
   creates-on result answer counts = record {
     changed = record {
       leaves = λ asked v dir is_asked agrees there.
@@ -187,17 +199,23 @@ module _ (slot : Option Volume) (volume new : Volume) (before after : DriveView)
   folder_size = listing_size 0 found.dir.number
 
   -- the clusters of the new directory are those that its descriptor shows
-  same_calls : (v left : DiskVolume) (n : ℕ) (file : DiskFile) (image : List ℕ) → after.media ≡ Some image → Represents after.media left → left.files n ≡ Some file → let answer : Result ℕ FileFault = Ok n in folder_calls v after.media answer ≡ directory_calls (Ok n) v left
+  same_calls : (v left : DiskVolume) (n : ℕ) (file : DiskFile) (image : List ℕ) → after.media ≡ Some image
+      → Represents after.media left → left.files n ≡ Some file → let answer : Result ℕ FileFault = Ok n in
+      folder_calls v after.media answer ≡ directory_calls (Ok n) v left
   same_calls v left n file image is_image on there =
       let shown : file ≡ file_at (sector_at after.media) n = on.vol.sound.shows.shown n file there ∙ ap (λ m. file_at (sector_at m) n) (sym on.is) in
       ap (λ (f : DiskFile). min (file_clusters (cluster_size v) 64) (marking_sectors (shape v) (has_cluster (shape v) n f)) + 2) (sym shown)
       ∙ ap (λ o. min (file_clusters (cluster_size v) 64) (marking_sectors (shape v) (clusters_of (shape v) n o)) + 2) (sym there)
 
-  make_leaves : (result : Result ℕ FileFault) (v : DiskVolume) (dir : DiskFile) → Represents before.media v → AnswersEntering v dir folder_asked before.media after.media (widened result) → MovesCounts (file_fault result) (entering_calls v dir (folder_calls v after.media result) (widened result)) before.counts after.counts → LeavesMounted making (widened result) (making_calls (widened result) v dir) v dir before (Some new) after
+  make_leaves : (result : Result ℕ FileFault) (v : DiskVolume) (dir : DiskFile) → Represents before.media v
+      → AnswersEntering v dir folder_asked before.media after.media (widened result) → MovesCounts (file_fault result)
+      (entering_calls v dir (folder_calls v after.media result) (widened result)) before.counts after.counts
+      → LeavesMounted making (widened result) (making_calls (widened result) v dir) v dir before (Some new) after
   make_leaves (Ok n) v dir on it counts =
       let room = has_room v dir folder_asked new_directory_size folder_size it.allowed in
       let here : Represents after.media it.after = record { image = it.now; is = it.is; vol = it.vol } in
-      let there : it.after.files n ≡ Some it.enters.both.file = ap (λ (u : DiskVolume). u.files n) it.enters.volume ∙ put-there (replaced v found.dir.number (Some it.enters.both.new)).files n (Some it.enters.both.file) in
+      let there : it.after.files n ≡ Some it.enters.both.file = ap (λ (u : DiskVolume). u.files n) it.enters.volume ∙
+      put-there (replaced v found.dir.number (Some it.enters.both.new)).files n (Some it.enters.both.file) in
       let made : ChangeIsMade making v dir it.after n = record { allowed = refl; enough = room.0; list = room.1; makes = it.enters } in
       record {
         left = it.after;
@@ -254,7 +272,11 @@ module _ (slot : Option Volume) (volume new : Volume) (before after : DriveView)
         disk = it;
       }
 
-  pub makes-on : (result : Result ℕ FileFault) → OnVolumeFile before.media found.dir.number (λ v dir. AnswersEntering v dir folder_asked before.media after.media (widened result)) → OnVolumeFile before.media found.dir.number (λ v dir. MovesCounts (file_fault result) (entering_calls v dir (folder_calls v after.media result) (widened result)) before.counts after.counts) → MakesDirectoryOn found name attributes now result slot before (Some new) after
+  pub makes-on : (result : Result ℕ FileFault) → OnVolumeFile before.media found.dir.number
+      (λ v dir. AnswersEntering v dir folder_asked before.media after.media (widened result))
+      → OnVolumeFile before.media found.dir.number (λ v dir. MovesCounts (file_fault result)
+      (entering_calls v dir (folder_calls v after.media result) (widened result)) before.counts after.counts)
+      → MakesDirectoryOn found name attributes now result slot before (Some new) after
   makes-on result answer counts = record {
     changed = record {
       leaves = λ asked v dir is_asked agrees there.

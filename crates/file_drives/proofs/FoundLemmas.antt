@@ -12,6 +12,7 @@ use Rattle.file_drives.specs.Slots.{HasFileOn}
 pub file-found : (slot : Option Volume) (view : DriveView) (n number : ℕ) → number ≡ n → HasFileOn slot view n → HasFileOn slot view number
 file-found slot view n number same has = subst (λ m. HasFileOn slot view m) (sym same) has
 
-pub place-here : (views : List DriveView) (view : DriveView) (dir : FilePlace) (name : List ℕ) (found : NewPlace) → IsPlaceAt views dir name found → slice_get views dir.drive ≡ Some view → IsPlaceFor view.media name found
+pub place-here : (views : List DriveView) (view : DriveView) (dir : FilePlace) (name : List ℕ) (found : NewPlace)
+    → IsPlaceAt views dir name found → slice_get views dir.drive ≡ Some view → IsPlaceFor view.media name found
 place-here views view dir name found at is =
     subst (λ (w : DriveView). IsPlaceFor w.media name found) (same_Some at.view view (sym at.is ∙ is)) at.place

@@ -36,7 +36,9 @@ module _ (f h : ℕ → Bool) (x : ℕ) (stricter : (c : ℕ) → f c ≡ true �
       by (f a) (h a) refl refl (stricter a) (filter f (range_with_len (a + 1) m)) (filter h (range_with_len (a + 1) m))
       (λ same. no_more f h stricter (a + 1) m) (λ past. one_less (a + 1) m past (omega arith))
     where
-      by : (t u : Bool) → f a ≡ t → h a ≡ u → (t ≡ true → h a ≡ true) → (xs ys : List ℕ) → (x ≡ a → length xs ≤ length ys) → (a + 1 ≤ x → length xs + 1 ≤ length ys) → length (if t then a ∷ xs else xs) + 1 ≤ length (if u then a ∷ ys else ys)
+      by : (t u : Bool) → f a ≡ t → h a ≡ u → (t ≡ true → h a ≡ true) → (xs ys : List ℕ)
+          → (x ≡ a → length xs ≤ length ys) → (a + 1 ≤ x → length xs + 1 ≤ length ys)
+          → length (if t then a ∷ xs else xs) + 1 ≤ length (if u then a ∷ ys else ys)
       by true true et eu imp xs ys same past = let p = past (apart et) in omega arith
         where
           apart : f a ≡ true → a + 1 ≤ x
@@ -52,7 +54,8 @@ module _ (k : ℕ) (positive : 1 ≤ k) (free : ℕ → Bool) (count : ℕ) (bel
   gained-few segments (c ∷ taken) gains =
       let rest = gained-few (appended_segments segments (c * k) k) taken gains.1 in
       let parts = and_parts (free c) (not (uses k segments c)) gains.0.is_free in
-      let fewer = one_less (free_beside k free (appended_segments segments (c * k) k)) (free_beside k free segments) c stricter out gains.0.is_free 0 count (omega arith) (let b = below c parts.0 in omega arith) in
+      let fewer = one_less (free_beside k free (appended_segments segments (c * k) k)) (free_beside k free segments) c
+      stricter out gains.0.is_free 0 count (omega arith) (let b = below c parts.0 in omega arith) in
       omega arith
     where
       beside_both : (a u e : Bool) → (a && not (u || e)) ≡ true → (a && not u) ≡ true
@@ -77,10 +80,14 @@ pub some-cluster : (media : Option (List ℕ)) (v : DiskVolume) → Represents m
 some-cluster media v on =
     subst (λ (s : Geometry). 1 ≤ s.cluster) (sym (shape-image on.image v on.vol)) (cluster_positive (image_geometry on.image).cluster on.vol.sound.shape.header.clusters)
 
-pub chosen-free : (media : Option (List ℕ)) (v : DiskVolume) → Represents media v → (segments : List (ℕ × ℕ)) (size : ℕ) (taken : List ℕ) → IsChoice (cluster_size v) (is_free_in v) segments size taken → clusters_needed (cluster_size v) segments size ≤ free_total v
+pub chosen-free : (media : Option (List ℕ)) (v : DiskVolume) → Represents media v → (segments : List (ℕ × ℕ))
+    (size : ℕ) (taken : List ℕ) → IsChoice (cluster_size v) (is_free_in v) segments size taken
+    → clusters_needed (cluster_size v) segments size ≤ free_total v
 chosen-free media v on segments size taken choice =
     let few = gained-few (cluster_size v) positive (is_free_in v) (cluster_count (shape v)) below segments taken choice.gained in
-    let all = no_more (free_beside (cluster_size v) (is_free_in v) segments) (is_free_in v) (λ c h. (and_parts (is_free_in v c) (not (uses (cluster_size v) segments c)) h).0) 0 (cluster_count (shape v)) in
+    let all = no_more (free_beside (cluster_size v) (is_free_in v) segments) (is_free_in v)
+    (λ c h. (and_parts (is_free_in v c) (not (uses (cluster_size v) segments c)) h).0) 0 (cluster_count (shape v))
+    in
     let enough = choice.enough in
     omega (arith, few, all, enough)
   where

@@ -106,7 +106,9 @@ ident-kept v left before after was is same = record {
       ∙ sym (ap (λ m. sector_at m 0) was.is);
 }
 
-pub ident-left : (asked : Asked) (v : DiskVolume) (file : DiskFile) (left : DiskVolume) (answer : Result ℕ DirError) (kept new : Option Volume) (before after : DriveView) → AgreesOnDrive kept before (Some v) → AgreesOnDrive new after (Some left) → AnswersChange asked v file left answer → KeepsIdent before.media after.media
+pub ident-left : (asked : Asked) (v : DiskVolume) (file : DiskFile) (left : DiskVolume) (answer : Result ℕ DirError)
+    (kept new : Option Volume) (before after : DriveView) → AgreesOnDrive kept before (Some v) → AgreesOnDrive new
+    after (Some left) → AnswersChange asked v file left answer → KeepsIdent before.media after.media
 ident-left asked v file left answer None new before after was is it = absurd was
 ident-left asked v file left answer (Some one) None before after was is it = absurd is
 ident-left asked v file left answer (Some one) (Some other) before after was is it =

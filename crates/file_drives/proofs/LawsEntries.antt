@@ -40,7 +40,8 @@ module _ (v : DiskVolume) (dir : DiskFile) (e : Entering) (old new : Option (Lis
   entry-leaves change user now makes may on (Err (File TooManyRuns)) it = it.media_kept
 
 -- a file
-pub creation-leaves : (v : DiskVolume) (dir : DiskFile) (d attributes user : ℕ) (name : List ℕ) (execute : Bool) (now : TimePacket) (old new : Option (List ℕ)) (answer : Result ℕ DirError) → Represents old v
+pub creation-leaves : (v : DiskVolume) (dir : DiskFile) (d attributes user : ℕ) (name : List ℕ) (execute : Bool)
+    (now : TimePacket) (old new : Option (List ℕ)) (answer : Result ℕ DirError) → Represents old v
     → AnswersEntering v dir (request d name attributes user execute now) old new answer → Leaves (creates d name attributes) user now v old new answer
 creation-leaves v dir d attributes user name execute now old new answer on it =
     entry-leaves v dir (request d name attributes user execute now) old new (creates d name attributes) user now (λ w n made. made) (λ w left. left) on answer it

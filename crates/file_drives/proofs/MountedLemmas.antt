@@ -29,7 +29,10 @@ read-same xs n new x is =
     sym (get_or_from_slice_get (set xs n new) n x x is) ∙ get_or-set_same xs n new x (subst (λ k. n < k) (length-set xs n new) inside)
 
 -- another volume is mounted on a drive
-pub mounted-set : (disks : List (Option Volume)) (views : List DriveView) (volumes : List (Option DiskVolume)) (n : ℕ) (new : Option Volume) (after : DriveView) (left : Option DiskVolume) → n < length disks → n < length views → AgreesOnDrive new after left → AreMounted disks views volumes → AreMounted (set disks n new) (set views n after) (set volumes n left)
+pub mounted-set : (disks : List (Option Volume)) (views : List DriveView) (volumes : List (Option DiskVolume)) (n : ℕ)
+    (new : Option Volume) (after : DriveView) (left : Option DiskVolume) → n < length disks → n < length views
+    → AgreesOnDrive new after left → AreMounted disks views volumes → AreMounted (set disks n new) (set views n after)
+    (set volumes n left)
 mounted-set disks views volumes n new after left there inside agrees mounted = record {
   few = subst (λ k. k ≤ 4) (sym (length-set views n after)) mounted.few;
   as_many = length-set volumes n left ∙ mounted.as_many ∙ sym (length-set views n after);
@@ -57,7 +60,8 @@ mounted-set disks views volumes n new after left there inside agrees mounted = r
     each : (m : ℕ) (view : DriveView) → slice_get (set views n after) m ≡ Some view → AgreesOnDrive (kept_at (set disks n new) m) view (mounted_at (set volumes n left) m)
     each m view is =
         ⊎_elim
-        (λ same. subst (λ k. AgreesOnDrive (kept_at (set disks n new) k) view (mounted_at (set volumes n left) k)) (sym same) (at_n view (subst (λ k. slice_get (set views n after) k ≡ Some view) same is)))
+        (λ same. subst (λ k. AgreesOnDrive (kept_at (set disks n new) k) view (mounted_at (set volumes n left) k))
+        (sym same) (at_n view (subst (λ k. slice_get (set views n after) k ≡ Some view) same is)))
         (λ apart. elsewhere m view apart is)
         (cases_eq m n)
 
@@ -67,7 +71,10 @@ same_kind None view v none some = some
 same_kind (Some volume) view v none some = none
 
 -- what was mounted on a drive is mounted still, and so on all
-pub stay-set : (disks : List (Option Volume)) (views : List DriveView) (n : ℕ) (new : Option Volume) (before after : DriveView) (v : DiskVolume) → n < length disks → slice_get views n ≡ Some before → AgreesOnDrive (kept_at disks n) before (Some v) → ((w : DiskVolume) → AgreesOnDrive (kept_at disks n) before (Some w) → AgreesOnDrive new after (Some w)) → StayMounted disks views (set disks n new) (set views n after)
+pub stay-set : (disks : List (Option Volume)) (views : List DriveView) (n : ℕ) (new : Option Volume)
+    (before after : DriveView) (v : DiskVolume) → n < length disks → slice_get views n ≡ Some before
+    → AgreesOnDrive (kept_at disks n) before (Some v) → ((w : DiskVolume) → AgreesOnDrive (kept_at disks n) before
+    (Some w) → AgreesOnDrive new after (Some w)) → StayMounted disks views (set disks n new) (set views n after)
 stay-set disks views n new before after v there is on stays volumes mounted =
     subst (λ vs. AreMounted (set disks n new) (set views n after) vs) (set-get_or volumes n None)
     (mounted-set disks views volumes n new after (mounted_at volumes n) there (slice_get_within views n before is) (still (mounted_at volumes n) (mounted.each n before is)) mounted)

@@ -19,7 +19,10 @@ use Rattle.file_drives.specs.Drives.{DriveView}
 use Rattle.file_drives.specs.Mounted.{AgreesOnDrive, AreMounted, HasFileAt, kept_at, mounted_at}
 
 -- the root that is kept is that of the volume
-pub root-kept : (volume : Volume) (view : DriveView) (n number : ℕ) (o : Option DiskVolume) → ((image : List ℕ) (v : DiskVolume) → Agrees (kept volume) image → Vol image v → number ≡ (shape v).root) → AgreesOnDrive (Some volume) view o → ◌≡◌ {A = Option FilePlace} (Some (record { drive = n; number = number })) (option_map (root_of n) o)
+pub root-kept : (volume : Volume) (view : DriveView) (n number : ℕ) (o : Option DiskVolume)
+    → ((image : List ℕ) (v : DiskVolume) → Agrees (kept volume) image → Vol image v → number ≡ (shape v).root)
+    → AgreesOnDrive (Some volume) view o → ◌≡◌ {A = Option FilePlace} (Some (record { drive = n; number = number }))
+    (option_map (root_of n) o)
 root-kept volume view n number None is agrees = absurd agrees
 root-kept volume view n number (Some v) is agrees =
     ap (λ k. let place : FilePlace = record { drive = n; number = k } in Some place) (is agrees.on.image v agrees.agrees agrees.on.vol)
@@ -29,7 +32,10 @@ no-root view n None agrees = refl
 no-root view n (Some v) agrees = absurd agrees
 
 -- each drive and what is kept for it agree, and where there is no drive nothing is kept
-pub root-at : (disks : List (Option Volume)) (views : List DriveView) (volumes : List (Option DiskVolume)) (n : ℕ) (slot : Option Volume) (result : Option FilePlace) → n < length disks → slot ≡ get_or disks n slot → ((view : DriveView) (o : Option DiskVolume) → AgreesOnDrive slot view o → result ≡ option_map (root_of n) o) → AreMounted disks views volumes → result ≡ option_map (root_of n) (mounted_at volumes n)
+pub root-at : (disks : List (Option Volume)) (views : List DriveView) (volumes : List (Option DiskVolume)) (n : ℕ)
+    (slot : Option Volume) (result : Option FilePlace) → n < length disks → slot ≡ get_or disks n slot
+    → ((view : DriveView) (o : Option DiskVolume) → AgreesOnDrive slot view o → result ≡ option_map (root_of n) o)
+    → AreMounted disks views volumes → result ≡ option_map (root_of n) (mounted_at volumes n)
 root-at disks views volumes n slot result there slot_is root mounted =
     ⊎_elim
     (λ below.
@@ -47,7 +53,9 @@ root-at disks views volumes n slot result there slot_is root mounted =
     is_kept = sym (get_or_read disks n slot there slot_is None)
 
 -- there is a file
-pub root-there : (disks : List (Option Volume)) (views : List DriveView) (volumes : List (Option DiskVolume)) (n : ℕ) (result : Option FilePlace) → AreMounted disks views volumes → result ≡ option_map (root_of n) (mounted_at volumes n) → IfSome result (HasFileAt disks views)
+pub root-there : (disks : List (Option Volume)) (views : List DriveView) (volumes : List (Option DiskVolume)) (n : ℕ)
+    (result : Option FilePlace) → AreMounted disks views volumes → result ≡ option_map (root_of n)
+    (mounted_at volumes n) → IfSome result (HasFileAt disks views)
 root-there disks views volumes n result mounted is =
     subst (λ r. IfSome r (HasFileAt disks views)) (sym is) (by (mounted_at volumes n) refl)
   where

@@ -49,14 +49,18 @@ pub not-none : (slot : Option Volume) (view : DriveView) (n : ℕ) → slot ≡ 
 not-none slot view n is has = subst (λ k. AgreesOnDrive k view (Some has.volume)) is has.on
 
 -- what holds of the file on the media
-pub on-file : (slot : Option Volume) (volume : Volume) (view : DriveView) (n : ℕ) (fact : DiskFile → Type 0) → slot ≡ Some volume → OnFile view.media n fact → OnMountedFile slot view n (λ v file. fact file)
+pub on-file : (slot : Option Volume) (volume : Volume) (view : DriveView) (n : ℕ) (fact : DiskFile → Type 0)
+    → slot ≡ Some volume → OnFile view.media n fact → OnMountedFile slot view n (λ v file. fact file)
 on-file slot volume view n fact is holds = record { holds = λ v file agrees there. holds v file (mounted-as slot volume view v is agrees).on there }
 
-pub on-volume_file : (slot : Option Volume) (volume : Volume) (view : DriveView) (n : ℕ) (fact : DiskVolume → DiskFile → Type 0) → slot ≡ Some volume → OnVolumeFile view.media n fact → OnMountedFile slot view n fact
+pub on-volume_file : (slot : Option Volume) (volume : Volume) (view : DriveView) (n : ℕ) (fact : DiskVolume → DiskFile
+    → Type 0) → slot ≡ Some volume → OnVolumeFile view.media n fact → OnMountedFile slot view n fact
 on-volume_file slot volume view n fact is holds = record { holds = λ v file agrees there. holds v file (mounted-as slot volume view v is agrees).on there }
 
 -- a volume that is kept as it was on media that stayed
-pub mounted-still : (volume new : Volume) (media after : Option (List ℕ)) (v : DiskVolume) → access.kept new ≡ access.kept volume → after ≡ media → IsCacheOf after new.cache → IsMountedAs volume media v → IsMountedAs new after v
+pub mounted-still : (volume new : Volume) (media after : Option (List ℕ)) (v : DiskVolume) → access.kept new ≡
+    access.kept volume → after ≡ media → IsCacheOf after new.cache → IsMountedAs volume media v
+    → IsMountedAs new after v
 mounted-still volume new media after v kept_same media_same cached it = record {
   on = record { image = it.on.image; is = media_same ∙ it.on.is; vol = it.on.vol };
   agrees = subst (λ k. Agrees k it.on.image) (sym kept_same) it.agrees;
@@ -64,7 +68,10 @@ mounted-still volume new media after v kept_same media_same cached it = record {
 }
 
 -- a call that only read
-pub reads-mounted : (slot : Option Volume) (volume new : Volume) (before after : DriveView) (fault : Option ℕ) (most : ℕ) → slot ≡ Some volume → after.media ≡ before.media → access.kept new ≡ access.kept volume → IsMounted new after.media → MovesCounts fault most before.counts after.counts → ReadsMounted fault most slot before (Some new) after
+pub reads-mounted : (slot : Option Volume) (volume new : Volume) (before after : DriveView) (fault : Option ℕ)
+    (most : ℕ) → slot ≡ Some volume → after.media ≡ before.media → access.kept new ≡ access.kept volume
+    → IsMounted new after.media → MovesCounts fault most before.counts after.counts → ReadsMounted fault most slot
+    before (Some new) after
 reads-mounted slot volume new before after fault most is media_same kept_same mounted counts = record {
   reads = record { media_kept = media_same; counts = counts };
   stays = λ v agrees. mounted-still volume new before.media after.media v kept_same media_same mounted.cached (mounted-as slot volume before v is agrees);

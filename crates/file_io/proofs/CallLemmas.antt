@@ -80,17 +80,23 @@ module _ (asker : Asker) (files : Files) (found : OpenFile) where
       (λ opened. refuses (is_none (user_bytes asker.caller.cells asker.caller.regs.x asker.caller.regs.y)) E_BPADDR
       (moves_bytes asker files opened can_read (reads_file asker files first_line opened)))) is
 
-  pub write-step : open_file files asker.caller.process.0 asker.caller.regs.a ≡ Some found → i_write asker files ≡ needs (user_bytes asker.caller.cells asker.caller.regs.x asker.caller.regs.y) E_BPADDR (sends_bytes asker files found)
+  pub write-step : open_file files asker.caller.process.0 asker.caller.regs.a ≡ Some found → i_write asker files ≡
+      needs (user_bytes asker.caller.cells asker.caller.regs.x asker.caller.regs.y) E_BPADDR
+      (sends_bytes asker files found)
   write-step is =
       ap (λ (o : Option OpenFile). by_kind o (writes_device asker.caller files.io)
       (λ opened. needs (user_bytes asker.caller.cells asker.caller.regs.x asker.caller.regs.y) E_BPADDR (sends_bytes asker files opened))) is
 
-  pub write_line-step : open_file files asker.caller.process.0 asker.caller.regs.a ≡ Some found → i_writln asker files ≡ needs (line_at asker.caller.cells asker.caller.regs.x asker.caller.regs.y) E_BPADDR (sends_bytes asker files found)
+  pub write_line-step : open_file files asker.caller.process.0 asker.caller.regs.a ≡ Some found → i_writln asker files
+      ≡ needs (line_at asker.caller.cells asker.caller.regs.x asker.caller.regs.y) E_BPADDR
+      (sends_bytes asker files found)
   write_line-step is =
       ap (λ (o : Option OpenFile). by_kind o (writes_device_line asker.caller files.io)
       (λ opened. needs (line_at asker.caller.cells asker.caller.regs.x asker.caller.regs.y) E_BPADDR (sends_bytes asker files opened))) is
 
-  pub error-step : open_file files asker.caller.process.0 STANDARD_ERROR ≡ Some found → f_perr asker files ≡ refuses (not (can_write found.opened.desc.mode)) E_BMODE (write_file (error_line asker.caller.regs.b) asker.caller.regs asker files found)
+  pub error-step : open_file files asker.caller.process.0 STANDARD_ERROR ≡ Some found → f_perr asker files ≡ refuses
+      (not (can_write found.opened.desc.mode)) E_BMODE (write_file (error_line asker.caller.regs.b) asker.caller.regs
+      asker files found)
   unfolding write_file
   error-step is =
       ap (λ (o : Option OpenFile). by_kind o (tells_device asker.caller files.io)

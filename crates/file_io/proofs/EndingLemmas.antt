@@ -17,7 +17,9 @@ module _ (io between : Io) (p : ℕ) (opened : OpenFile) (same : between ≡ wit
   still-there = ap (λ (it : Io). is_some (desc_of it.paths opened.path.0)) same ∙ ap (λ (o : Option Desc). is_some o) path
 
   -- and its position is another one
-  pub moved-on : (new : Io) (at : ℕ) → IfSome (desc_of between.paths opened.path.0) (λ desc. new ≡ with_paths between (with_desc between.paths opened.path.0 (Some (record desc { at = at })))) → new ≡ with_call (moved_to io opened at) p None
+  pub moved-on : (new : Io) (at : ℕ) → IfSome (desc_of between.paths opened.path.0) (λ desc. new ≡ with_paths between
+      (with_desc between.paths opened.path.0 (Some (record desc { at = at }))))
+      → new ≡ with_call (moved_to io opened at) p None
   moved-on new at fact =
       let here : IfSome (desc_of io.paths opened.path.0) (λ desc. new ≡ with_paths (with_call io p None) (with_desc io.paths opened.path.0 (Some (record desc { at = at })))) =
       subst (λ (it : Io). IfSome (desc_of it.paths opened.path.0) (λ desc. new ≡ with_paths it (with_desc it.paths opened.path.0 (Some (record desc { at = at }))))) same fact in

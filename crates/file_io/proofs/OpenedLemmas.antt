@@ -33,7 +33,9 @@ module _ (files : Files) (p n : ℕ) (found : rules.OpenFile) where
   abbrev Parts : Option OpenPath → Type 0
   Parts path = (path ≡ Some found.opened) × (place_of_target found.opened.desc.target ≡ Some found.place)
 
-  by_file : (opened : OpenPath) (place : FilePlace) (v : DiskVolume) (o : Option DiskFile) → place_of_target opened.desc.target ≡ Some place → option_map {U = rules.OpenFile} (λ (file : DiskFile). record { opened = opened; place = place; volume = v; file = file }) o ≡ Some found → Parts (Some opened)
+  by_file : (opened : OpenPath) (place : FilePlace) (v : DiskVolume) (o : Option DiskFile)
+      → place_of_target opened.desc.target ≡ Some place → option_map {U = rules.OpenFile} (λ (file : DiskFile). record
+      { opened = opened; place = place; volume = v; file = file }) o ≡ Some found → Parts (Some opened)
   by_file opened place v None at e = absurd (none-some found e)
   by_file opened place v (Some file) at e =
       let whole : record { opened = opened; place = place; volume = v; file = file } ≡ found = same_Some (record { opened = opened; place = place; volume = v; file = file }) found e in
@@ -42,7 +44,10 @@ module _ (files : Files) (p n : ℕ) (found : rules.OpenFile) where
         ap (λ (it : OpenPath). place_of_target it.desc.target) (sym same) ∙ at ∙ ap (λ (it : rules.OpenFile). Some it.place) whole,
       )
 
-  by_volume : (opened : OpenPath) (place : FilePlace) (o : Option DiskVolume) → place_of_target opened.desc.target ≡ Some place → option_and_then (λ (v : DiskVolume). option_map {U = rules.OpenFile} (λ (file : DiskFile). record { opened = opened; place = place; volume = v; file = file }) (v.files place.number)) o ≡ Some found → Parts (Some opened)
+  by_volume : (opened : OpenPath) (place : FilePlace) (o : Option DiskVolume) → place_of_target opened.desc.target ≡
+      Some place → option_and_then (λ (v : DiskVolume). option_map {U = rules.OpenFile} (λ (file : DiskFile). record
+      { opened = opened; place = place; volume = v; file = file }) (v.files place.number)) o ≡ Some found
+      → Parts (Some opened)
   by_volume opened place None at e = absurd (none-some found e)
   by_volume opened place (Some v) at e = by_file opened place v (v.files place.number) at e
 
@@ -57,7 +62,8 @@ module _ (files : Files) (p n : ℕ) (found : rules.OpenFile) where
   pub found-parts : open_file files p n ≡ Some found → Parts (open_path files.io p n)
   found-parts e = by_path (open_path files.io p n) e
 
-pub named-of : (state : FileState) (views : List DriveView) (files : Files) (p n : ℕ) (opened : OpenFile) → StandsFor state views files → IsFileOf state views files p n opened → IsNamed state.io p n opened
+pub named-of : (state : FileState) (views : List DriveView) (files : Files) (p n : ℕ) (opened : OpenFile)
+    → StandsFor state views files → IsFileOf state views files p n opened → IsNamed state.io p n opened
 named-of state views files p n opened stands it =
     let parts = found-parts files p n it.found it.is in
     record {
@@ -70,11 +76,16 @@ named-of state views files p n opened stands it =
 -- ---- the file that it is on
 
 -- the rules of the calls find it by the number
-pub open-file : (files : Files) (p n : ℕ) (opened : OpenFile) (v : DiskVolume) (file : DiskFile) → open_path files.io p n ≡ Some (path_of opened) → place_of_target opened.desc.target ≡ Some opened.place → volume_at files opened.place.drive ≡ Some v → v.files opened.place.number ≡ Some file → open_file files p n ≡ Some (found_on opened v file)
+pub open-file : (files : Files) (p n : ℕ) (opened : OpenFile) (v : DiskVolume) (file : DiskFile) → open_path files.io
+    p n ≡ Some (path_of opened) → place_of_target opened.desc.target ≡ Some opened.place
+    → volume_at files opened.place.drive ≡ Some v → v.files opened.place.number ≡ Some file → open_file files p n ≡
+    Some (found_on opened v file)
 open-file files p n opened v file path place is there =
     ap (λ (o : Option OpenPath). option_and_then (λ (it : OpenPath). option_and_then (open_file_at files it) (place_of_target it.desc.target)) o) path
     ∙ ap (λ (o : Option FilePlace). option_and_then (open_file_at files (path_of opened)) o) place
-    ∙ ap (λ (o : Option DiskVolume). option_and_then (λ (v : DiskVolume). option_map {U = rules.OpenFile} (λ (file : DiskFile). record { opened = path_of opened; place = opened.place; volume = v; file = file }) (v.files opened.place.number)) o) is
+    ∙ ap (λ (o : Option DiskVolume). option_and_then (λ (v : DiskVolume). option_map {U = rules.OpenFile}
+    (λ (file : DiskFile). record { opened = path_of opened; place = opened.place; volume = v; file = file })
+    (v.files opened.place.number)) o) is
     ∙ ap (λ (o : Option DiskFile). option_map {U = rules.OpenFile} (λ (file : DiskFile). record { opened = path_of opened; place = opened.place; volume = v; file = file }) o) there
 
 -- ---- in a sound state
@@ -99,7 +110,9 @@ module _ (state : FileState) (views : List DriveView) (sound : IsSound state vie
 -- ---- on a drive
 
 -- a volume that is mounted is that of some media
-pub mounted-on : (disks : List (Option Volume)) (views : List DriveView) (volumes : List (Option DiskVolume)) (n : ℕ) (v : DiskVolume) → AreMounted disks views volumes → mounted_at volumes n ≡ Some v → (media : Option (List ℕ)) × Represents media v
+pub mounted-on : (disks : List (Option Volume)) (views : List DriveView) (volumes : List (Option DiskVolume)) (n : ℕ)
+    (v : DiskVolume) → AreMounted disks views volumes → mounted_at volumes n ≡ Some v → (media : Option (List ℕ)) ×
+    Represents media v
 mounted-on disks views volumes n v mounted is =
     let none : DriveView = record { media = None; counts = record { faults = 0; last = None; calls = 0 } } in
     let view : DriveView = get_or views n none in
@@ -112,7 +125,9 @@ mounted-on disks views volumes n v mounted is =
     by (Some volume) view agrees = (view.media, agrees.on)
 
 -- a file of it has no more bytes than 32 bits count
-pub mounted-low : (disks : List (Option Volume)) (views : List DriveView) (volumes : List (Option DiskVolume)) (n : ℕ) (v : DiskVolume) (number : ℕ) (file : DiskFile) → AreMounted disks views volumes → mounted_at volumes n ≡ Some v → v.files number ≡ Some file → length file.contents < 2 ^ 32
+pub mounted-low : (disks : List (Option Volume)) (views : List DriveView) (volumes : List (Option DiskVolume)) (n : ℕ)
+    (v : DiskVolume) (number : ℕ) (file : DiskFile) → AreMounted disks views volumes → mounted_at volumes n ≡ Some v
+    → v.files number ≡ Some file → length file.contents < 2 ^ 32
 mounted-low disks views volumes n v number file mounted is there =
     let on = mounted-on disks views volumes n v mounted is in
     size-low on.0 v number file on.1 there

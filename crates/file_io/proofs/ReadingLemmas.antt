@@ -56,7 +56,9 @@ loaded-few file at most buffer (Ok count) it = omega (arith, it.count_is, count-
 loaded-few file at most buffer (Err fault) it = tt
 
 -- and 32 bits count its end
-pub loaded-fits : (file : DiskFile) (at most : ℕ) (buffer : List ℕ) (loaded : Result ℕ FileFault) → IfOk loaded (IsLoaded file at most buffer) → at < 2 ^ 32 → length file.contents < 2 ^ 32 → IfOk loaded (λ count. at + count < 2 ^ 32)
+pub loaded-fits : (file : DiskFile) (at most : ℕ) (buffer : List ℕ) (loaded : Result ℕ FileFault)
+    → IfOk loaded (IsLoaded file at most buffer) → at < 2 ^ 32 → length file.contents < 2 ^ 32
+    → IfOk loaded (λ count. at + count < 2 ^ 32)
 loaded-fits file at most buffer (Ok count) it low size = ⊎_elim
     (λ inside. omega (arith, it.count_is, count-from file.contents at most, inside, size))
     (λ past. omega (arith, it.count_is, count-from file.contents at most, past, low))
@@ -79,14 +81,19 @@ loaded-of file at most before new rest count long read =
     }
 
 -- the bytes at the front of a buffer that a read gives, and their count
-pub given-bytes : (kind : ReadKind) (buffer : List ℕ) (count n : ℕ) → n ≤ length (take count buffer) → take n (take count buffer) ≡ part_of kind (take count buffer) → (take n buffer ≡ part_of kind (take count buffer)) × (length (part_of kind (take count buffer)) ≡ n)
+pub given-bytes : (kind : ReadKind) (buffer : List ℕ) (count n : ℕ) → n ≤ length (take count buffer)
+    → take n (take count buffer) ≡ part_of kind (take count buffer)
+    → (take n buffer ≡ part_of kind (take count buffer)) × (length (part_of kind (take count buffer)) ≡ n)
 given-bytes kind buffer count n within is =
     let few : n ≤ count = omega (arith, within, length-take count buffer) in (
       sym (take-take n count buffer few) ∙ is,
       ap (λ (b : List ℕ). length b) (sym is) ∙ length-take-le n (take count buffer) within,
     )
 
-module _ (kind : ReadKind) (m : Inner) (files : Files) (v : DiskVolume) (file : DiskFile) (now : TimePacket) (p : ℕ) (opened : OpenFile) (end : CallEnd) (processes : ProcState) (mid : FileState) (new : Io) (before after : List DriveView) (terms : List TerminalState) (most : ℕ) (called : CalledAtMost most before after) (is : volume_at files opened.place.drive ≡ Some v) (some : (regs_at m p).y ≢ 0) where
+module _ (kind : ReadKind) (m : Inner) (files : Files) (v : DiskVolume) (file : DiskFile) (now : TimePacket) (p : ℕ)
+    (opened : OpenFile) (end : CallEnd) (processes : ProcState) (mid : FileState) (new : Io)
+    (before after : List DriveView) (terms : List TerminalState) (most : ℕ) (called : CalledAtMost most before after)
+    (is : volume_at files opened.place.drive ≡ Some v) (some : (regs_at m p).y ≢ 0) where
   abbrev asker : Asker
   asker = asker_of m p now
 
@@ -158,7 +165,9 @@ module _ (kind : ReadKind) (m : Inner) (files : Files) (v : DiskVolume) (file : 
   }
 
   -- bytes
-  gives : at < length file.contents → HasRead None drive files mid before after → GivesBytes (part_of kind (bytes_from file.contents at (regs_at m p).y)) (regs_at m p) opened m p mid.io end processes new → Done
+  gives : at < length file.contents → HasRead None drive files mid before after
+      → GivesBytes (part_of kind (bytes_from file.contents at (regs_at m p).y)) (regs_at m p) opened m p mid.io end
+      processes new → Done
   unfolding read_file
   gives inside read it = record {
     effect = with_drives_after given drives;
@@ -173,7 +182,9 @@ module _ (kind : ReadKind) (m : Inner) (files : Files) (v : DiskVolume) (file : 
     drives = keeps None read;
   }
 
-  pub read-ends : (loaded : Result ℕ FileFault) (buffer : List ℕ) → HasRead (file_fault loaded) drive files mid before after → OnErr loaded (IsSome (file_fault loaded)) → IfOk loaded (IsLoaded file at (regs_at m p).y buffer) → EndsRead loaded kind buffer (regs_at m p) opened m p mid.io end processes new → Done
+  pub read-ends : (loaded : Result ℕ FileFault) (buffer : List ℕ) → HasRead (file_fault loaded) drive files mid before
+      after → OnErr loaded (IsSome (file_fault loaded)) → IfOk loaded (IsLoaded file at (regs_at m p).y buffer)
+      → EndsRead loaded kind buffer (regs_at m p) opened m p mid.io end processes new → Done
   read-ends (Ok count) buffer read device it ends =
       let y = (regs_at m p).y in
       let long = count-from file.contents at y in

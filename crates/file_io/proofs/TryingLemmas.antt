@@ -51,7 +51,9 @@ deed-goes files test number deed is = ap (λ (t : Bool). deed_of (refuses t numb
 
 -- ---- what reaches no drive
 
-module _ (m : Inner) (files : Files) (now : TimePacket) (p : ℕ) (end : CallEnd) (processes : ProcState) (old : FileState) (new : Io) (views : List DriveView) (terms : List TerminalState) {most : ℕ} (stands : StandsFor old views files) where
+module _ (m : Inner) (files : Files) (now : TimePacket) (p : ℕ) (end : CallEnd) (processes : ProcState)
+    (old : FileState) (new : Io) (views : List DriveView) (terms : List TerminalState) {most : ℕ}
+    (stands : StandsFor old views files) where
   -- it is refused
   pub ends-refused : (number : ℕ) → IsRefused number m p old.io end processes new → Ends (refused number) most m files now p end processes (record old { io = new }) views views terms
   ends-refused number it = record {
@@ -64,7 +66,9 @@ module _ (m : Inner) (files : Files) (now : TimePacket) (p : ℕ) (end : CallEnd
   }
 
   -- it is done
-  pub ends-done : (change : Io → Io) (regs : Regs) → IsDone m p regs (change old.io) end processes new → Ends (done regs (with_io files (change files.io))) most m files now p end processes (record old { io = new }) views views terms
+  pub ends-done : (change : Io → Io) (regs : Regs) → IsDone m p regs (change old.io) end processes new
+      → Ends (done regs (with_io files (change files.io))) most m files now p end processes (record old { io = new })
+      views views terms
   ends-done change regs it = record {
     effect = leaves (answers regs) (with_io files (change files.io));
     does = goes-well (done regs (with_io files (change files.io))) (asker_of m p now) files (leaves (answers regs) (with_io files (change files.io))) files.drives terms refl refl;
@@ -74,25 +78,38 @@ module _ (m : Inner) (files : Files) (now : TimePacket) (p : ℕ) (end : CallEnd
     drives = keeps-same (done regs (with_io files (change files.io))) (asker_of m p now) files end views tt;
   }
 
-module _ (m : Inner) (files : Files) (now : TimePacket) (p : ℕ) (end : CallEnd) (processes : ProcState) (new : FileState) (views : List DriveView) (terms : List TerminalState) {most : ℕ} {before : List DriveView} where
+module _ (m : Inner) (files : Files) (now : TimePacket) (p : ℕ) (end : CallEnd) (processes : ProcState)
+    (new : FileState) (views : List DriveView) (terms : List TerminalState) {most : ℕ} {before : List DriveView} where
   -- ---- the tests of a step
 
-  pub ends-needs-none : {A : Type 0} (o : Option A) (number : ℕ) (next : A → FileStep) → o ≡ None → Ends (refused number) most m files now p end processes new before views terms → Ends (needs o number next) most m files now p end processes new before views terms
+  pub ends-needs-none : {A : Type 0} (o : Option A) (number : ℕ) (next : A → FileStep) → o ≡ None
+      → Ends (refused number) most m files now p end processes new before views terms → Ends (needs o number next)
+      most m files now p end processes new before views terms
   ends-needs-none {A} o number next is ends = subst (λ (o : Option A). Ends (needs o number next) most m files now p end processes new before views terms) (sym is) ends
 
-  pub ends-needs-some : {A : Type 0} (o : Option A) (a : A) (number : ℕ) (next : A → FileStep) → o ≡ Some a → Ends (next a) most m files now p end processes new before views terms → Ends (needs o number next) most m files now p end processes new before views terms
+  pub ends-needs-some : {A : Type 0} (o : Option A) (a : A) (number : ℕ) (next : A → FileStep) → o ≡ Some a
+      → Ends (next a) most m files now p end processes new before views terms → Ends (needs o number next) most m
+      files now p end processes new before views terms
   ends-needs-some {A} o a number next is ends = subst (λ (o : Option A). Ends (needs o number next) most m files now p end processes new before views terms) (sym is) ends
 
-  pub ends-refuses-true : (test : Bool) (number : ℕ) (next : FileStep) → test ≡ true → Ends (refused number) most m files now p end processes new before views terms → Ends (refuses test number next) most m files now p end processes new before views terms
+  pub ends-refuses-true : (test : Bool) (number : ℕ) (next : FileStep) → test ≡ true → Ends (refused number) most m
+      files now p end processes new before views terms → Ends (refuses test number next) most m files now p end
+      processes new before views terms
   ends-refuses-true test number next is ends = subst (λ (t : Bool). Ends (refuses t number next) most m files now p end processes new before views terms) (sym is) ends
 
-  pub ends-refuses-false : (test : Bool) (number : ℕ) (next : FileStep) → test ≡ false → Ends next most m files now p end processes new before views terms → Ends (refuses test number next) most m files now p end processes new before views terms
+  pub ends-refuses-false : (test : Bool) (number : ℕ) (next : FileStep) → test ≡ false → Ends next most m files now p
+      end processes new before views terms → Ends (refuses test number next) most m files now p end processes new
+      before views terms
   ends-refuses-false test number next is ends = subst (λ (t : Bool). Ends (refuses t number next) most m files now p end processes new before views terms) (sym is) ends
 
-  pub ends-if-true : (test : Bool) (one other : FileStep) → test ≡ true → Ends one most m files now p end processes new before views terms → Ends (if test then one else other) most m files now p end processes new before views terms
+  pub ends-if-true : (test : Bool) (one other : FileStep) → test ≡ true → Ends one most m files now p end processes
+      new before views terms → Ends (if test then one else other) most m files now p end processes new before views
+      terms
   ends-if-true test one other is ends = subst (λ (t : Bool). Ends (if t then one else other) most m files now p end processes new before views terms) (sym is) ends
 
-  pub ends-if-false : (test : Bool) (one other : FileStep) → test ≡ false → Ends other most m files now p end processes new before views terms → Ends (if test then one else other) most m files now p end processes new before views terms
+  pub ends-if-false : (test : Bool) (one other : FileStep) → test ≡ false → Ends other most m files now p end
+      processes new before views terms → Ends (if test then one else other) most m files now p end processes new
+      before views terms
   ends-if-false test one other is ends = subst (λ (t : Bool). Ends (if t then one else other) most m files now p end processes new before views terms) (sym is) ends
 
   -- a step that is another one
@@ -101,11 +118,16 @@ module _ (m : Inner) (files : Files) (now : TimePacket) (p : ℕ) (end : CallEnd
 
 -- ---- what an attempt did is what its call does
 
-module _ (m : Inner) (files : Files) (now : TimePacket) (p : ℕ) (end : CallEnd) (before after : Standing) (terms : List TerminalState) (call : PathCall) (step : FileStep) (is : file_step call (asker_of m p now) files (length terms) ≡ step) (most : ℕ) where
-  of-call : Ends step most m files now p end after.processes after.files before.views after.views terms → Ends (file_step call (asker_of m p now) files (length terms)) most m files now p end after.processes after.files before.views after.views terms
+module _ (m : Inner) (files : Files) (now : TimePacket) (p : ℕ) (end : CallEnd) (before after : Standing)
+    (terms : List TerminalState) (call : PathCall) (step : FileStep) (is : file_step call (asker_of m p now) files
+    (length terms) ≡ step) (most : ℕ) where
+  of-call : Ends step most m files now p end after.processes after.files before.views after.views terms
+      → Ends (file_step call (asker_of m p now) files (length terms)) most m files now p end after.processes
+      after.files before.views after.views terms
   of-call ends = ends-same m files now p end after.processes after.files after.views terms step (file_step call (asker_of m p now) files (length terms)) (sym is) ends
 
   -- with at most so many calls of the drives
-  pub attempts-in : (limit : ℕ) → limit ≡ most → Ends step most m files now p end after.processes after.files before.views after.views terms → AttemptsIn limit call m files now p end terms terms before after
+  pub attempts-in : (limit : ℕ) → limit ≡ most → Ends step most m files now p end after.processes after.files
+      before.views after.views terms → AttemptsIn limit call m files now p end terms terms before after
   attempts-in limit same ends =
       subst (λ (n : ℕ). AttemptsIn n call m files now p end terms terms before after) (sym same) (ends-attempt most call m files now p end terms before after (of-call ends))

@@ -69,7 +69,11 @@ written-low v w n at (byte ∷ bytes) now it low size =
     let contents : it.new.contents ≡ written it.old.contents at (byte ∷ bytes) = ap (λ (f : DiskFile). f.contents) it.changed.file in
     omega (arith, end-within it.old.contents (byte ∷ bytes) at (omega arith), ap (λ (b : List ℕ). length b) contents)
 
-pub write-fits : (number at : ℕ) (bytes : List ℕ) (user : ℕ) (now : TimePacket) (result : Result (Unit {0}) FileFault) (most : DiskVolume → ℕ) (v : DiskVolume) (file : DiskFile) (drive : ℕ) (volumes : List (Option DiskVolume)) (before : List DriveView) (new : List (Option Volume)) (after : List DriveView) → mounted_at volumes drive ≡ Some v → LeavesVolume (record { change = writes number at bytes; user = user; now = now }) (file_answer result) most v file drive volumes before new after → at < 2 ^ 32 → IsOk result → at + length bytes < 2 ^ 32
+pub write-fits : (number at : ℕ) (bytes : List ℕ) (user : ℕ) (now : TimePacket) (result : Result (Unit {0}) FileFault)
+    (most : DiskVolume → ℕ) (v : DiskVolume) (file : DiskFile) (drive : ℕ) (volumes : List (Option DiskVolume))
+    (before : List DriveView) (new : List (Option Volume)) (after : List DriveView) → mounted_at volumes drive ≡ Some
+    v → LeavesVolume (record { change = writes number at bytes; user = user; now = now }) (file_answer result) most v
+    file drive volumes before new after → at < 2 ^ 32 → IsOk result → at + length bytes < 2 ^ 32
 write-fits number at bytes user now (Ok done) most v file drive volumes before new after is it low ok =
     let there = get_or-set_same volumes drive (Some it.left) None (mounted-below volumes drive v is) in
     let makes : Writes v it.left number at bytes now = it.answers.makes in
@@ -78,13 +82,25 @@ write-fits number at bytes user now (Ok done) most v file drive volumes before n
 write-fits number at bytes user now (Err fault) most v file drive volumes before new after is it low ok = absurd (false≢true ok)
 
 -- a change of the volume, where the bytes are these
-pub changed-same : (number at : ℕ) (one other : List ℕ) (user : ℕ) (now : TimePacket) (result : Result (Unit {0}) FileFault) (v : DiskVolume) (file : DiskFile) (drive : ℕ) (files : Files) (mid : FileState) (before after : List DriveView) → one ≡ other → HasChangedIn (writing_calls number at (length one) result v file) (record { change = writes number at one; user = user; now = now }) (file_answer result) drive v file files mid before after → HasChangedIn (writing_calls number at (length other) result v file) (record { change = writes number at other; user = user; now = now }) (file_answer result) drive v file files mid before after
+pub changed-same : (number at : ℕ) (one other : List ℕ) (user : ℕ) (now : TimePacket) (result : Result (Unit {0})
+    FileFault) (v : DiskVolume) (file : DiskFile) (drive : ℕ) (files : Files) (mid : FileState)
+    (before after : List DriveView) → one ≡ other → HasChangedIn (writing_calls number at (length one) result v file)
+    (record { change = writes number at one; user = user; now = now }) (file_answer result) drive v file files mid
+    before after → HasChangedIn (writing_calls number at (length other) result v file)
+    (record { change = writes number at other; user = user; now = now }) (file_answer result) drive v file files mid
+    before after
 changed-same number at one other user now result v file drive files mid before after same changed =
-    subst (λ (bytes : List ℕ). HasChangedIn (writing_calls number at (length bytes) result v file) (record { change = writes number at bytes; user = user; now = now }) (file_answer result) drive v file files mid before after) same changed
+    subst (λ (bytes : List ℕ). HasChangedIn (writing_calls number at (length bytes) result v file)
+    (record { change = writes number at bytes; user = user; now = now }) (file_answer result) drive v file files
+    mid before after) same changed
 
 -- ---- what it comes to
 
-module _ (m : Inner) (files : Files) (v : DiskVolume) (file : DiskFile) (now : TimePacket) (p : ℕ) (opened : OpenFile) (bytes : List ℕ) (regs : Regs) (end : CallEnd) (processes : ProcState) (mid : FileState) (new : Io) (before after : List DriveView) (terms : List TerminalState) (is : volume_at files opened.place.drive ≡ Some v) (there : v.files opened.place.number ≡ Some file) (drives_are : files.drives ≡ drive_states before) (count : ℕ) (long : length bytes ≡ count) where
+module _ (m : Inner) (files : Files) (v : DiskVolume) (file : DiskFile) (now : TimePacket) (p : ℕ) (opened : OpenFile)
+    (bytes : List ℕ) (regs : Regs) (end : CallEnd) (processes : ProcState) (mid : FileState) (new : Io)
+    (before after : List DriveView) (terms : List TerminalState) (is : volume_at files opened.place.drive ≡ Some v)
+    (there : v.files opened.place.number ≡ Some file) (drives_are : files.drives ≡ drive_states before) (count : ℕ)
+    (long : length bytes ≡ count) where
   abbrev asker : Asker
   asker = asker_of m p now
 
@@ -124,17 +140,25 @@ module _ (m : Inner) (files : Files) (v : DiskVolume) (file : DiskFile) (now : T
   few : (result : Result (Unit {0}) FileFault) → Changed result → CalledAtMost (writing_attempt_calls count found) before after
   few result it =
       subst (λ (n : ℕ). CalledAtMost (writing_attempt_calls n found) before after) long
-      (called-more (writing_calls opened.place.number at (length bytes) result v file it.changed.left) (writing_attempt_calls (length bytes) found) before after (writing-few opened v file (length bytes) opened.place.number result it.changed.left) it.calls)
+      (called-more (writing_calls opened.place.number at (length bytes) result v file it.changed.left)
+      (writing_attempt_calls (length bytes) found) before after (writing-few opened v file (length bytes)
+      opened.place.number result it.changed.left) it.calls)
 
   -- it is refused, and the volume is this
-  refused-on : (number : ℕ) (left : DiskVolume) → StandsFor mid after (with_drives (with_volume files drive left) drives) → IsRefused number m p mid.io end processes new → StandsFor (record mid { io = new }) after (with_io (with_drives (with_volume files drive left) drives) (with_call files.io p None))
+  refused-on : (number : ℕ) (left : DiskVolume) → StandsFor mid after (with_drives (with_volume files drive left)
+      drives) → IsRefused number m p mid.io end processes new → StandsFor (record mid { io = new }) after
+      (with_io (with_drives (with_volume files drive left) drives) (with_call files.io p None))
   refused-on number left stands it =
       stands-with_io mid after (with_drives (with_volume files drive left) drives) (with_call files.io p None) new (ap (λ (io : Io). with_call io p None) stands.io ∙ sym it.io_is) stands
 
   -- the volume is left as it was
-  refused-as-before : (number : ℕ) (left : DiskVolume) → left ≡ v → StandsFor mid after (with_drives (with_volume files drive left) drives) → IsRefused number m p mid.io end processes new → StandsFor (record mid { io = new }) after (with_io (with_drives files drives) (with_call files.io p None))
+  refused-as-before : (number : ℕ) (left : DiskVolume) → left ≡ v → StandsFor mid after
+      (with_drives (with_volume files drive left) drives) → IsRefused number m p mid.io end processes new
+      → StandsFor (record mid { io = new }) after (with_io (with_drives files drives) (with_call files.io p None))
   refused-as-before number left same stands it =
-      subst (λ (f : Files). StandsFor (record mid { io = new }) after (with_io (with_drives f drives) (with_call f.io p None))) (ap (λ (w : DiskVolume). with_volume files drive w) same ∙ same-volume files drive v is) (refused-on number left stands it)
+      subst (λ (f : Files). StandsFor (record mid { io = new }) after (with_io (with_drives f drives)
+      (with_call f.io p None))) (ap (λ (w : DiskVolume). with_volume files drive w) same ∙ same-volume files drive
+      v is) (refused-on number left stands it)
 
   -- ---- what it leaves of the drives
 
@@ -142,10 +166,14 @@ module _ (m : Inner) (files : Files) (v : DiskVolume) (file : DiskFile) (now : T
   keeps-as made end_is keeps = subst (λ e. KeepsDrives step asker files e before after) (sym end_is) keeps
 
   -- it was refused, or was to be when the drive failed
-  keeps-all : (number : ℕ) (result : Result (Unit {0}) FileFault) → Changed result → IsNotMade (file_answer result) ⊎ (is_refused (asked_of change asker) v file ≡ true) → end ≡ CallEnd.Error number → KeepsDrives step asker files end before after
+  keeps-all : (number : ℕ) (result : Result (Unit {0}) FileFault) → Changed result → IsNotMade (file_answer result) ⊎
+      (is_refused (asked_of change asker) v file ≡ true) → end ≡ CallEnd.Error number → KeepsDrives step asker files
+      end before after
   keeps-all number result it quiet end_is =
       keeps-as (CallEnd.Error number) end_is
-      (keeps-refused step asker files (CallEnd.Error number) drive before after (inl refl) (error-keeps (deed_of step files) number) (asked_of change asker) (file_answer result) v file mid it.changed quiet)
+      (keeps-refused step asker files (CallEnd.Error number) drive before after (inl refl)
+      (error-keeps (deed_of step files) number) (asked_of change asker) (file_answer result) v file mid it.changed
+      quiet)
 
   keeps-done : (done : Unit {0}) → Changed (Ok done) → end ≡ CallEnd.Done → full ≡ false → KeepsDrives step asker files end before after
   keeps-done done it end_is enough =
@@ -156,7 +184,9 @@ module _ (m : Inner) (files : Files) (v : DiskVolume) (file : DiskFile) (now : T
   keeps-failed number it end_is false e =
       keeps-as (CallEnd.Error number) end_is (keeps-broken step asker files change v file mid before after refl (deed-goes files full E_FULL (changes change) e) is there number drives_are it.changed)
 
-  pub write-ends : (result : Result (Unit {0}) FileFault) → Changed result → EndsWrite result (length bytes) regs opened m p mid.io end processes new → Ends (write_file bytes regs asker files found) (writing_attempt_calls count found) m files now p end processes (record mid { io = new }) before after terms
+  pub write-ends : (result : Result (Unit {0}) FileFault) → Changed result → EndsWrite result (length bytes) regs
+      opened m p mid.io end processes new → Ends (write_file bytes regs asker files found)
+      (writing_attempt_calls count found) m files now p end processes (record mid { io = new }) before after terms
   unfolding write_file
   write-ends (Ok done) it ends = record {
     effect = with_drives_after (with_volume_after beside drive it.changed.left) drives;
@@ -200,13 +230,22 @@ module _ (m : Inner) (files : Files) (v : DiskVolume) (file : DiskFile) (now : T
   }
 
 -- the same, where other registers are answered that are these
-pub ends-writes : (m : Inner) (files : Files) (now : TimePacket) (p : ℕ) (end : CallEnd) (processes : ProcState) {most : ℕ} (new : FileState) {before : List DriveView} (views : List DriveView) (terms : List TerminalState) (bytes : List ℕ) (regs other : Regs) (found : rules.OpenFile) → regs ≡ other → Ends (write_file bytes regs (asker_of m p now) files found) most m files now p end processes new before views terms → Ends (writes_bytes files found bytes other) most m files now p end processes new before views terms
+pub ends-writes : (m : Inner) (files : Files) (now : TimePacket) (p : ℕ) (end : CallEnd) (processes : ProcState)
+    {most : ℕ} (new : FileState) {before : List DriveView} (views : List DriveView) (terms : List TerminalState)
+    (bytes : List ℕ) (regs other : Regs) (found : rules.OpenFile) → regs ≡ other
+    → Ends (write_file bytes regs (asker_of m p now) files found) most m files now p end processes new before views
+    terms → Ends (writes_bytes files found bytes other) most m files now p end processes new before views terms
 unfolding write_file
 ends-writes m files now p end processes {most} new {before} views terms bytes regs other found same ends =
     subst (λ (r : Regs). Ends (writes_bytes files found bytes r) most m files now p end processes new before views terms) same ends
 
 -- the same, where the bytes are these too
-pub ends-write_file : (m : Inner) (files : Files) (now : TimePacket) (p : ℕ) (end : CallEnd) (processes : ProcState) {most : ℕ} (new : FileState) {before : List DriveView} (views : List DriveView) (terms : List TerminalState) (bytes line : List ℕ) (regs other : Regs) (found : rules.OpenFile) → bytes ≡ line → regs ≡ other → Ends (write_file bytes regs (asker_of m p now) files found) most m files now p end processes new before views terms → Ends (write_file line other (asker_of m p now) files found) most m files now p end processes new before views terms
+pub ends-write_file : (m : Inner) (files : Files) (now : TimePacket) (p : ℕ) (end : CallEnd) (processes : ProcState)
+    {most : ℕ} (new : FileState) {before : List DriveView} (views : List DriveView) (terms : List TerminalState)
+    (bytes line : List ℕ) (regs other : Regs) (found : rules.OpenFile) → bytes ≡ line → regs ≡ other
+    → Ends (write_file bytes regs (asker_of m p now) files found) most m files now p end processes new before views
+    terms → Ends (write_file line other (asker_of m p now) files found) most m files now p end processes new before
+    views terms
 ends-write_file m files now p end processes {most} new {before} views terms bytes line regs other found is same ends =
     subst (λ (r : Regs). Ends (write_file line r (asker_of m p now) files found) most m files now p end processes new before views terms) same
     (subst (λ (b : List ℕ). Ends (write_file b regs (asker_of m p now) files found) most m files now p end processes new before views terms) is ends)

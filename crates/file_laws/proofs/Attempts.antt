@@ -57,7 +57,9 @@ module _ (asker : Asker) (files : Files) (kinds : AreKinds files) where
       io-kept asker files kinds (i_close asker.caller files.io) (close-leaves files asker.caller files.io kinds.paths)
   step-kept Call.PErr terms = f_perr-kept asker files kinds
 
-  pub does-stands : (call : PathCall) (effect : FileEffect) (p : ℕ) (old new : List TerminalState) → FileDoes (file_step call asker files (length old)) asker files effect old new → Stands files (files_after p effect)
+  pub does-stands : (call : PathCall) (effect : FileEffect) (p : ℕ) (old new : List TerminalState)
+      → FileDoes (file_step call asker files (length old)) asker files effect old new
+      → Stands files (files_after p effect)
   does-stands call effect p old new does =
       let left : Stands files effect.files = does-kept asker files kinds (file_step call asker files (length old)) effect old new (step-kept call (length old)) does in
       record {
@@ -65,11 +67,15 @@ module _ (asker : Asker) (files : Files) (kinds : AreKinds files) where
         many = many-then files effect.files (files_after p effect) left.many (many-io effect.files (with_call effect.files.io p (kept_in effect.end)));
       }
 
-pub attempt-stands : (call : PathCall) (inner : Inner) (files : Files) (now : TimePacket) (p : ℕ) (result : CallResult) (new : Files) (old_terms new_terms : List TerminalState) → FileAttempts call inner files now p result new old_terms new_terms → AreKinds files → Stands files new
+pub attempt-stands : (call : PathCall) (inner : Inner) (files : Files) (now : TimePacket) (p : ℕ)
+    (result : CallResult) (new : Files) (old_terms new_terms : List TerminalState) → FileAttempts call inner files now
+    p result new old_terms new_terms → AreKinds files → Stands files new
 attempt-stands call inner files now p result new old_terms new_terms it kinds =
     subst (Stands files) (sym it.state) (does-stands (asker_of inner p now) files kinds call it.effect p old_terms new_terms it.does)
 
-pub asked-stands : (call : PathCall) (asker : Asker) (files : Files) (end : CallEnd) (regs : Regs) (cells : Cells) (new : Files) (old_terms new_terms : List TerminalState) → AskerAttempts call asker files end regs cells new old_terms new_terms → AreKinds files → Stands files new
+pub asked-stands : (call : PathCall) (asker : Asker) (files : Files) (end : CallEnd) (regs : Regs) (cells : Cells)
+    (new : Files) (old_terms new_terms : List TerminalState) → AskerAttempts call asker files end regs cells new
+    old_terms new_terms → AreKinds files → Stands files new
 asked-stands call asker files end regs cells new old_terms new_terms it kinds =
     subst (Stands files) (sym it.state) (does-stands asker files kinds call it.effect asker.caller.process.0 old_terms new_terms it.does)
 

@@ -66,7 +66,9 @@ module _ (files : Files) (kinds : AreKinds files) where
   pub stands-io : (io : Io) → AreOn files io.paths → Stands files (with_io files io)
   stands-io io on = record { kinds = kinds-io files kinds io on; many = many-io files io }
 
-  pub stands-directories : (p : ℕ) (directories : Directories) → ((execute : Bool) (place : FilePlace) → directory_in execute directories ≡ Some place → IsOfKind files place true) → Stands files (with_directories_of files p directories)
+  pub stands-directories : (p : ℕ) (directories : Directories) → ((execute : Bool) (place : FilePlace)
+      → directory_in execute directories ≡ Some place → IsOfKind files place true)
+      → Stands files (with_directories_of files p directories)
   stands-directories p directories new = record {
     kinds = kinds-directories files kinds p directories new;
     many = many-directories files p directories;

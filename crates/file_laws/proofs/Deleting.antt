@@ -82,21 +82,43 @@ module _ (asker : Asker) (files : Files) (kinds : AreKinds files) where
         no_directory : (p : ℕ) (execute : Bool) (place : FilePlace) → directory_of files p execute ≡ Some place → place.drive ≡ dir.place.drive → place.number ≢ n
         no_directory p execute place at same number =
             let it = kinds.directories p execute place at in
-            let there : dir.volume.files n ≡ Some it.file = sym (ap (file_of n) found.mounted) ∙ sym (ap (λ (k : ℕ). file_of k (volume_at files dir.place.drive)) number) ∙ sym (ap (λ (d : ℕ). file_of place.number (volume_at files d)) same) ∙ it.there in
+            let there : dir.volume.files n ≡ Some it.file = sym (ap (file_of n) found.mounted) ∙ sym
+            (ap (λ (k : ℕ). file_of k (volume_at files dir.place.drive)) number) ∙ sym
+            (ap (λ (d : ℕ). file_of place.number (volume_at files d)) same) ∙ it.there in
             not-deleted (dir.volume.files n) asker.user it.file there may it.kind
 
     delete-file : (n : ℕ) → KeptOn asker files dir.place.drive (deletes_file asker files list name dir n)
     delete-file n =
-        refuses-by (KeptOn asker files dir.place.drive) none-on (not (may_delete (dir.volume.files n) asker.user)) E_FNA (refuses (is_open files (record { drive = dir.place.drive; number = n })) E_SHARE (comes (changes (record { drive = dir.place.drive; change = deletes dir.place.number n name; effect = λ new. leaves (answers (past_list asker.caller.regs list)) files }))))
-        (λ may. refuses-by (KeptOn asker files dir.place.drive) none-on (is_open files (record { drive = dir.place.drive; number = n })) E_SHARE (comes (changes (record { drive = dir.place.drive; change = deletes dir.place.number n name; effect = λ new. leaves (answers (past_list asker.caller.regs list)) files })))
-        (λ closed. on-changes asker files kinds (record { drive = dir.place.drive; change = deletes dir.place.number n name; effect = λ new. leaves (answers (past_list asker.caller.regs list)) files })
+        refuses-by (KeptOn asker files dir.place.drive) none-on (not (may_delete (dir.volume.files n) asker.user))
+        E_FNA (refuses (is_open files (record { drive = dir.place.drive; number = n })) E_SHARE
+        (comes (changes (record {
+          drive = dir.place.drive;
+          change = deletes dir.place.number n name;
+          effect = λ
+              new. leaves (answers (past_list asker.caller.regs list)) files;
+        }))))
+        (λ may. refuses-by (KeptOn asker files dir.place.drive) none-on
+        (is_open files (record { drive = dir.place.drive; number = n })) E_SHARE
+        (comes (changes (record {
+          drive = dir.place.drive;
+          change = deletes dir.place.number n name;
+          effect = λ
+              new. leaves (answers (past_list asker.caller.regs list)) files;
+        })))
+        (λ closed. on-changes asker files kinds (record {
+          drive = dir.place.drive;
+          change = deletes dir.place.number n
+              name;
+          effect = λ new. leaves (answers (past_list asker.caller.regs list)) files;
+        })
         (λ number. many-same files)
         (λ was now number is it. gone-kinds n (of-not (may_delete (dir.volume.files n) asker.user) may) closed was now is (deleted-still was now dir.place.number n name it))
         (λ was left is it. gone-kinds n (of-not (may_delete (dir.volume.files n) asker.user) may) closed was left is (deletion-still it.0 was left dir.place.number n name it.2))))
 
     delete-in : (execute : Bool) → KeptOn asker files dir.place.drive (deletes_in asker files execute list name dir)
     delete-in execute =
-        refuses-by (KeptOn asker files dir.place.drive) none-on (not (may_change dir.file asker.user execute)) E_FNA (needs (look_up dir.file.contents name) E_PNNF (deletes_file asker files list name dir))
+        refuses-by (KeptOn asker files dir.place.drive) none-on (not (may_change dir.file asker.user execute)) E_FNA
+        (needs (look_up dir.file.contents name) E_PNNF (deletes_file asker files list name dir))
         (λ may. needs-by (KeptOn asker files dir.place.drive) none-on (look_up dir.file.contents name) E_PNNF (deletes_file asker files list name dir) (λ n is. delete-file n))
 
   delete-way : (execute : Bool) (list : PathList) (way : Way) (name : Option (List ℕ)) → Kept asker files (deletes_named asker files execute list way name)
@@ -107,7 +129,8 @@ module _ (asker : Asker) (files : Files) (kinds : AreKinds files) where
   delete-way execute list to_device name = none-kept E_FNA
   delete-way execute list (nowhere number) name = none-kept number
 
-  delete-by : (terms : ℕ) (execute : Bool) (test : FileStep → FileStep) → ((step : FileStep) → Kept asker files step → Kept asker files (test step)) → Kept asker files (deletes_by asker files terms execute test)
+  delete-by : (terms : ℕ) (execute : Bool) (test : FileStep → FileStep) → ((step : FileStep) → Kept asker files step
+      → Kept asker files (test step)) → Kept asker files (deletes_by asker files terms execute test)
   delete-by terms execute test tests =
       list-by (Kept asker files) none-kept (list_of asker) test (λ list. deletes_named asker files execute list (way_of asker files terms execute list) (last_of list.names))
       tests (λ list. delete-way execute list (way_of asker files terms execute list) (last_of list.names))

@@ -30,7 +30,9 @@ kind-same old new place kind same it = record {
   kind = it.kind;
 }
 
-pub on-by : (old new : Files) (mode : ℕ) (target : Target) → ((place : FilePlace) (kind : Bool) → place_of_target target ≡ Some place → IsOfKind old place kind → IsOfKind new place kind) → IsOnTarget old mode target → IsOnTarget new mode target
+pub on-by : (old new : Files) (mode : ℕ) (target : Target) → ((place : FilePlace) (kind : Bool)
+    → place_of_target target ≡ Some place → IsOfKind old place kind → IsOfKind new place kind) → IsOnTarget old mode
+    target → IsOnTarget new mode target
 on-by old new mode (File drive number) carry it = carry (record { drive = drive; number = number }) false refl it
 on-by old new mode (Folder drive number) carry it = (carry (record { drive = drive; number = number }) true refl it.0, it.1)
 on-by old new mode (Term terminal) carry it = tt
@@ -68,19 +70,28 @@ module _ (files : Files) (kinds : AreKinds files) where
     clusters = λ drive v is. kinds.clusters drive v is;
   }
 
-  pub kinds-directories : (p : ℕ) (directories : Directories) → ((execute : Bool) (place : FilePlace) → directory_in execute directories ≡ Some place → IsOfKind files place true) → AreKinds (with_directories_of files p directories)
+  pub kinds-directories : (p : ℕ) (directories : Directories) → ((execute : Bool) (place : FilePlace)
+      → directory_in execute directories ≡ Some place → IsOfKind files place true)
+      → AreKinds (with_directories_of files p directories)
   kinds-directories p directories new = record {
     paths = λ s desc there. on-same files (with_directories_of files p directories) desc refl (kinds.paths s desc there);
-    directories = λ q execute place at. kind-same files (with_directories_of files p directories) place true refl (by_process q execute place at (cases_eq q p) (cases_lt p (length files.directories)));
+    directories = λ q execute place at. kind-same files (with_directories_of files p directories) place true refl
+        (by_process q execute place at (cases_eq q p) (cases_lt p (length files.directories)));
     clusters = λ drive v is. kinds.clusters drive v is;
   }
     where
-      by_process : (q : ℕ) (execute : Bool) (place : FilePlace) → directory_of (with_directories_of files p directories) q execute ≡ Some place → (q ≡ p) ⊎ (q ≡ p → ⊥) → (p < length files.directories) ⊎ (length files.directories ≤ p) → IsOfKind files place true
+      by_process : (q : ℕ) (execute : Bool) (place : FilePlace)
+          → directory_of (with_directories_of files p directories) q execute ≡ Some place → (q ≡ p) ⊎ (q ≡ p → ⊥)
+          → (p < length files.directories) ⊎ (length files.directories ≤ p) → IsOfKind files place true
       by_process q execute place at (inl same) (inl within) =
-          let is : directories_at (with_directories_of files p directories) q ≡ directories = ap (directories_at (with_directories_of files p directories)) same ∙ get_or-set_same files.directories p directories no_directories within in
+          let is : directories_at (with_directories_of files p directories) q ≡ directories = ap
+          (directories_at (with_directories_of files p directories)) same ∙ get_or-set_same files.directories p
+          directories no_directories within in
           new execute place (sym (ap (directory_in execute) is) ∙ at)
       by_process q execute place at (inl same) (inr past) =
-          let is : directories_at (with_directories_of files p directories) q ≡ no_directories = ap (directories_at (with_directories_of files p directories)) same ∙ get_or_past (slice_set files.directories p directories) p no_directories (rw length-set past) in
+          let is : directories_at (with_directories_of files p directories) q ≡ no_directories = ap
+          (directories_at (with_directories_of files p directories)) same ∙ get_or_past
+          (slice_set files.directories p directories) p no_directories (rw length-set past) in
           absurd (none-in execute place (sym (ap (directory_in execute) is) ∙ at))
       by_process q execute place at (inr apart) within =
           kinds.directories q execute place (sym (ap (directory_in execute) (get_or-set_other files.directories p q directories no_directories apart)) ∙ at)

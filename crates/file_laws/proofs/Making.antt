@@ -62,12 +62,16 @@ module _ (asker : Asker) (files : Files) (kinds : AreKinds files) where
 
     room-kept : (size : ℕ) (next : FileStep) → KeptOn asker files dir.place.drive next → KeptOn asker files dir.place.drive (has_room_for dir size next)
     room-kept size next kept =
-        refuses-by (KeptOn asker files dir.place.drive) none-on (nat_lt (free_total dir.volume) (clusters_for dir size)) E_FULL (refuses (nat_lt 0 (entry_clusters (cluster_size dir.volume) dir.file) && (length dir.file.segments == 48)) E_SLF next)
+        refuses-by (KeptOn asker files dir.place.drive) none-on (nat_lt (free_total dir.volume)
+        (clusters_for dir size)) E_FULL (refuses (nat_lt 0 (entry_clusters (cluster_size dir.volume) dir.file) &&
+        (length dir.file.segments == 48)) E_SLF next)
         (λ room. refuses-by (KeptOn asker files dir.place.drive) none-on (nat_lt 0 (entry_clusters (cluster_size dir.volume) dir.file) && (length dir.file.segments == 48)) E_SLF next (λ places. kept))
 
     -- ---- I$Create
 
-    made-kinds : (name : List ℕ) (number : ℕ) → says_directory asker.caller.regs.b ≡ false → (was now : DiskVolume) (n : ℕ) → volume_at files dir.place.drive ≡ Some was → Creates was now dir.place.number n name asker.caller.regs.b asker.user asker.now
+    made-kinds : (name : List ℕ) (number : ℕ) → says_directory asker.caller.regs.b ≡ false → (was now : DiskVolume)
+        (n : ℕ) → volume_at files dir.place.drive ≡ Some was → Creates was now dir.place.number n name
+        asker.caller.regs.b asker.user asker.now
         → AreKinds (with_volume (opens_new asker files list dir.place.drive number n).files dir.place.drive now)
     made-kinds name number says was now n is it =
         kinds-io (with_volume files dir.place.drive now) changed (with_paths files.io (paths_after_begin files.io.paths asker.caller.process.0 (new_desc (File dir.place.drive n) asker.caller.regs.a)))
@@ -75,7 +79,8 @@ module _ (asker : Asker) (files : Files) (kinds : AreKinds files) where
       where
         changed : AreKinds (with_volume files dir.place.drive now)
         changed =
-            kinds-still files dir.place.drive was now is (entered-still was now dir.place.number n name (file_plan asker.caller.regs.b asker.user asker.now) (kinds.clusters dir.place.drive was is) it) kinds
+            kinds-still files dir.place.drive was now is (entered-still was now dir.place.number n name
+            (file_plan asker.caller.regs.b asker.user asker.now) (kinds.clusters dir.place.drive was is) it) kinds
 
         new_file : IsOfKind (with_volume files dir.place.drive now) (record { drive = dir.place.drive; number = n }) false
         new_file = record {
@@ -88,8 +93,21 @@ module _ (asker : Asker) (files : Files) (kinds : AreKinds files) where
 
     with-path : (name : List ℕ) → says_directory asker.caller.regs.b ≡ false → KeptOn asker files dir.place.drive (creates_with_path asker files list name dir)
     with-path name says =
-        needs-by (KeptOn asker files dir.place.drive) none-on (new_number files.io.paths asker.caller.process.0) E_PTHFUL (λ number. has_room_for dir 0 (comes (changes (record { drive = dir.place.drive; change = creates dir.place.number name asker.caller.regs.b; effect = opens_new asker files list dir.place.drive number }))))
-        (λ number free. room-kept 0 (comes (changes (record { drive = dir.place.drive; change = creates dir.place.number name asker.caller.regs.b; effect = opens_new asker files list dir.place.drive number })))
+        needs-by (KeptOn asker files dir.place.drive) none-on (new_number files.io.paths asker.caller.process.0)
+        E_PTHFUL (λ number. has_room_for dir 0
+        (comes (changes (record {
+          drive = dir.place.drive;
+          change = creates dir.place.number name
+              asker.caller.regs.b;
+          effect = opens_new asker files list dir.place.drive number;
+        }))))
+        (λ number free. room-kept 0
+        (comes (changes (record {
+          drive = dir.place.drive;
+          change = creates dir.place.number name
+              asker.caller.regs.b;
+          effect = opens_new asker files list dir.place.drive number;
+        })))
         (on-changes asker files kinds (record { drive = dir.place.drive; change = creates dir.place.number name asker.caller.regs.b; effect = opens_new asker files list dir.place.drive number })
         (λ n. many-io files (with_paths files.io (paths_after_begin files.io.paths asker.caller.process.0 (new_desc (File dir.place.drive n) asker.caller.regs.a))))
         (λ was now n is it. made-kinds name number says was now n is it)
@@ -97,33 +115,69 @@ module _ (asker : Asker) (files : Files) (kinds : AreKinds files) where
 
     create-in : (name : List ℕ) → KeptOn asker files dir.place.drive (creates_in asker files list name dir)
     create-in name =
-        refuses-by (KeptOn asker files dir.place.drive) none-on (not (may_change dir.file asker.user (is_for_execution asker.caller.regs.a))) E_FNA (refuses (says_directory asker.caller.regs.b) E_FNA (refuses (is_some (look_up dir.file.contents name)) E_CEF (creates_with_path asker files list name dir)))
-        (λ may. refuses-by (KeptOn asker files dir.place.drive) none-on (says_directory asker.caller.regs.b) E_FNA (refuses (is_some (look_up dir.file.contents name)) E_CEF (creates_with_path asker files list name dir))
+        refuses-by (KeptOn asker files dir.place.drive) none-on
+        (not (may_change dir.file asker.user (is_for_execution asker.caller.regs.a))) E_FNA
+        (refuses (says_directory asker.caller.regs.b) E_FNA (refuses (is_some (look_up dir.file.contents name))
+        E_CEF (creates_with_path asker files list name dir)))
+        (λ may. refuses-by (KeptOn asker files dir.place.drive) none-on (says_directory asker.caller.regs.b) E_FNA
+        (refuses (is_some (look_up dir.file.contents name)) E_CEF (creates_with_path asker files list name dir))
         (λ says. refuses-by (KeptOn asker files dir.place.drive) none-on (is_some (look_up dir.file.contents name)) E_CEF (creates_with_path asker files list name dir) (λ new. with-path name says)))
 
     -- ---- I$MakDir
 
     make-in : (name : List ℕ) → KeptOn asker files dir.place.drive (makes_in asker files list name dir)
     make-in name =
-        refuses-by (KeptOn asker files dir.place.drive) none-on (not (may_change dir.file asker.user false)) E_FNA (refuses (is_some (look_up dir.file.contents name)) E_CEF (has_room_for dir new_directory_size (comes (changes (record { drive = dir.place.drive; change = makes_directory dir.place.number name asker.caller.regs.b; effect = λ n. leaves (answers (past_list asker.caller.regs list)) files })))))
-        (λ may. refuses-by (KeptOn asker files dir.place.drive) none-on (is_some (look_up dir.file.contents name)) E_CEF (has_room_for dir new_directory_size (comes (changes (record { drive = dir.place.drive; change = makes_directory dir.place.number name asker.caller.regs.b; effect = λ n. leaves (answers (past_list asker.caller.regs list)) files }))))
-        (λ new. room-kept new_directory_size (comes (changes (record { drive = dir.place.drive; change = makes_directory dir.place.number name asker.caller.regs.b; effect = λ n. leaves (answers (past_list asker.caller.regs list)) files })))
-        (on-changes asker files kinds (record { drive = dir.place.drive; change = makes_directory dir.place.number name asker.caller.regs.b; effect = λ n. leaves (answers (past_list asker.caller.regs list)) files })
+        refuses-by (KeptOn asker files dir.place.drive) none-on (not (may_change dir.file asker.user false)) E_FNA
+        (refuses (is_some (look_up dir.file.contents name)) E_CEF (has_room_for dir new_directory_size
+        (comes (changes (record {
+          drive = dir.place.drive;
+          change = makes_directory dir.place.number name
+              asker.caller.regs.b;
+          effect = λ n. leaves (answers (past_list asker.caller.regs list)) files;
+        })))))
+        (λ may. refuses-by (KeptOn asker files dir.place.drive) none-on (is_some (look_up dir.file.contents name))
+        E_CEF (has_room_for dir new_directory_size
+        (comes (changes (record {
+          drive = dir.place.drive;
+          change = makes_directory dir.place.number name
+              asker.caller.regs.b;
+          effect = λ n. leaves (answers (past_list asker.caller.regs list)) files;
+        }))))
+        (λ new. room-kept new_directory_size
+        (comes (changes (record {
+          drive = dir.place.drive;
+          change = makes_directory dir.place.number name
+              asker.caller.regs.b;
+          effect = λ n. leaves (answers (past_list asker.caller.regs list)) files;
+        })))
+        (on-changes asker files kinds (record {
+          drive = dir.place.drive;
+          change = makes_directory dir.place.number
+              name asker.caller.regs.b;
+          effect = λ n. leaves (answers (past_list asker.caller.regs list)) files;
+        })
         (λ n. many-same files)
-        (λ was now n is it. kinds-still files dir.place.drive was now is (entered-still was now dir.place.number n name (directory_plan asker.caller.regs.b asker.user asker.now dir.place.number n) (kinds.clusters dir.place.drive was is) it) kinds)
-        (λ was left is it. kinds-still files dir.place.drive was left is (new-file-still was left dir.place.number name (directory_plan asker.caller.regs.b asker.user asker.now dir.place.number) it) kinds))))
+        (λ was now n is it. kinds-still files dir.place.drive was now is (entered-still was now dir.place.number n
+        name (directory_plan asker.caller.regs.b asker.user asker.now dir.place.number n)
+        (kinds.clusters dir.place.drive was is) it) kinds)
+        (λ was left is it. kinds-still files dir.place.drive was left is (new-file-still was left dir.place.number
+        name (directory_plan asker.caller.regs.b asker.user asker.now dir.place.number) it) kinds))))
 
   create-way : (terms : ℕ) (list : PathList) (way : Way) → Kept asker files (creates_on_way asker files terms list way)
   create-way terms list (along place names) =
       needs-by (Kept asker files) none-kept (last_of names) E_BPNAM (λ name. walks asker files (is_for_execution asker.caller.regs.a) place (before_last names) (creates_in asker files list name))
       (λ name is. walks-kept asker files kinds (is_for_execution asker.caller.regs.a) place (before_last names) (creates_in asker files list name) (λ dir found. create-in list dir name))
   create-way terms list to_device =
-      io-kept asker files kinds (opens_for_create asker.caller files.io (length files.drives) terms) (opens-leaves files asker.caller files.io kinds.paths a_new_place (can_write asker.caller.regs.a) (length files.drives) terms)
+      io-kept asker files kinds (opens_for_create asker.caller files.io (length files.drives) terms)
+      (opens-leaves files asker.caller files.io kinds.paths a_new_place (can_write asker.caller.regs.a)
+      (length files.drives) terms)
   create-way terms list (nowhere number) = none-kept number
 
   pub create-kept : (terms : ℕ) → Kept asker files (i_create asker files terms)
   create-kept terms =
-      list-by (Kept asker files) none-kept (list_of asker) (tests_mode (can_write asker.caller.regs.a)) (λ list. creates_on_way asker files terms list (way_to_new asker files terms (is_for_execution asker.caller.regs.a) list))
+      list-by (Kept asker files) none-kept (list_of asker) (tests_mode (can_write asker.caller.regs.a))
+      (λ list. creates_on_way asker files terms list (way_to_new asker files terms
+      (is_for_execution asker.caller.regs.a) list))
       (mode-kept asker files kinds (can_write asker.caller.regs.a)) (λ list. create-way terms list (way_to_new asker files terms (is_for_execution asker.caller.regs.a) list))
 
   make-way : (list : PathList) (way : Way) → Kept asker files (makes_on_way asker files list way)

@@ -46,11 +46,15 @@ use Rattle.file_laws.proofs.Volumes.{all-same, attributes-kind, changes-still, s
 
 module _ (asker : Asker) (files : Files) (kinds : AreKinds files) where
   -- a call goes on with a file, or is the other call
-  file-by : (o : Option OpenFile) (otherwise : IoStep) (next : OpenFile → FileStep) → LeavesOn files otherwise asker.caller files.io → ((opened : OpenFile) → o ≡ Some opened → Kept asker files (next opened)) → Kept asker files (by_kind o otherwise next)
+  file-by : (o : Option OpenFile) (otherwise : IoStep) (next : OpenFile → FileStep) → LeavesOn files otherwise
+      asker.caller files.io → ((opened : OpenFile) → o ≡ Some opened → Kept asker files (next opened))
+      → Kept asker files (by_kind o otherwise next)
   file-by None otherwise next on kept = io-kept asker files kinds otherwise on
   file-by (Some opened) otherwise next on kept = kept opened refl
 
-  on-kept : (number : ℕ) (otherwise : IoStep) (next : OpenFile → FileStep) → LeavesOn files otherwise asker.caller files.io → ((opened : OpenFile) → desc_of files.io.paths opened.opened.path.0 ≡ Some opened.opened.desc → Kept asker files (next opened)) → Kept asker files (on_file asker files number otherwise next)
+  on-kept : (number : ℕ) (otherwise : IoStep) (next : OpenFile → FileStep) → LeavesOn files otherwise asker.caller
+      files.io → ((opened : OpenFile) → desc_of files.io.paths opened.opened.path.0 ≡ Some opened.opened.desc
+      → Kept asker files (next opened)) → Kept asker files (on_file asker files number otherwise next)
   on-kept number otherwise next on kept =
       file-by (open_file files asker.caller.process.0 number) otherwise next on (λ opened is. kept opened (opened-desc files asker.caller.process.0 number opened is))
 
@@ -81,16 +85,40 @@ module _ (asker : Asker) (files : Files) (kinds : AreKinds files) where
 
     read-kept : (part : List ℕ → List ℕ) → Kept asker files (reads_file asker files part opened)
     read-kept part =
-        reaches-kept asker files kinds opened.place.drive (refuses (nat_le (length opened.file.contents) opened.opened.desc.at) E_EOF (comes (leaves_so (answers_bytes asker files opened (part (bytes_here asker opened))))))
-        (refuses-by (KeptOn asker files opened.place.drive) (on-refused asker files kinds opened.place.drive) (nat_le (length opened.file.contents) opened.opened.desc.at) E_EOF (comes (leaves_so (answers_bytes asker files opened (part (bytes_here asker opened)))))
-        (λ more. on-leaves asker files kinds opened.place.drive (answers_bytes asker files opened (part (bytes_here asker opened))) (moved-kinds (opened.opened.desc.at + length (part (bytes_here asker opened))))))
+        reaches-kept asker files kinds opened.place.drive
+        (refuses (nat_le (length opened.file.contents) opened.opened.desc.at) E_EOF
+        (comes (leaves_so (answers_bytes asker files opened (part (bytes_here asker opened))))))
+        (refuses-by (KeptOn asker files opened.place.drive) (on-refused asker files kinds opened.place.drive)
+        (nat_le (length opened.file.contents) opened.opened.desc.at) E_EOF
+        (comes (leaves_so (answers_bytes asker files opened (part (bytes_here asker opened)))))
+        (λ more. on-leaves asker files kinds opened.place.drive (answers_bytes asker files opened
+        (part (bytes_here asker opened)))
+        (moved-kinds (opened.opened.desc.at + length (part (bytes_here asker opened))))))
 
     -- ---- changes of the file
 
-    change-kept : (change : Change) (size : ℕ) (regs : Regs) (io : Io) → AreKinds (with_io files io) → ((was now : DiskVolume) (number : ℕ) → Makes change asker.user asker.now was now number → AllStill was now) → ((was left : DiskVolume) → MayLeave change asker.user asker.now was left → AllStill was left) → Kept asker files (changes_file files opened change size regs (with_io files io))
+    change-kept : (change : Change) (size : ℕ) (regs : Regs) (io : Io) → AreKinds (with_io files io)
+        → ((was now : DiskVolume) (number : ℕ) → Makes change asker.user asker.now was now number → AllStill was now)
+        → ((was left : DiskVolume) → MayLeave change asker.user asker.now was left → AllStill was left)
+        → Kept asker files (changes_file files opened change size regs (with_io files io))
     change-kept change size regs io after made left =
-        reaches-kept asker files kinds opened.place.drive (refuses (nat_lt (free_total opened.volume) (clusters_needed (cluster_size opened.volume) opened.file.segments size)) E_FULL (comes (changes (record { drive = opened.place.drive; change = change; effect = λ n. leaves (answers regs) (with_io files io) }))))
-        (refuses-by (KeptOn asker files opened.place.drive) (on-refused asker files kinds opened.place.drive) (nat_lt (free_total opened.volume) (clusters_needed (cluster_size opened.volume) opened.file.segments size)) E_FULL (comes (changes (record { drive = opened.place.drive; change = change; effect = λ n. leaves (answers regs) (with_io files io) })))
+        reaches-kept asker files kinds opened.place.drive
+        (refuses (nat_lt (free_total opened.volume) (clusters_needed (cluster_size opened.volume)
+        opened.file.segments size)) E_FULL
+        (comes (changes (record {
+          drive = opened.place.drive;
+          change = change;
+          effect = λ n. leaves (answers regs)
+              (with_io files io);
+        }))))
+        (refuses-by (KeptOn asker files opened.place.drive) (on-refused asker files kinds opened.place.drive)
+        (nat_lt (free_total opened.volume) (clusters_needed (cluster_size opened.volume) opened.file.segments
+        size)) E_FULL (comes (changes (record {
+          drive = opened.place.drive;
+          change = change;
+          effect = λ n. leaves
+              (answers regs) (with_io files io);
+        })))
         (λ room. on-changes asker files kinds (record { drive = opened.place.drive; change = change; effect = λ n. leaves (answers regs) (with_io files io) })
         (λ number. many-io files io)
         (λ was now number is makes. kinds-still (with_io files io) opened.place.drive was now is (made was now number makes) after)
@@ -101,7 +129,9 @@ module _ (asker : Asker) (files : Files) (kinds : AreKinds files) where
         change-kept (writes opened.place.number opened.opened.desc.at bytes) (length (written opened.file.contents opened.opened.desc.at bytes)) regs
         (with_paths files.io (with_desc files.io.paths opened.opened.path.0 (Some (record opened.opened.desc { at = opened.opened.desc.at + length bytes }))))
         (moved-kinds (opened.opened.desc.at + length bytes)).kinds
-        (λ was now number it. changes-still (WritesFile (cluster_size was) (is_free_in was) opened.opened.desc.at bytes asker.now) (λ old new done. ap (λ (file : DiskFile). is_directory file) done.file) was now opened.place.number it)
+        (λ was now number it. changes-still (WritesFile (cluster_size was) (is_free_in was) opened.opened.desc.at
+        bytes asker.now) (λ old new done. ap (λ (file : DiskFile). is_directory file) done.file) was now
+        opened.place.number it)
         (λ was left it. write-still was left opened.place.number opened.opened.desc.at bytes it)
 
     send-kept : (bytes : List ℕ) → Kept asker files (sends_bytes asker files opened bytes)
@@ -112,7 +142,8 @@ module _ (asker : Asker) (files : Files) (kinds : AreKinds files) where
 
     get-on : (count : ℕ) (bytes : List ℕ) → Kept asker files (gets_bytes asker files count (λ step. step) bytes)
     get-on count bytes =
-        refuses-by (Kept asker files) none-kept (is_none (user_bytes asker.caller.cells asker.caller.regs.x count)) E_BPADDR (comes (leaves_so (stores asker.caller.regs.x bytes asker.caller.regs files)))
+        refuses-by (Kept asker files) none-kept (is_none (user_bytes asker.caller.cells asker.caller.regs.x count))
+        E_BPADDR (comes (leaves_so (stores asker.caller.regs.x bytes asker.caller.regs files)))
         (λ fits. leaves-kept asker files kinds (stores asker.caller.regs.x bytes asker.caller.regs files) (stands-same files kinds))
 
     reach-done : (step : FileStep) → KeptOn asker files opened.place.drive step → Kept asker files (reaches opened.place.drive step)
@@ -120,7 +151,10 @@ module _ (asker : Asker) (files : Files) (kinds : AreKinds files) where
 
     descriptor-kept : Kept asker files (gets_descriptor asker files opened)
     descriptor-kept =
-        refuses-by (Kept asker files) none-kept (is_none (user_bytes asker.caller.cells asker.caller.regs.x (asked_bytes asker))) E_BPADDR (reaches opened.place.drive (comes (leaves_so (stores asker.caller.regs.x (take (asked_bytes asker) (descriptor_front opened.file)) asker.caller.regs files))))
+        refuses-by (Kept asker files) none-kept (is_none (user_bytes asker.caller.cells asker.caller.regs.x
+        (asked_bytes asker))) E_BPADDR (reaches opened.place.drive
+        (comes (leaves_so (stores asker.caller.regs.x (take (asked_bytes asker) (descriptor_front opened.file))
+        asker.caller.regs files))))
         (λ fits. reach-done (comes (leaves_so (stores asker.caller.regs.x (take (asked_bytes asker) (descriptor_front opened.file)) asker.caller.regs files)))
         (on-leaves asker files kinds opened.place.drive (stores asker.caller.regs.x (take (asked_bytes asker) (descriptor_front opened.file)) asker.caller.regs files) (stands-same files kinds)))
 
@@ -132,13 +166,20 @@ module _ (asker : Asker) (files : Files) (kinds : AreKinds files) where
     end-kept : Kept asker files (gets_end asker files opened)
     end-kept =
         reach-done (refuses (nat_le (length opened.file.contents) opened.opened.desc.at) E_EOF (done (record asker.caller.regs { b = 0 }) files))
-        (refuses-by (KeptOn asker files opened.place.drive) (on-refused asker files kinds opened.place.drive) (nat_le (length opened.file.contents) opened.opened.desc.at) E_EOF (done (record asker.caller.regs { b = 0 }) files)
+        (refuses-by (KeptOn asker files opened.place.drive) (on-refused asker files kinds opened.place.drive)
+        (nat_le (length opened.file.contents) opened.opened.desc.at) E_EOF
+        (done (record asker.caller.regs { b = 0 }) files)
         (λ more. on-leaves asker files kinds opened.place.drive (leaves (answers (record asker.caller.regs { b = 0 })) files) (stands-same files kinds)))
 
     done-kept : (regs : Regs) → Kept asker files (done regs files)
     done-kept regs = leaves-kept asker files kinds (leaves (answers regs) files) (stands-same files kinds)
 
-    status-by : (opt ready size pos end fd : Bool) → Kept asker files (if opt then gets_bytes asker files OPTION_BYTES (λ step. step) (options opened.opened.desc.target) else (if ready then done (record asker.caller.regs { b = 0 }) files else (if size then gets_size asker files opened else (if pos then done (long_regs asker.caller.regs opened.opened.desc.at) files else (if end then gets_end asker files opened else (if fd then gets_descriptor asker files opened else refused E_UNKSVC))))))
+    status-by : (opt ready size pos end fd : Bool) → Kept asker files (if opt then gets_bytes asker files OPTION_BYTES
+        (λ step. step) (options opened.opened.desc.target) else
+        (if ready then done (record asker.caller.regs { b = 0 }) files else (if size then gets_size asker files opened
+        else (if pos then done (long_regs asker.caller.regs opened.opened.desc.at) files else
+        (if end then gets_end asker files opened else (if fd then gets_descriptor asker files opened else refused
+        E_UNKSVC))))))
     status-by true ready size pos end fd = get-on OPTION_BYTES (options opened.opened.desc.target)
     status-by false true size pos end fd = done-kept (record asker.caller.regs { b = 0 })
     status-by false false true pos end fd = size-kept
@@ -154,19 +195,43 @@ module _ (asker : Asker) (files : Files) (kinds : AreKinds files) where
 
     set-size : Kept asker files (sets_size asker files opened)
     set-size =
-        refuses-by (Kept asker files) none-kept (not (can_write opened.opened.desc.mode)) E_BMODE (changes_file files opened (sizes opened.place.number (long_of asker.caller.regs)) (long_of asker.caller.regs) asker.caller.regs files)
+        refuses-by (Kept asker files) none-kept (not (can_write opened.opened.desc.mode)) E_BMODE
+        (changes_file files opened (sizes opened.place.number (long_of asker.caller.regs))
+        (long_of asker.caller.regs) asker.caller.regs files)
         (λ allowed. change-kept (sizes opened.place.number (long_of asker.caller.regs)) (long_of asker.caller.regs) asker.caller.regs files.io kinds
-        (λ was now number it. changes-still (SizesFile (cluster_size was) (is_free_in was) opened.place.number (long_of asker.caller.regs) asker.now) (size-kind (cluster_size was) (is_free_in was) opened.place.number (long_of asker.caller.regs) asker.now) was now opened.place.number it)
+        (λ was now number it. changes-still (SizesFile (cluster_size was) (is_free_in was) opened.place.number
+        (long_of asker.caller.regs) asker.now) (size-kind (cluster_size was) (is_free_in was) opened.place.number
+        (long_of asker.caller.regs) asker.now) was now opened.place.number it)
         (λ was left it. size-still it.0 was left opened.place.number (long_of asker.caller.regs) asker.now it.2))
 
     set-attributes : Kept asker files (sets_attributes_of asker files opened)
     set-attributes =
-        reach-done (refuses (not (owns_file opened.file asker.user)) E_FNA (comes (changes (record { drive = opened.place.drive; change = sets_attributes opened.place.number (asker.caller.regs.x % 256); effect = λ n. leaves (answers asker.caller.regs) files }))))
-        (refuses-by (KeptOn asker files opened.place.drive) (on-refused asker files kinds opened.place.drive) (not (owns_file opened.file asker.user)) E_FNA (comes (changes (record { drive = opened.place.drive; change = sets_attributes opened.place.number (asker.caller.regs.x % 256); effect = λ n. leaves (answers asker.caller.regs) files })))
-        (λ owns. on-changes asker files kinds (record { drive = opened.place.drive; change = sets_attributes opened.place.number (asker.caller.regs.x % 256); effect = λ n. leaves (answers asker.caller.regs) files })
+        reach-done (refuses (not (owns_file opened.file asker.user)) E_FNA
+        (comes (changes (record {
+          drive = opened.place.drive;
+          change = sets_attributes opened.place.number
+              (asker.caller.regs.x % 256);
+          effect = λ n. leaves (answers asker.caller.regs) files;
+        }))))
+        (refuses-by (KeptOn asker files opened.place.drive) (on-refused asker files kinds opened.place.drive)
+        (not (owns_file opened.file asker.user)) E_FNA
+        (comes (changes (record {
+          drive = opened.place.drive;
+          change = sets_attributes opened.place.number
+              (asker.caller.regs.x % 256);
+          effect = λ n. leaves (answers asker.caller.regs) files;
+        })))
+        (λ owns. on-changes asker files kinds (record {
+          drive = opened.place.drive;
+          change = sets_attributes
+              opened.place.number (asker.caller.regs.x % 256);
+          effect = λ n. leaves (answers asker.caller.regs) files;
+        })
         (λ number. many-same files)
         (λ was now number is it. kinds-still files opened.place.drive was now is
-        (changes-still (λ old new. new ≡ with_attributes old (asker.caller.regs.x % 256) asker.now) (λ old new done. ap (λ (file : DiskFile). is_directory file) done ∙ attributes-kind old.attributes (asker.caller.regs.x % 256)) was now opened.place.number it) kinds)
+        (changes-still (λ old new. new ≡ with_attributes old (asker.caller.regs.x % 256) asker.now)
+        (λ old new done. ap (λ (file : DiskFile). is_directory file) done ∙ attributes-kind old.attributes
+        (asker.caller.regs.x % 256)) was now opened.place.number it) kinds)
         (λ was left is same. kinds-still files opened.place.drive was left is (all-same was left same) kinds)))
 
     set-by : (size attributes : Bool) → Kept asker files (if size then sets_size asker files opened else (if attributes then sets_attributes_of asker files opened else refused E_UNKSVC))
@@ -178,8 +243,12 @@ module _ (asker : Asker) (files : Files) (kinds : AreKinds files) where
 
   reads-kept : (otherwise : IoStep) (part : List ℕ → List ℕ) → LeavesOn files otherwise asker.caller files.io → Kept asker files (reads_on asker files otherwise part)
   reads-kept otherwise part on =
-      on-kept asker.caller.regs.a otherwise (λ opened. refuses (is_none (user_bytes asker.caller.cells asker.caller.regs.x asker.caller.regs.y)) E_BPADDR (moves_bytes asker files opened can_read (reads_file asker files part opened))) on
-      (λ opened there. refuses-by (Kept asker files) none-kept (is_none (user_bytes asker.caller.cells asker.caller.regs.x asker.caller.regs.y)) E_BPADDR (moves_bytes asker files opened can_read (reads_file asker files part opened))
+      on-kept asker.caller.regs.a otherwise
+      (λ opened. refuses (is_none (user_bytes asker.caller.cells asker.caller.regs.x asker.caller.regs.y))
+      E_BPADDR (moves_bytes asker files opened can_read (reads_file asker files part opened))) on
+      (λ opened there. refuses-by (Kept asker files) none-kept
+      (is_none (user_bytes asker.caller.cells asker.caller.regs.x asker.caller.regs.y)) E_BPADDR
+      (moves_bytes asker files opened can_read (reads_file asker files part opened))
       (λ fits. moves-kept opened there can_read (reads_file asker files part opened) (read-kept opened there part)))
 
   pub i_read-kept : Kept asker files (i_read asker files)
@@ -192,23 +261,38 @@ module _ (asker : Asker) (files : Files) (kinds : AreKinds files) where
 
   pub i_write-kept : Kept asker files (i_write asker files)
   i_write-kept =
-      on-kept asker.caller.regs.a (writes_device asker.caller files.io) (λ opened. needs (user_bytes asker.caller.cells asker.caller.regs.x asker.caller.regs.y) E_BPADDR (sends_bytes asker files opened)) (write-leaves files asker.caller files.io kinds.paths)
-      (λ opened there. needs-by (Kept asker files) none-kept (user_bytes asker.caller.cells asker.caller.regs.x asker.caller.regs.y) E_BPADDR (sends_bytes asker files opened) (λ bytes is. send-kept opened there bytes))
+      on-kept asker.caller.regs.a (writes_device asker.caller files.io)
+      (λ opened. needs (user_bytes asker.caller.cells asker.caller.regs.x asker.caller.regs.y) E_BPADDR
+      (sends_bytes asker files opened)) (write-leaves files asker.caller files.io kinds.paths)
+      (λ opened there. needs-by (Kept asker files) none-kept (user_bytes asker.caller.cells asker.caller.regs.x
+      asker.caller.regs.y) E_BPADDR (sends_bytes asker files opened) (λ bytes is. send-kept opened there bytes))
 
   pub i_writln-kept : Kept asker files (i_writln asker files)
   i_writln-kept =
-      on-kept asker.caller.regs.a (writes_device_line asker.caller files.io) (λ opened. needs (line_at asker.caller.cells asker.caller.regs.x asker.caller.regs.y) E_BPADDR (sends_bytes asker files opened)) (line-leaves files asker.caller files.io kinds.paths)
-      (λ opened there. needs-by (Kept asker files) none-kept (line_at asker.caller.cells asker.caller.regs.x asker.caller.regs.y) E_BPADDR (sends_bytes asker files opened) (λ bytes is. send-kept opened there bytes))
+      on-kept asker.caller.regs.a (writes_device_line asker.caller files.io)
+      (λ opened. needs (line_at asker.caller.cells asker.caller.regs.x asker.caller.regs.y) E_BPADDR
+      (sends_bytes asker files opened)) (line-leaves files asker.caller files.io kinds.paths)
+      (λ opened there. needs-by (Kept asker files) none-kept (line_at asker.caller.cells asker.caller.regs.x
+      asker.caller.regs.y) E_BPADDR (sends_bytes asker files opened) (λ bytes is. send-kept opened there bytes))
 
   pub f_perr-kept : Kept asker files (f_perr asker files)
   f_perr-kept =
-      on-kept STANDARD_ERROR (tells_device asker.caller files.io) (λ opened. refuses (not (can_write opened.opened.desc.mode)) E_BMODE (writes_bytes files opened (error_line asker.caller.regs.b) asker.caller.regs)) (error-leaves files asker.caller files.io kinds.paths)
-      (λ opened there. refuses-by (Kept asker files) none-kept (not (can_write opened.opened.desc.mode)) E_BMODE (writes_bytes files opened (error_line asker.caller.regs.b) asker.caller.regs) (λ allowed. write-kept opened there (error_line asker.caller.regs.b) asker.caller.regs))
+      on-kept STANDARD_ERROR (tells_device asker.caller files.io)
+      (λ opened. refuses (not (can_write opened.opened.desc.mode)) E_BMODE
+      (writes_bytes files opened (error_line asker.caller.regs.b) asker.caller.regs))
+      (error-leaves files asker.caller files.io kinds.paths)
+      (λ opened there. refuses-by (Kept asker files) none-kept (not (can_write opened.opened.desc.mode)) E_BMODE
+      (writes_bytes files opened (error_line asker.caller.regs.b) asker.caller.regs) (λ allowed. write-kept opened
+      there (error_line asker.caller.regs.b) asker.caller.regs))
 
   pub i_seek-kept : Kept asker files (i_seek asker files)
   i_seek-kept =
-      on-kept asker.caller.regs.a (seeks_nothing asker.caller files.io) (λ opened. done asker.caller.regs (with_position files opened.opened (long_of asker.caller.regs))) (nothing-leaves files asker.caller files.io kinds.paths)
-      (λ opened there. leaves-kept asker files kinds (leaves (answers asker.caller.regs) (with_position files opened.opened (long_of asker.caller.regs))) (moved-kinds opened there (long_of asker.caller.regs)))
+      on-kept asker.caller.regs.a (seeks_nothing asker.caller files.io) (λ opened. done asker.caller.regs
+      (with_position files opened.opened (long_of asker.caller.regs))) (nothing-leaves files asker.caller files.io
+      kinds.paths)
+      (λ opened there. leaves-kept asker files kinds (leaves (answers asker.caller.regs)
+      (with_position files opened.opened (long_of asker.caller.regs)))
+      (moved-kinds opened there (long_of asker.caller.regs)))
 
   pub i_getstt-kept : Kept asker files (i_getstt asker files)
   i_getstt-kept =

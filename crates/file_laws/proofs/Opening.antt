@@ -61,7 +61,8 @@ module _ (asker : Asker) (files : Files) (kinds : AreKinds files) where
         by_kind (is_directory found.file) refl
         (and_parts (file_permits found.file asker.user asker.caller.regs.a) (opens_kind found.file asker.caller.regs.a) may).1
       where
-        by_kind : (kind : Bool) → is_directory found.file ≡ kind → (if kind then says_directory asker.caller.regs.a && not (can_write asker.caller.regs.a) else not (says_directory asker.caller.regs.a)) ≡ true
+        by_kind : (kind : Bool) → is_directory found.file ≡ kind → (if kind then says_directory asker.caller.regs.a &&
+            not (can_write asker.caller.regs.a) else not (says_directory asker.caller.regs.a)) ≡ true
             → IsOnTarget files asker.caller.regs.a (if kind then Folder found.place.drive found.place.number else File found.place.drive found.place.number)
         by_kind true kind opens = (
           found-kind files found is true kind,
@@ -71,19 +72,32 @@ module _ (asker : Asker) (files : Files) (kinds : AreKinds files) where
 
     begins-kept : may_open found.file asker.user asker.caller.regs.a ≡ true → On (begins_on asker files list found)
     begins-kept may =
-        needs-by (KeptOn asker files found.place.drive) (on-refused asker files kinds found.place.drive) (new_number files.io.paths asker.caller.process.0) E_PTHFUL (λ number. done (opened_regs asker.caller.regs list number) (with_path_table files (paths_after_begin files.io.paths asker.caller.process.0 (new_desc (target_on found.file found.place) asker.caller.regs.a))))
-        (λ number free. on-leaves asker files kinds found.place.drive (leaves (answers (opened_regs asker.caller.regs list number)) (with_path_table files (paths_after_begin files.io.paths asker.caller.process.0 (new_desc (target_on found.file found.place) asker.caller.regs.a))))
+        needs-by (KeptOn asker files found.place.drive) (on-refused asker files kinds found.place.drive)
+        (new_number files.io.paths asker.caller.process.0) E_PTHFUL
+        (λ number. done (opened_regs asker.caller.regs list number)
+        (with_path_table files (paths_after_begin files.io.paths asker.caller.process.0
+        (new_desc (target_on found.file found.place) asker.caller.regs.a))))
+        (λ number free. on-leaves asker files kinds found.place.drive
+        (leaves (answers (opened_regs asker.caller.regs list number))
+        (with_path_table files (paths_after_begin files.io.paths asker.caller.process.0
+        (new_desc (target_on found.file found.place) asker.caller.regs.a))))
         (stands-io files kinds (with_paths files.io (paths_after_begin files.io.paths asker.caller.process.0 (new_desc (target_on found.file found.place) asker.caller.regs.a)))
         (on-begin files files.io.paths asker.caller.process.0 (new_desc (target_on found.file found.place) asker.caller.regs.a) kinds.paths (target-kind may))))
 
     opens-kept : On (opens_found asker files list found)
     opens-kept =
-        refuses-by (KeptOn asker files found.place.drive) (on-refused asker files kinds found.place.drive) (not (may_open found.file asker.user asker.caller.regs.a)) E_FNA (refuses (is_not_shared files found asker.caller.regs.a) E_SHARE (begins_on asker files list found))
-        (λ may. refuses-by (KeptOn asker files found.place.drive) (on-refused asker files kinds found.place.drive) (is_not_shared files found asker.caller.regs.a) E_SHARE (begins_on asker files list found) (λ shared. begins-kept (of-not (may_open found.file asker.user asker.caller.regs.a) may)))
+        refuses-by (KeptOn asker files found.place.drive) (on-refused asker files kinds found.place.drive)
+        (not (may_open found.file asker.user asker.caller.regs.a)) E_FNA
+        (refuses (is_not_shared files found asker.caller.regs.a) E_SHARE (begins_on asker files list found))
+        (λ may. refuses-by (KeptOn asker files found.place.drive) (on-refused asker files kinds found.place.drive)
+        (is_not_shared files found asker.caller.regs.a) E_SHARE (begins_on asker files list found)
+        (λ shared. begins-kept (of-not (may_open found.file asker.user asker.caller.regs.a) may)))
 
     -- ---- I$ChgDir
 
-    new-directory : is_directory found.file ≡ true → (changed : Bool) (execute : Bool) (place : FilePlace) → directory_in execute (with_directory (directories_at files asker.caller.process.0) changed found.place) ≡ Some place → IsOfKind files place true
+    new-directory : is_directory found.file ≡ true → (changed : Bool) (execute : Bool) (place : FilePlace)
+        → directory_in execute (with_directory (directories_at files asker.caller.process.0) changed found.place) ≡
+        Some place → IsOfKind files place true
     new-directory kind true true place at =
         subst (λ (place : FilePlace). IsOfKind files place true) (same_Some found.place place at) (found-kind files found is true kind)
     new-directory kind true false place at = kinds.directories asker.caller.process.0 false place at
@@ -93,21 +107,34 @@ module _ (asker : Asker) (files : Files) (kinds : AreKinds files) where
 
     goes-kept : On (goes_to asker files list found)
     goes-kept =
-        refuses-by (KeptOn asker files found.place.drive) (on-refused asker files kinds found.place.drive) (not (may_go_to found.file asker.user asker.caller.regs.a)) E_FNA (done (past_list asker.caller.regs list) (with_directories_of files asker.caller.process.0 (with_directory (directories_at files asker.caller.process.0) (is_for_execution asker.caller.regs.a) found.place)))
-        (λ may. on-leaves asker files kinds found.place.drive (leaves (answers (past_list asker.caller.regs list)) (with_directories_of files asker.caller.process.0 (with_directory (directories_at files asker.caller.process.0) (is_for_execution asker.caller.regs.a) found.place)))
+        refuses-by (KeptOn asker files found.place.drive) (on-refused asker files kinds found.place.drive)
+        (not (may_go_to found.file asker.user asker.caller.regs.a)) E_FNA (done (past_list asker.caller.regs list)
+        (with_directories_of files asker.caller.process.0
+        (with_directory (directories_at files asker.caller.process.0) (is_for_execution asker.caller.regs.a)
+        found.place)))
+        (λ may. on-leaves asker files kinds found.place.drive (leaves (answers (past_list asker.caller.regs list))
+        (with_directories_of files asker.caller.process.0
+        (with_directory (directories_at files asker.caller.process.0) (is_for_execution asker.caller.regs.a)
+        found.place)))
         (stands-directories files kinds asker.caller.process.0 (with_directory (directories_at files asker.caller.process.0) (is_for_execution asker.caller.regs.a) found.place)
-        (new-directory (and_parts (is_directory found.file) (file_permits found.file asker.user asker.caller.regs.a) (of-not (may_go_to found.file asker.user asker.caller.regs.a) may)).0 (is_for_execution asker.caller.regs.a))))
+        (new-directory (and_parts (is_directory found.file) (file_permits found.file asker.user asker.caller.regs.a)
+        (of-not (may_go_to found.file asker.user asker.caller.regs.a) may)).0
+        (is_for_execution asker.caller.regs.a))))
 
   open-way : (terms : ℕ) (list : PathList) (way : Way) → Kept asker files (opens_on_way asker files terms list way)
   open-way terms list (along place names) =
       walks-kept asker files kinds (is_for_execution asker.caller.regs.a) place names (opens_found asker files list) (λ found is. opens-kept list found is)
   open-way terms list to_device =
-      io-kept asker files kinds (opens asker.caller files.io (length files.drives) terms) (opens-leaves files asker.caller files.io kinds.paths what_is_there (is_mode asker.caller.regs.a) (length files.drives) terms)
+      io-kept asker files kinds (opens asker.caller files.io (length files.drives) terms)
+      (opens-leaves files asker.caller files.io kinds.paths what_is_there (is_mode asker.caller.regs.a)
+      (length files.drives) terms)
   open-way terms list (nowhere number) = refused-kept asker files kinds number
 
   pub open-kept : (terms : ℕ) → Kept asker files (i_open asker files terms)
   open-kept terms =
-      list-by (Kept asker files) (refused-kept asker files kinds) (list_of asker) (tests_mode (is_mode asker.caller.regs.a)) (λ list. opens_on_way asker files terms list (way_of asker files terms (is_for_execution asker.caller.regs.a) list))
+      list-by (Kept asker files) (refused-kept asker files kinds) (list_of asker)
+      (tests_mode (is_mode asker.caller.regs.a)) (λ list. opens_on_way asker files terms list
+      (way_of asker files terms (is_for_execution asker.caller.regs.a) list))
       (mode-kept (is_mode asker.caller.regs.a)) (λ list. open-way terms list (way_of asker files terms (is_for_execution asker.caller.regs.a) list))
 
   go-way : (list : PathList) (way : Way) → Kept asker files (goes_on_way asker files list way)
@@ -118,5 +145,7 @@ module _ (asker : Asker) (files : Files) (kinds : AreKinds files) where
 
   pub chgdir-kept : (terms : ℕ) → Kept asker files (i_chgdir asker files terms)
   chgdir-kept terms =
-      list-by (Kept asker files) (refused-kept asker files kinds) (list_of asker) (tests_mode (is_mode asker.caller.regs.a)) (λ list. goes_on_way asker files list (way_of asker files terms (is_for_execution asker.caller.regs.a) list))
+      list-by (Kept asker files) (refused-kept asker files kinds) (list_of asker)
+      (tests_mode (is_mode asker.caller.regs.a)) (λ list. goes_on_way asker files list
+      (way_of asker files terms (is_for_execution asker.caller.regs.a) list))
       (mode-kept (is_mode asker.caller.regs.a)) (λ list. go-way list (way_of asker files terms (is_for_execution asker.caller.regs.a) list))

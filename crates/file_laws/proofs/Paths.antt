@@ -147,8 +147,13 @@ module _ (files : Files) where
     -- I$Dup, I$Close and I$Seek
     pub dup-leaves : LeavesOn (i_dup caller io) caller io
     dup-leaves = leaves-on (i_dup caller io)
-        (needs-left (slot_of io.paths caller.process.0 caller.regs.a) E_BPNUM (λ path. needs (free_number io.paths caller.process.0) E_PTHFUL (λ number. done (record caller.regs { a = number }) (with_paths io (paths_after_dup io.paths caller.process.0 caller.regs.a))))
-        (λ path. needs-left (free_number io.paths caller.process.0) E_PTHFUL (λ number. done (record caller.regs { a = number }) (with_paths io (paths_after_dup io.paths caller.process.0 caller.regs.a)))
+        (needs-left (slot_of io.paths caller.process.0 caller.regs.a) E_BPNUM
+        (λ path. needs (free_number io.paths caller.process.0) E_PTHFUL
+        (λ number. done (record caller.regs { a = number })
+        (with_paths io (paths_after_dup io.paths caller.process.0 caller.regs.a))))
+        (λ path. needs-left (free_number io.paths caller.process.0) E_PTHFUL
+        (λ number. done (record caller.regs { a = number })
+        (with_paths io (paths_after_dup io.paths caller.process.0 caller.regs.a)))
         (λ number. on-dup io.paths caller.process.0 caller.regs.a on)))
 
     pub close-leaves : LeavesOn (i_close caller io) caller io
@@ -202,9 +207,13 @@ module _ (files : Files) where
 
     pub reads-leave : (kind : ReadKind) (code : ℕ) → LeavesOn (reads_path kind code caller io) caller io
     reads-leave kind code = leaves-on (reads_path kind code caller io)
-        (refuses-left (is_none (user_bytes caller.cells caller.regs.x caller.regs.y)) E_BPADDR (on_path caller io caller.regs.a can_read (λ opened. unless_nothing caller io (reads_target kind caller io (call_now caller io code opened caller.regs.y) opened.desc.target)))
+        (refuses-left (is_none (user_bytes caller.cells caller.regs.x caller.regs.y)) E_BPADDR
+        (on_path caller io caller.regs.a can_read (λ opened. unless_nothing caller io (reads_target kind caller io
+        (call_now caller io code opened caller.regs.y) opened.desc.target)))
         (path-left caller.regs.a can_read (λ opened. unless_nothing caller io (reads_target kind caller io (call_now caller io code opened caller.regs.y) opened.desc.target))
-        (λ opened. nothing-left (caller.regs.y == 0) (reads_target kind caller io (call_now caller io code opened caller.regs.y) opened.desc.target) (read-target kind (call_now caller io code opened caller.regs.y) opened.desc.target))))
+        (λ opened. nothing-left (caller.regs.y == 0) (reads_target kind caller io (call_now caller io code opened
+        caller.regs.y) opened.desc.target) (read-target kind (call_now caller io code opened caller.regs.y)
+        opened.desc.target))))
 
     write-target : (sending : Sending) (now : Kept) (target : Target) → Left (writes_target sending caller io now target)
     write-target sending now (File drive sector) = tt
@@ -212,11 +221,15 @@ module _ (files : Files) where
     write-target sending now (Term terminal) = tt
     write-target sending now (Pipe pipe) = on
 
-    send-left : (sending : List ℕ → Sending) (code : ℕ) (bytes : Option (List ℕ)) → Left (needs bytes E_BPADDR (λ bytes. on_path caller io caller.regs.a can_write (λ opened. unless_nothing caller io (sends_on (sending bytes) code caller io opened))))
+    send-left : (sending : List ℕ → Sending) (code : ℕ) (bytes : Option (List ℕ))
+        → Left (needs bytes E_BPADDR (λ bytes. on_path caller io caller.regs.a can_write
+        (λ opened. unless_nothing caller io (sends_on (sending bytes) code caller io opened))))
     send-left sending code None = tt
     send-left sending code (Some bytes) =
         path-left caller.regs.a can_write (λ opened. unless_nothing caller io (sends_on (sending bytes) code caller io opened))
-        (λ opened. nothing-left (caller.regs.y == 0) (sends_on (sending bytes) code caller io opened) (write-target (sending bytes) (call_now caller io code opened (length (sending bytes).bytes)) opened.desc.target))
+        (λ opened. nothing-left (caller.regs.y == 0) (sends_on (sending bytes) code caller io opened)
+        (write-target (sending bytes) (call_now caller io code opened (length (sending bytes).bytes))
+        opened.desc.target))
 
     pub write-leaves : LeavesOn (i_write caller io) caller io
     write-leaves =
@@ -232,7 +245,9 @@ module _ (files : Files) where
         (λ opened. write-target (sent_error caller) (call_now caller io F_PERR opened (length (sent_error caller).bytes)) opened.desc.target))
 
     -- status
-    status-by : (target : Target) (opt ready end : Bool) → Left (if opt then gets_options caller io target else (if ready then gets_ready caller io target else (if end then gets_end caller io target else refused E_UNKSVC)))
+    status-by : (target : Target) (opt ready end : Bool) → Left (if opt then gets_options caller io target else
+        (if ready then gets_ready caller io target else (if end then gets_end caller io target else refused
+        E_UNKSVC)))
     status-by target true ready end =
         refuses-left (is_none (user_bytes caller.cells caller.regs.x OPTION_BYTES)) E_BPADDR (comes (stores caller.regs.x (options target) (answers caller.regs) io)) on
     status-by target false true end =

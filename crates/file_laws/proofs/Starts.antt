@@ -59,7 +59,9 @@ kinds-interrupted files p kinds = kinds-same files (io_interrupted files.io p) (
 
 pub many-started : (files : Files) (parent child : ℕ) → AreAsMany files (files_started files parent child)
 many-started files parent child =
-    many-then files (with_io files (io_started files.io parent child)) (files_started files parent child) (many-io files (io_started files.io parent child)) (many-directories (with_io files (io_started files.io parent child)) child (directories_at files parent))
+    many-then files (with_io files (io_started files.io parent child)) (files_started files parent child)
+    (many-io files (io_started files.io parent child))
+    (many-directories (with_io files (io_started files.io parent child)) child (directories_at files parent))
 
 pub many-ended : (files : Files) (p : ℕ) → AreAsMany files (files_ended files p)
 many-ended files p =
@@ -92,7 +94,9 @@ none-behind (suc count) zero v at = none-some v at
 none-behind (suc count) (suc d) v at = none-behind count d v at
 
 -- each volume that is mounted is that of an image
-pub image-of : (images : List (List ℕ)) (volumes : List DiskVolume) (count d : ℕ) (v : DiskVolume) → AllZip Vol images volumes → get_or (map some_volume volumes ++ replicate count None) d None ≡ Some v → (image : List ℕ) × Vol image v
+pub image-of : (images : List (List ℕ)) (volumes : List DiskVolume) (count d : ℕ) (v : DiskVolume) → AllZip Vol images
+    volumes → get_or (map some_volume volumes ++ replicate count None) d None ≡ Some v → (image : List ℕ) × Vol image
+    v
 image-of [] [] count d v mounted at = absurd (none-behind count d v at)
 image-of [] (u ∷ us) count d v mounted at = absurd mounted
 image-of (image ∷ images) [] count d v mounted at = absurd mounted
@@ -136,10 +140,15 @@ module _ (images : List (List ℕ)) (volumes : List DiskVolume) (drives : List D
 
   cmds-first : (v : DiskVolume) (name : List ℕ) (place : FilePlace) → slice_get volumes 0 ≡ Some v → directory_in_root v (root_of 0 v) name ≡ Some place → IsOfKind First place true
   cmds-first v name place is at =
-      option_and_then_some (λ (n : ℕ). option_and_then (λ (file : DiskFile). if is_directory file then Some (record { drive = 0; number = n }) else None) (v.files n)) (option_and_then (λ (file : DiskFile). look_up file.contents name) (v.files (root_of 0 v).number)) place at (λ n named found.
-      option_and_then_some (λ (file : DiskFile). if is_directory file then Some (record { drive = 0; number = n }) else None) (v.files n) place found (λ file there kind. by_kind n file there (is_directory file) refl kind))
+      option_and_then_some (λ (n : ℕ). option_and_then (λ (file : DiskFile). if is_directory file then Some
+      (record { drive = 0; number = n }) else None) (v.files n))
+      (option_and_then (λ (file : DiskFile). look_up file.contents name) (v.files (root_of 0 v).number)) place at
+      (λ n named found.
+      option_and_then_some (λ (file : DiskFile). if is_directory file then Some (record { drive = 0; number = n })
+      else None) (v.files n) place found (λ file there kind. by_kind n file there (is_directory file) refl kind))
     where
-      by_kind : (n : ℕ) (file : DiskFile) → v.files n ≡ Some file → (kind : Bool) → is_directory file ≡ kind → (if kind then Some (record { drive = 0; number = n }) else None) ≡ Some place → IsOfKind First place true
+      by_kind : (n : ℕ) (file : DiskFile) → v.files n ≡ Some file → (kind : Bool) → is_directory file ≡ kind
+          → (if kind then Some (record { drive = 0; number = n }) else None) ≡ Some place → IsOfKind First place true
       by_kind n file there true kind found =
           subst (λ (place : FilePlace). IsOfKind First place true) (same_Some (record { drive = 0; number = n }) place found) (on-first v n file is there kind)
       by_kind n file there false kind found = absurd (none-some place found)
@@ -172,7 +181,9 @@ module _ (images : List (List ℕ)) (volumes : List DiskVolume) (drives : List D
 
       by_process : (p : ℕ) (execute : Bool) (place : FilePlace) → directory_of First p execute ≡ Some place → (p ≡ 2) ⊎ (p ≡ 2 → ⊥) → IsOfKind First place true
       by_process p execute place at (inl same) =
-          let is : directories_at First p ≡ first_directories (slice_get volumes 0) = ap (directories_at First) same ∙ get_or-set_same (replicate 33 no_directories) 2 (first_directories (slice_get volumes 0)) no_directories (omega (arith, length-replicate 33 no_directories)) in
+          let is : directories_at First p ≡ first_directories (slice_get volumes 0) = ap (directories_at First) same ∙
+          get_or-set_same (replicate 33 no_directories) 2 (first_directories (slice_get volumes 0)) no_directories
+          (omega (arith, length-replicate 33 no_directories)) in
           directories-first (slice_get volumes 0) refl execute place (sym (ap (directory_in execute) is) ∙ at)
       by_process p execute place at (inr apart) =
           let is : directories_at First p ≡ no_directories = get_or-set_other (replicate 33 no_directories) 2 p (first_directories (slice_get volumes 0)) no_directories apart ∙ none p in
@@ -197,9 +208,13 @@ module _ (files : Files) (kinds : AreKinds files) (drive : ℕ) (image : List �
         kind = it.kind;
       }
 
-  clusters-mounted : (other : ℕ) (u : DiskVolume) → volume_at (with_volume files drive v) other ≡ Some u → (other ≡ drive) ⊎ (other ≡ drive → ⊥) → (drive < length files.volumes) ⊎ (length files.volumes ≤ drive) → 0 < cluster_size u
+  clusters-mounted : (other : ℕ) (u : DiskVolume) → volume_at (with_volume files drive v) other ≡ Some u
+      → (other ≡ drive) ⊎ (other ≡ drive → ⊥) → (drive < length files.volumes) ⊎ (length files.volumes ≤ drive)
+      → 0 < cluster_size u
   clusters-mounted other u at (inl same) (inl within) =
-      subst (λ (u : DiskVolume). 0 < cluster_size u) (same_Some v u (sym (ap (volume_at (with_volume files drive v)) same ∙ get_or-set_same files.volumes drive (Some v) None within) ∙ at)) (some-clusters image v vol)
+      subst (λ (u : DiskVolume). 0 < cluster_size u)
+      (same_Some v u (sym (ap (volume_at (with_volume files drive v)) same ∙ get_or-set_same files.volumes drive
+      (Some v) None within) ∙ at)) (some-clusters image v vol)
   clusters-mounted other u at (inl same) (inr past) =
       absurd (none-some u (sym (ap (volume_at (with_volume files drive v)) same ∙ get_or_past (with_volume files drive v).volumes drive None (rw length-set past)) ∙ at))
   clusters-mounted other u at (inr apart) within =

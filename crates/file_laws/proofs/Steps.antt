@@ -34,7 +34,9 @@ module _ {E : Type 0} (P : Step E → Type 0) (none : (number : ℕ) → P (refu
   refuses-by true number next holds = none number
   refuses-by false number next holds = holds refl
 
-  pub list-by : (list : Result PathList NameFault) (test : Step E → Step E) (next : PathList → Step E) → ((step : Step E) → P step → P (test step)) → ((list : PathList) → P (next list)) → P (reads_list list test next)
+  pub list-by : (list : Result PathList NameFault) (test : Step E → Step E) (next : PathList → Step E)
+      → ((step : Step E) → P step → P (test step)) → ((list : PathList) → P (next list))
+      → P (reads_list list test next)
   list-by (Ok list) test next tests holds = tests (next list) (holds list)
   list-by (Err Unreadable) test next tests holds = none E_BPADDR
   list-by (Err NoName) test next tests holds = tests (refused E_BPNAM) (none E_BPNAM)
@@ -84,7 +86,11 @@ module _ (asker : Asker) (files : Files) where
     pub on-leaves : (drive : ℕ) (it : FileEffect) → Stands files it.files → KeptOn drive (comes (leaves_so it))
     on-leaves drive it kept = record { well = leaves-well it kept; broken = same-volume drive }
 
-    pub on-changes : (it : VolumeChange) → ((number : ℕ) → AreAsMany files (it.effect number).files) → ((was now : DiskVolume) (number : ℕ) → volume_at files it.drive ≡ Some was → Makes it.change asker.user asker.now was now number → AreKinds (with_volume (it.effect number).files it.drive now)) → ((was left : DiskVolume) → volume_at files it.drive ≡ Some was → MayLeave it.change asker.user asker.now was left → AreKinds (with_volume files it.drive left)) → KeptOn it.drive (comes (changes it))
+    pub on-changes : (it : VolumeChange) → ((number : ℕ) → AreAsMany files (it.effect number).files)
+        → ((was now : DiskVolume) (number : ℕ) → volume_at files it.drive ≡ Some was → Makes it.change asker.user
+        asker.now was now number → AreKinds (with_volume (it.effect number).files it.drive now))
+        → ((was left : DiskVolume) → volume_at files it.drive ≡ Some was → MayLeave it.change asker.user asker.now was
+        left → AreKinds (with_volume files it.drive left)) → KeptOn it.drive (comes (changes it))
     on-changes it many made left = record {
       well = well;
       broken = λ was left_now is may. record { kinds = left was left_now is may; many = many-volume files it.drive was left_now is };
@@ -128,7 +134,9 @@ module _ (asker : Asker) (files : Files) where
     }
 
     -- a walk, and what is done with the file where it ends
-    pub walks-kept : (execute : Bool) (place : FilePlace) (names : List (List ℕ)) (next : Found → FileStep) → ((found : Found) → IsFound files found → KeptOn found.place.drive (next found)) → Kept (walks asker files execute place names next)
+    pub walks-kept : (execute : Bool) (place : FilePlace) (names : List (List ℕ)) (next : Found → FileStep)
+        → ((found : Found) → IsFound files found → KeptOn found.place.drive (next found))
+        → Kept (walks asker files execute place names next)
     walks-kept execute place names next on =
         needs-by Kept refused-kept (volume_at files place.drive) E_MNF (λ v. reaches place.drive (walk_ends place.drive v (walk v.files asker.user execute place.number names) next))
         (λ v is. reaches-kept place.drive (walk_ends place.drive v (walk v.files asker.user execute place.number names) next) (by_end v is (walk v.files asker.user execute place.number names)))

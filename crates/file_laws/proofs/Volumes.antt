@@ -80,7 +80,8 @@ lose-still v w clusters lose = record {
 
 -- ---- changes of one file
 
-pub changes-still : (change : DiskFile → DiskFile → Type 0) → ((old new : DiskFile) → change old new → is_directory new ≡ is_directory old) → (v w : DiskVolume) (n : ℕ) → Changes change v w n → AllStill v w
+pub changes-still : (change : DiskFile → DiskFile → Type 0) → ((old new : DiskFile) → change old new
+    → is_directory new ≡ is_directory old) → (v w : DiskVolume) (n : ℕ) → Changes change v w n → AllStill v w
 changes-still change kind v w n it =
     subst (AllStill v) (sym it.volume) (replaced-still v n it.old it.new it.is (kind it.old it.new it.changed))
 

@@ -96,21 +96,29 @@ led-way None list to_device way is = ap way_led is
 led-way None list (nowhere number) way is = ap way_led is
 led-way (Some number) list led way is = cc
 
-led-along : (cells : Cells) (asker : Asker) (refusal : Option ℕ) (way : PathList → Rule.Way) (route : Route) (from : FilePlace) (first : Option ℕ) (it : IsRoute cells asker (leads asker refusal way) route) → route.way ≡ Along from first → way it.list ≡ along from it.list.names
+led-along : (cells : Cells) (asker : Asker) (refusal : Option ℕ) (way : PathList → Rule.Way) (route : Route)
+    (from : FilePlace) (first : Option ℕ) (it : IsRoute cells asker (leads asker refusal way) route)
+    → route.way ≡ Along from first → way it.list ≡ along from it.list.names
 led-along cells asker refusal way route from first it is =
     led-way refusal it.list (way it.list) it.way
     (ap (λ (read : Result PathList NameFault). reads_list read (refuses_by refusal) (λ list. led_by list (way list))) (sym it.read) ∙ it.comes_to)
     ∙ it.route_is.way_is
     ∙ ap (λ (way : Routed). way_to (Ok way) it.list.names) is
 
-module _ (cells : Cells) (asker : Asker) (files : Files) (terms : ℕ) (refusal : Option ℕ) (execute : Bool) (execute_is : execute ≡ is_for_execution asker.caller.regs.a) (route : Route) (from : FilePlace) (first : Option ℕ) where
-  pub open-calls : (it : IsRoute cells asker (leads asker refusal (way_for Existing asker files terms execute)) route) → route.way ≡ Along from first → opening_calls asker files (along from it.list.names) ≡ i_open_calls asker files terms
+module _ (cells : Cells) (asker : Asker) (files : Files) (terms : ℕ) (refusal : Option ℕ) (execute : Bool)
+    (execute_is : execute ≡ is_for_execution asker.caller.regs.a) (route : Route) (from : FilePlace)
+    (first : Option ℕ) where
+  pub open-calls : (it : IsRoute cells asker (leads asker refusal (way_for Existing asker files terms execute)) route)
+      → route.way ≡ Along from first → opening_calls asker files (along from it.list.names) ≡ i_open_calls asker files
+      terms
   open-calls it is = sym
       (ap (λ (read : Result PathList NameFault). listed_calls read (λ list. opening_calls asker files (way_of asker files terms (is_for_execution asker.caller.regs.a) list))) it.read
       ∙ ap (λ (execute : Bool). opening_calls asker files (way_of asker files terms execute it.list)) (sym execute_is)
       ∙ ap (opening_calls asker files) (led-along cells asker refusal (way_for Existing asker files terms execute) route from first it is))
 
-  pub create-calls : (it : IsRoute cells asker (leads asker refusal (way_for New asker files terms execute)) route) → route.way ≡ Along from first → creating_calls asker files (along from it.list.names) ≡ i_create_calls asker files terms
+  pub create-calls : (it : IsRoute cells asker (leads asker refusal (way_for New asker files terms execute)) route)
+      → route.way ≡ Along from first → creating_calls asker files (along from it.list.names) ≡ i_create_calls asker
+      files terms
   create-calls it is = sym
       (ap (λ (read : Result PathList NameFault). listed_calls read (λ list. creating_calls asker files (way_to_new asker files terms (is_for_execution asker.caller.regs.a) list))) it.read
       ∙ ap (λ (execute : Bool). creating_calls asker files (way_to_new asker files terms execute it.list)) (sym execute_is)

@@ -172,7 +172,9 @@ module _ (asker : Asker) (files : Files) (list : PathList) (name : List ℕ) (di
   with-room full none = refuses full E_FULL (refuses none E_SLF (comes (changes it)))
 
   -- the number of the path
-  pub makes-numbered : new_number files.io.paths asker.caller.process.0 ≡ Some number → makes_there asker files list name dir ≡ reaches dir.place.drive (with-room (is_full_for it.change dir.volume dir.file) (has_no_segment dir.volume dir.file))
+  pub makes-numbered : new_number files.io.paths asker.caller.process.0 ≡ Some number → makes_there asker files list
+      name dir ≡ reaches dir.place.drive (with-room (is_full_for it.change dir.volume dir.file)
+      (has_no_segment dir.volume dir.file))
   makes-numbered some =
       ap (λ (number : Option ℕ). reaches dir.place.drive (needs number E_PTHFUL (λ number. has_room_for dir 0 (comes (changes (change_by asker files list name dir number)))))) some
 
@@ -188,13 +190,16 @@ module _ (asker : Asker) (files : Files) (list : PathList) (name : List ℕ) (di
       ap (λ (full : Bool). deed_of (with-room full none) files) enough ∙ ap (λ (none : Bool). deed_of (with-room false none) files) is
 
   -- what a fault in it leaves
-  pub room-broken : (full none : Bool) (v left : DiskVolume) → MayLeave it.change asker.user asker.now v left → ((full || none) ≡ true → left ≡ v) → MayBeLeft (deed_of (with-room full none) files) asker v left
+  pub room-broken : (full none : Bool) (v left : DiskVolume) → MayLeave it.change asker.user asker.now v left
+      → ((full || none) ≡ true → left ≡ v) → MayBeLeft (deed_of (with-room full none) files) asker v left
   room-broken true none v left may_be same = same refl
   room-broken false true v left may_be same = same refl
   room-broken false false v left may_be same = may_be
 
 -- without a number
-pub makes-full : (asker : Asker) (files : Files) (list : PathList) (name : List ℕ) (dir : Found) → new_number files.io.paths asker.caller.process.0 ≡ None → deed_of (makes_there asker files list name dir) files ≡ leaves_so (refuses_so E_PTHFUL files)
+pub makes-full : (asker : Asker) (files : Files) (list : PathList) (name : List ℕ) (dir : Found)
+    → new_number files.io.paths asker.caller.process.0 ≡ None → deed_of (makes_there asker files list name dir) files
+    ≡ leaves_so (refuses_so E_PTHFUL files)
 makes-full asker files list name dir none =
     ap (λ (number : Option ℕ). deed_of (needs number E_PTHFUL (λ number. has_room_for dir 0 (comes (changes (change_by asker files list name dir number))))) files) none
 
@@ -207,7 +212,9 @@ module _ (asker : Asker) (files : Files) (terms : ℕ) (refusal : Option ℕ) (e
   -- nothing is made as a directory itself or the one above it
   pub new-proper : (list : PathList) (led : Led) → list_of asker ≡ Ok list → leads_new ≡ comes led → ends_in_dots list ≡ false
   new-proper list led read is =
-      by refusal (ends_in_dots list) (is_root files terms list) (ap (λ (read : Result PathList NameFault). reads_list read (refuses_by refusal) (λ list. led_by list (way_to_new asker files terms execute list))) (sym read) ∙ is)
+      by refusal (ends_in_dots list) (is_root files terms list)
+      (ap (λ (read : Result PathList NameFault). reads_list read (refuses_by refusal)
+      (λ list. led_by list (way_to_new asker files terms execute list))) (sym read) ∙ is)
     where
       by : (refusal : Option ℕ) (dots root : Bool) → refuses_by refusal (led_by list (if dots || root then nowhere E_BPNAM else way_of asker files terms execute list)) ≡ comes led → dots ≡ false
       by None true root is = cc
@@ -220,7 +227,9 @@ module _ (asker : Asker) (files : Files) (terms : ℕ) (refusal : Option ℕ) (e
 
     by-leads : i_create asker files terms ≡ creates_led leads_new
     by-leads =
-        (λ i. reads_list (list_of asker) (λ (step : FileStep). mode-tested (can_write asker.caller.regs.a) step i) (λ list. creates_on_way asker files terms list (way_to_new asker files terms (is_for_execution asker.caller.regs.a) list)))
+        (λ i. reads_list (list_of asker) (λ (step : FileStep). mode-tested (can_write asker.caller.regs.a) step i)
+        (λ list. creates_on_way asker files terms list (way_to_new asker files terms
+        (is_for_execution asker.caller.regs.a) list)))
         ∙ leads-on asker (mode_refusal (can_write asker.caller.regs.a)) (way_to_new asker files terms (is_for_execution asker.caller.regs.a)) (creates_on_way asker files terms) (λ list number. refl)
         ∙ ap (λ (refusal : Option ℕ). creates_led (leads asker refusal (way_to_new asker files terms (is_for_execution asker.caller.regs.a)))) (sym refusal_is)
         ∙ ap (λ (execute : Bool). creates_led (leads asker refusal (way_for New asker files terms execute))) (sym execute_is)
@@ -230,7 +239,9 @@ module _ (asker : Asker) (files : Files) (terms : ℕ) (refusal : Option ℕ) (e
     creates-refused number is = by-leads ∙ ap creates_led is
 
     -- or goes on along the way that was found
-    pub creates-routed : (cells : Cells) (route : Route) (way : Routed) (it : IsRoute cells asker leads_new route) → route.way ≡ way → i_create asker files terms ≡ creates_on_way asker files terms it.list (way_to (Ok way) it.list.names)
+    pub creates-routed : (cells : Cells) (route : Route) (way : Routed) (it : IsRoute cells asker leads_new route)
+        → route.way ≡ way → i_create asker files terms ≡ creates_on_way asker files terms it.list
+        (way_to (Ok way) it.list.names)
     creates-routed cells route way it is =
         by-leads ∙ ap creates_led it.comes_to ∙ ap (creates_on_way asker files terms it.list) (it.route_is.way_is ∙ ap (λ (way : Routed). way_to (Ok way) it.list.names) is)
 
@@ -249,7 +260,12 @@ module _ (m : Inner) (was : Files) (now : TimePacket) (p : ℕ) (list : PathList
   abbrev for_it : Bool
   for_it = is_for_execution asked.caller.regs.a
 
-  pub along-named : (end : CallEnd) (processes : ProcState) (new : FileState) (before after : List DriveView) (terms : List TerminalState) → Ends (walks asked was for_it from (before_last list.names) (creates_in asked was list name)) (walk_and asked.user for_it from.number (before_last list.names) (new_file_calls asked name) (volume_at was from.drive)) m was now p end processes new before after terms → Ends (creates_along asked was list from) (creating_calls asked was (along from list.names)) m was now p end processes new before after terms
+  pub along-named : (end : CallEnd) (processes : ProcState) (new : FileState) (before after : List DriveView)
+      (terms : List TerminalState) → Ends (walks asked was for_it from (before_last list.names)
+      (creates_in asked was list name)) (walk_and asked.user for_it from.number (before_last list.names)
+      (new_file_calls asked name) (volume_at was from.drive)) m was now p end processes new before after terms
+      → Ends (creates_along asked was list from) (creating_calls asked was (along from list.names)) m was now p end
+      processes new before after terms
   along-named end processes new before after terms it =
       subst
       (λ (o : Option (List ℕ)). Ends (needs o E_BPNAM (λ name. walks asked was for_it from (before_last list.names) (creates_in asked was list name)))

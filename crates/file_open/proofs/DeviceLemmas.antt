@@ -33,11 +33,17 @@ pub as-many : (state : FileState) (views : List DriveView) (files : Files) → S
 as-many state views files stands = ap (λ (drives : List DriveState). length drives) stands.drives ∙ length-map views drive_state
 
 -- each of the drives is seen
-pub views-many : {Table : Type 0} {Driver : Table → Type 0} (members : (table : Table) → Ghosts (Driver table)) (drives : List (DynBox Table Global Driver)) → length (drive_views members drives) ≡ length drives
+pub views-many : {Table : Type 0} {Driver : Table → Type 0} (members : (table : Table) → Ghosts (Driver table))
+    (drives : List (DynBox Table Global Driver)) → length (drive_views members drives) ≡ length drives
 views-many members drives = length-map drives (boxed_drive_view members)
 
 -- what the call on a terminal or a pipe does is done in the state of files
-pub device-ends : (most : ℕ) (call : IoCall) (m : Inner) (was : Files) (now : TimePacket) (p : ℕ) (state : FileState) (views : List DriveView) (drives : ℕ) (end : CallEnd) (processes : ProcState) (io : Io) (terms : List TerminalState) → StandsFor state views was → length was.drives ≡ drives → io_attempt.Attempts call m state.io drives p end processes io terms terms → Ends (comes (as_io (io_step call (caller_of m p) was.io (length was.drives) (length terms)))) most m was now p end processes (record { io = io; disks = state.disks; directories = state.directories }) views views terms
+pub device-ends : (most : ℕ) (call : IoCall) (m : Inner) (was : Files) (now : TimePacket) (p : ℕ) (state : FileState)
+    (views : List DriveView) (drives : ℕ) (end : CallEnd) (processes : ProcState) (io : Io)
+    (terms : List TerminalState) → StandsFor state views was → length was.drives ≡ drives → io_attempt.Attempts call m
+    state.io drives p end processes io terms terms
+    → Ends (comes (as_io (io_step call (caller_of m p) was.io (length was.drives) (length terms)))) most m was now p
+    end processes (record { io = io; disks = state.disks; directories = state.directories }) views views terms
 device-ends most call m was now p state views drives end processes io terms stands many it =
     let effect : IoEffect = it.attempt.effect in
     let deed : ℕ → Io → IoStep = λ drives before. io_step call (caller_of m p) before drives (length terms) in

@@ -40,7 +40,9 @@ pub user-tied : (s : ProcState) (m : Inner) (p : ℕ) → Represents s m → use
 user-tied s m p tied = ap (λ (it : Inner). user_at it p) tied.is
 
 -- more calls may be allowed
-pub read-more : (few most : ℕ) (fault : Option ℕ) (drive : ℕ) (files : Files) (new : FileState) (before now : List DriveView) → few ≤ most → HasReadIn few fault drive files new before now → HasReadIn most fault drive files new before now
+pub read-more : (few most : ℕ) (fault : Option ℕ) (drive : ℕ) (files : Files) (new : FileState)
+    (before now : List DriveView) → few ≤ most → HasReadIn few fault drive files new before now → HasReadIn most fault
+    drive files new before now
 read-more few most fault drive files new before now more it = record {
   first = it.first;
   read = it.read;
@@ -51,12 +53,16 @@ read-more few most fault drive files new before now more it = record {
 
 module _ (m : Inner) (was : Files) (now : TimePacket) (p : ℕ) (terms : List TerminalState) (step : FileStep) (drive : ℕ) (new : FileState) (before views : List DriveView) where
   -- and it is refused
-  pub well-refused : (number : ℕ) → deed_of step was ≡ leaves_so (refuses_so number was) → HasRead None drive was new before views → FileDoes step (asker_of m p now) was (refuses_so number (with_drives was (drive_states views))) terms terms
+  pub well-refused : (number : ℕ) → deed_of step was ≡ leaves_so (refuses_so number was) → HasRead None drive was new
+      before views → FileDoes step (asker_of m p now) was (refuses_so number (with_drives was (drive_states views)))
+      terms terms
   well-refused number is read =
       goes-well step (asker_of m p now) was (refuses_so number was) (drive_states views) terms is read.moved
 
   -- and has failed
-  pub broken : (number : ℕ) (v : DiskVolume) → drive_of step ≡ Some drive → volume_at was drive ≡ Some v → MayBeLeft (deed_of step was) (asker_of m p now) v v → HasRead (Some number) drive was new before views → FileDoes step (asker_of m p now) was (refuses_so number (with_drives was (drive_states views))) terms terms
+  pub broken : (number : ℕ) (v : DiskVolume) → drive_of step ≡ Some drive → volume_at was drive ≡ Some v
+      → MayBeLeft (deed_of step was) (asker_of m p now) v v → HasRead (Some number) drive was new before views
+      → FileDoes step (asker_of m p now) was (refuses_so number (with_drives was (drive_states views))) terms terms
   broken number v at is may read =
       subst (λ (files : Files). FileDoes step (asker_of m p now) was (refuses_so number (with_drives files (drive_states views))) terms terms) (reached.same-volume was drive v is)
       (breaks step (asker_of m p now) was drive number v v (drive_states views) terms at is may read.moved)
@@ -75,7 +81,8 @@ module _ (m : Inner) (p : ℕ) (state : FileState) (views : List DriveView) (end
   -- ---- it is refused
 
   module _ (number : ℕ) (end_is : end ≡ Error number) (tied : Represents processes m) where
-    pub refused-quietly : (files : Files) → StandsFor state views files → (step : FileStep) → deed_of step files ≡ leaves_so (refuses_so number files) → EndsQuietly step m files p end processes left views
+    pub refused-quietly : (files : Files) → StandsFor state views files → (step : FileStep) → deed_of step files ≡
+        leaves_so (refuses_so number files) → EndsQuietly step m files p end processes left views
     refused-quietly files stands step is = record {
       effect = refuses_so number files;
       is = is;
@@ -84,7 +91,10 @@ module _ (m : Inner) (p : ℕ) (state : FileState) (views : List DriveView) (end
     }
 
     module _ (was : Files) (now : TimePacket) (terms : List TerminalState) (most : ℕ) (step : FileStep) where
-      pub refused-ends : (files : Files) (before : List DriveView) → StandsFor state views files → FileDoes step (asker_of m p now) was (refuses_so number files) terms terms → CalledAtMost (calls_of step most) before views → KeepsDrives step (asker_of m p now) was (Error number) before views → Ends step most m was now p end processes left before views terms
+      pub refused-ends : (files : Files) (before : List DriveView) → StandsFor state views files
+          → FileDoes step (asker_of m p now) was (refuses_so number files) terms terms
+          → CalledAtMost (calls_of step most) before views → KeepsDrives step (asker_of m p now) was (Error number)
+          before views → Ends step most m was now p end processes left before views terms
       refused-ends files before stands does calls drives = record {
         effect = refuses_so number files;
         does = does;
@@ -103,7 +113,10 @@ module _ (m : Inner) (p : ℕ) (state : FileState) (views : List DriveView) (end
           (keeps-same step (asker_of m p now) was (Error number) views (error-keeps (deed_of step was) number))
 
       -- when its drive was read
-      pub read-ends : (fault : Option ℕ) (drive : ℕ) (before : List DriveView) → drive_of step ≡ Some drive → HasReadIn most fault drive was state before views → FileDoes step (asker_of m p now) was (refuses_so number (with_drives was (drive_states views))) terms terms → Ends step most m was now p end processes left before views terms
+      pub read-ends : (fault : Option ℕ) (drive : ℕ) (before : List DriveView) → drive_of step ≡ Some drive
+          → HasReadIn most fault drive was state before views → FileDoes step (asker_of m p now) was
+          (refuses_so number (with_drives was (drive_states views))) terms terms → Ends step most m was now p end
+          processes left before views terms
       read-ends fault drive before at it does =
           refused-ends (with_drives was (drive_states views)) before it.read.stands does
           (subst (λ (n : ℕ). CalledAtMost n before views) (sym (calls-reached step drive most at)) it.calls)
@@ -111,7 +124,9 @@ module _ (m : Inner) (p : ℕ) (state : FileState) (views : List DriveView) (end
 
   -- ---- it is done
 
-  pub done-quietly : (regs : Regs) (files : Files) (step : FileStep) (before : Files) → end ≡ Done → Represents processes (with_regs_of m p regs) → StandsFor state views files → deed_of step before ≡ leaves_so (leaves (answers regs) files) → EndsQuietly step m before p end processes left views
+  pub done-quietly : (regs : Regs) (files : Files) (step : FileStep) (before : Files) → end ≡ Done
+      → Represents processes (with_regs_of m p regs) → StandsFor state views files → deed_of step before ≡ leaves_so
+      (leaves (answers regs) files) → EndsQuietly step m before p end processes left views
   done-quietly regs files step before end_is tied stands is = record {
     effect = leaves (answers regs) files;
     is = is;
@@ -123,12 +138,17 @@ module _ (m : Inner) (p : ℕ) (state : FileState) (views : List DriveView) (end
 
 module _ (m : Inner) (was : Files) (now : TimePacket) (p : ℕ) (end : CallEnd) (processes : ProcState) (new : FileState) (before views : List DriveView) (terms : List TerminalState) where
   -- a step that is the same where no drive failed
-  pub late-ends : (most : ℕ) (step later : FileStep) (files : Files) (drive : ℕ) (mid : FileState) → ((effect : FileEffect) → deed_of later files ≡ leaves_so effect → (it : FileEffect) × (deed_of step was ≡ leaves_so it) × (effect ≡ with_drives_after it (drive_states views))) → drive_of step ≡ Some drive → HasReadIn most None drive was mid before views → EndsQuietly later m files p end processes new views → Ends step most m was now p end processes new before views terms
+  pub late-ends : (most : ℕ) (step later : FileStep) (files : Files) (drive : ℕ) (mid : FileState)
+      → ((effect : FileEffect) → deed_of later files ≡ leaves_so effect → (it : FileEffect) ×
+      (deed_of step was ≡ leaves_so it) × (effect ≡ with_drives_after it (drive_states views))) → drive_of step ≡ Some
+      drive → HasReadIn most None drive was mid before views → EndsQuietly later m files p end processes new views
+      → Ends step most m was now p end processes new before views terms
   late-ends most step later files drive mid late at read it =
       let same : (effect : FileEffect) × (deed_of step was ≡ leaves_so effect) × (it.effect ≡ with_drives_after effect (drive_states views)) = late it.effect it.is in
       record {
         effect = it.effect;
-        does = subst (λ (effect : FileEffect). FileDoes step (asker_of m p now) was effect terms terms) (sym same.2) (goes-well step (asker_of m p now) was same.0 (drive_states views) terms same.1 read.read.moved);
+        does = subst (λ (effect : FileEffect). FileDoes step (asker_of m p now) was effect terms terms) (sym same.2)
+            (goes-well step (asker_of m p now) was same.0 (drive_states views) terms same.1 read.read.moved);
         comes = it.comes;
         stands = it.stands;
         calls = subst (λ (n : ℕ). CalledAtMost n before views) (sym (calls-reached step drive most at)) read.calls;
@@ -144,7 +164,11 @@ module _ (m : Inner) (was : Files) (now : TimePacket) (p : ℕ) (end : CallEnd) 
       subst (λ (step : FileStep). EndsBy step most) same (subst (λ (n : ℕ). EndsBy step n) as_many it)
 
 -- the attempt is that step
-pub attempts-by : (most : ℕ) (call : PathCall) (m : Inner) (was : Files) (now : TimePacket) (p : ℕ) (end : CallEnd) (terms : List TerminalState) (before after : Standing) (step : FileStep) (few : ℕ) → file_step call (asker_of m p now) was (length terms) ≡ step → few ≡ most → Ends step few m was now p end after.processes after.files before.views after.views terms → AttemptsIn most call m was now p end terms terms before after
+pub attempts-by : (most : ℕ) (call : PathCall) (m : Inner) (was : Files) (now : TimePacket) (p : ℕ) (end : CallEnd)
+    (terms : List TerminalState) (before after : Standing) (step : FileStep) (few : ℕ)
+    → file_step call (asker_of m p now) was (length terms) ≡ step → few ≡ most → Ends step few m was now p end
+    after.processes after.files before.views after.views terms → AttemptsIn most call m was now p end terms terms
+    before after
 attempts-by most call m was now p end terms before after step few is as_many it =
     ends-attempt most call m was now p end terms before after
     (ends-as m was now p end after.processes after.files before.views after.views terms step (file_step call (asker_of m p now) was (length terms)) few most (sym is) as_many it)

@@ -68,16 +68,23 @@ module _ (m : Inner) (was : Files) (now : TimePacket) (p : ℕ) (terms : List Te
   creating = creates_there asker was list name dir
 
   -- it was refused, or the drive failed
-  pub place-refused : (new : FileState) (before after : List DriveView) → says_directory (regs_at m p).b ≡ false → is_dots name ≡ false → (error : DirError) → AnswersPlace dir.file name (user_at m p) (is_for_execution (regs_at m p).a) (Err error) → HasRead (directory_fault {A = NewPlace} (Err error)) place.drive was new before after → FileDoes creating asker was (refuses_so (directory_error error) (with_drives was (drive_states after))) terms terms
+  pub place-refused : (new : FileState) (before after : List DriveView) → says_directory (regs_at m p).b ≡ false
+      → is_dots name ≡ false → (error : DirError) → AnswersPlace dir.file name (user_at m p)
+      (is_for_execution (regs_at m p).a) (Err error) → HasRead (directory_fault {A = NewPlace} (Err error))
+      place.drive was new before after → FileDoes creating asker was (refuses_so (directory_error error)
+      (with_drives was (drive_states after))) terms terms
   place-refused new before after says proper NotAllowed answer read =
-      well-refused m was now p terms creating place.drive new before after E_FNA (creates-forbidden asker was list name dir (is-forbidden asker dir name (user_at m p) (is_for_execution (regs_at m p).a) proper answer)) read
+      well-refused m was now p terms creating place.drive new before after E_FNA (creates-forbidden asker was list
+      name dir (is-forbidden asker dir name (user_at m p) (is_for_execution (regs_at m p).a) proper answer)) read
   place-refused new before after says proper BadPath answer read = absurd (is-proper asker dir name (user_at m p) (is_for_execution (regs_at m p).a) proper answer)
   place-refused new before after says proper NotFound answer read = absurd answer
   place-refused new before after says proper Exists answer read =
       let both = is-there asker dir name (user_at m p) (is_for_execution (regs_at m p).a) proper answer in
       well-refused m was now p terms creating place.drive new before after E_CEF (creates-exists asker was list name dir both.0 says both.1) read
   place-refused new before after says proper (File (Device number)) answer read =
-      broken m was now p terms creating place.drive new before after number dir.volume (ap (λ (at : FilePlace). Some at.drive) found.place_is) found.volume_is (create-stays asker was list dir.volume name dir) read
+      broken m was now p terms creating place.drive new before after number dir.volume
+      (ap (λ (at : FilePlace). Some at.drive) found.place_is) found.volume_is (create-stays asker was list
+      dir.volume name dir) read
   place-refused new before after says proper (File NoCluster) answer read = absurd answer
   place-refused new before after says proper (File TooManyRuns) answer read = absurd answer
 
@@ -106,22 +113,33 @@ module _ (m : Inner) (was : Files) (now : TimePacket) (p : ℕ) (terms : List Te
     asked_at at attr user = record { change = creates at.number name attr; user = user; now = now }
 
     -- what was answered, of the directory that was found
-    pub change-answered : (mid : FileState) (views : List DriveView) (answer : Result ℕ DirError) (attr user : ℕ) (most : DiskVolume → DiskFile → DiskVolume → ℕ) → HasRead None place.drive was mid before views → new.io ≡ mid.io → new.directories ≡ mid.directories → attr ≡ (regs_at m p).b → user ≡ user_at m p → ChangesVolume place (asked_at place attr user) answer most mid.disks views new.disks after → Changed answer
+    pub change-answered : (mid : FileState) (views : List DriveView) (answer : Result ℕ DirError) (attr user : ℕ)
+        (most : DiskVolume → DiskFile → DiskVolume → ℕ) → HasRead None place.drive was mid before views
+        → new.io ≡ mid.io → new.directories ≡ mid.directories → attr ≡ (regs_at m p).b → user ≡ user_at m p
+        → ChangesVolume place (asked_at place attr user) answer most mid.disks views new.disks after → Changed answer
     change-answered mid views answer attr user most read io directories attr_is user_is changed =
         let first : HasChanged (asked_at place attr user) answer place.drive dir.volume dir.file was new before after =
         reached.has-changed-then (asked_at place attr user) answer place.drive dir.volume dir.file was mid new before views after read
-        (reached.has-changed mid new views after (with_drives was (drive_states views)) place dir.volume dir.file (asked_at place attr user) answer most read.stands found.volume_is found.file_is io directories changed) in
+        (reached.has-changed mid new views after (with_drives was (drive_states views)) place dir.volume dir.file
+        (asked_at place attr user) answer most read.stands found.volume_is found.file_is io directories changed)
+        in
         subst (λ (at : FilePlace). HasChanged (asked_at at (regs_at m p).b (user_at m p)) answer at.drive dir.volume dir.file was new before after) (sym found.place_is)
-        (subst (λ (asked : Asked). HasChanged asked answer place.drive dir.volume dir.file was new before after) (ap (λ (attr : ℕ). asked_at place attr user) attr_is ∙ ap (asked_at place (regs_at m p).b) user_is) first)
+        (subst (λ (asked : Asked). HasChanged asked answer place.drive dir.volume dir.file was new before after)
+        (ap (λ (attr : ℕ). asked_at place attr user) attr_is ∙ ap (asked_at place (regs_at m p).b) user_is) first)
 
     -- and how often the drive was called until then
-    pub change-called : (few : ℕ) (mid : FileState) (views : List DriveView) (answer : Result ℕ DirError) (asked : Asked) → HasReadIn few None place.drive was mid before views → new.io ≡ mid.io → new.directories ≡ mid.directories → ChangesVolume place asked answer (λ v file left. entering_calls v file 2 answer) mid.disks views new.disks after → CalledAtMost (few + calls_at_place dir.volume dir.file) before after
+    pub change-called : (few : ℕ) (mid : FileState) (views : List DriveView) (answer : Result ℕ DirError)
+        (asked : Asked) → HasReadIn few None place.drive was mid before views → new.io ≡ mid.io → new.directories ≡
+        mid.directories → ChangesVolume place asked answer (λ v file left. entering_calls v file 2 answer) mid.disks
+        views new.disks after → CalledAtMost (few + calls_at_place dir.volume dir.file) before after
     change-called few mid views answer asked read io directories changed =
         let most : ℕ = entering_calls dir.volume dir.file 2 answer in
         called-more (few + most) (few + calls_at_place dir.volume dir.file) before after
         (sum-within few most (calls_at_place dir.volume dir.file) (entering-within dir.volume dir.file answer))
         (called-then few most before views after read.calls
-        (has-changed-in mid new views after (with_drives was (drive_states views)) place dir.volume dir.file asked answer (λ v file left. entering_calls v file 2 answer) read.read.stands found.volume_is found.file_is io directories changed).calls)
+        (has-changed-in mid new views after (with_drives was (drive_states views)) place dir.volume dir.file asked
+        answer (λ v file left. entering_calls v file 2 answer) read.read.stands found.volume_is found.file_is io
+        directories changed).calls)
 
     -- the files then
     abbrev left : (answer : Result ℕ DirError) → Changed answer → Files
@@ -131,7 +149,9 @@ module _ (m : Inner) (was : Files) (now : TimePacket) (p : ℕ) (terms : List Te
     room deed is = ap (λ (step : FileStep). deed_of step was) is
 
     -- the volume is as it was
-    same-left : (end : ℕ) (now_left : DiskVolume) → now_left ≡ dir.volume → FileDoes making asker was (refuses_so end (with_drives was (drive_states after))) terms terms → FileDoes making asker was (refuses_so end (with_drives (with_volume was dir.place.drive now_left) (drive_states after))) terms terms
+    same-left : (end : ℕ) (now_left : DiskVolume) → now_left ≡ dir.volume → FileDoes making asker was
+        (refuses_so end (with_drives was (drive_states after))) terms terms → FileDoes making asker was
+        (refuses_so end (with_drives (with_volume was dir.place.drive now_left) (drive_states after))) terms terms
     same-left end now_left same does =
         subst (λ (files : Files). FileDoes making asker was (refuses_so end (with_drives files (drive_states after))) terms terms)
         (sym (ap (with_volume was dir.place.drive) same ∙ reached.same-volume was dir.place.drive dir.volume on-volume)) does
@@ -165,7 +185,9 @@ module _ (m : Inner) (was : Files) (now : TimePacket) (p : ℕ) (terms : List Te
     changes-it enough list_free =
         room _ (makes-numbered asker was list name dir number numbered) ∙ room-made asker was list name dir number full none enough list_free
 
-    stays-refused : (fault : FileFault) → Changed (Err (File fault)) → IsRefused (Err (File fault)) ⊎ (is_refused (asked_of it asker) dir.volume dir.file ≡ true) → KeepsDrives making asker was (Error (file_error fault)) before after
+    stays-refused : (fault : FileFault) → Changed (Err (File fault)) → IsRefused (Err (File fault)) ⊎
+        (is_refused (asked_of it asker) dir.volume dir.file ≡ true) → KeepsDrives making asker was
+        (Error (file_error fault)) before after
     stays-refused fault changed quiet =
         keeps-refused making asker was (Error (file_error fault)) dir.place.drive before after (inl refl) (error-keeps (deed_of making was) (file_error fault))
         (asked_of it asker) (Err (File fault)) dir.volume dir.file new changed quiet
@@ -183,15 +205,27 @@ module _ (m : Inner) (was : Files) (now : TimePacket) (p : ℕ) (terms : List Te
     make-keeps TooManyRuns changed first = stays-refused TooManyRuns changed (inl tt)
 
     -- it was made, and a path begins on it
-    pub make-ends : (n : ℕ) (changed : Changed (Ok n)) (end : CallEnd) (processes : ProcState) (state : FileState) (most : ℕ) → CalledAtMost most before after → EndsQuietly (begins asker (left (Ok n) changed) list (FileTarget place.drive n)) m (left (Ok n) changed) p end processes state after → Ends making most m was now p end processes state before after terms
+    pub make-ends : (n : ℕ) (changed : Changed (Ok n)) (end : CallEnd) (processes : ProcState) (state : FileState)
+        (most : ℕ) → CalledAtMost most before after → EndsQuietly (begins asker (left (Ok n) changed) list
+        (FileTarget place.drive n)) m (left (Ok n) changed) p end processes state after → Ends making most m was now p
+        end processes state before after terms
     make-ends n changed end processes state most calls ended =
         let files : Files = left (Ok n) changed in
-        let it_is : deed_of (begins asker files list (FileTarget place.drive n)) files ≡ leaves_so (leaves (answers (opened_regs (regs_at m p) list number)) (with_path_table files (paths_after_begin was.io.paths p (new_desc (FileTarget place.drive n) (regs_at m p).a)))) =
+        let it_is : deed_of (begins asker files list (FileTarget place.drive n)) files ≡ leaves_so
+        (leaves (answers (opened_regs (regs_at m p) list number))
+        (with_path_table files (paths_after_begin was.io.paths p (new_desc (FileTarget place.drive n)
+        (regs_at m p).a)))) =
         begins-numbered asker files list (FileTarget place.drive n) number numbered in
-        let begun : leaves_so ended.effect ≡ leaves_so (leaves (answers (opened_regs (regs_at m p) list number)) (with_path_table files (paths_after_begin was.io.paths p (new_desc (FileTarget place.drive n) (regs_at m p).a)))) = sym ended.is ∙ it_is in
-        let effect_is : ended.effect ≡ leaves (answers (opened_regs (regs_at m p) list number)) (with_path_table files (paths_after_begin was.io.paths p (new_desc (FileTarget place.drive n) (regs_at m p).a))) = cc in
+        let begun : leaves_so ended.effect ≡ leaves_so (leaves (answers (opened_regs (regs_at m p) list number))
+        (with_path_table files (paths_after_begin was.io.paths p (new_desc (FileTarget place.drive n)
+        (regs_at m p).a)))) = sym ended.is ∙ it_is in
+        let effect_is : ended.effect ≡ leaves (answers (opened_regs (regs_at m p) list number))
+        (with_path_table files (paths_after_begin was.io.paths p (new_desc (FileTarget place.drive n)
+        (regs_at m p).a))) = cc in
         let is_done : end ≡ Done = (subst (λ (effect : FileEffect). Comes m p (result_of m p (io_effect effect)) end processes) effect_is ended.comes).0 in
-        let on_drive = ap (λ (at : FilePlace). leaves (answers (opened_regs (regs_at m p) list number)) (with_path_table files (paths_after_begin was.io.paths p (new_desc (FileTarget at.drive n) (regs_at m p).a)))) found.place_is in
+        let on_drive = ap (λ (at : FilePlace). leaves (answers (opened_regs (regs_at m p) list number))
+        (with_path_table files (paths_after_begin was.io.paths p (new_desc (FileTarget at.drive n)
+        (regs_at m p).a)))) found.place_is in
         record {
           effect = ended.effect;
           does = subst (λ (effect : FileEffect). FileDoes making asker was effect terms terms) (on_drive ∙ sym effect_is)
@@ -206,13 +240,16 @@ module _ (m : Inner) (was : Files) (now : TimePacket) (p : ℕ) (terms : List Te
         }
 
 -- what was answered to the one who walks was answered to the one who asks
-pub answered-to : (m : Inner) (p : ℕ) (file : DiskFile) (name : List ℕ) (user : ℕ) (execute : Bool) (result : Result ℕ DirError) → user_at m p ≡ user → execute ≡ is_for_execution (regs_at m p).a → AnswersPlace file name user execute result → AnswersPlace file name (user_at m p) (is_for_execution (regs_at m p).a) result
+pub answered-to : (m : Inner) (p : ℕ) (file : DiskFile) (name : List ℕ) (user : ℕ) (execute : Bool)
+    (result : Result ℕ DirError) → user_at m p ≡ user → execute ≡ is_for_execution (regs_at m p).a → AnswersPlace file
+    name user execute result → AnswersPlace file name (user_at m p) (is_for_execution (regs_at m p).a) result
 answered-to m p file name user execute result user_is execute_is answer =
     subst (λ (execute : Bool). AnswersPlace file name (user_at m p) execute result) execute_is
     (subst (λ (user : ℕ). AnswersPlace file name user execute result) (sym user_is) answer)
 
 -- and the calls that found it are those of the one who asks
-module _ (m : Inner) (now : TimePacket) (p : ℕ) (v : DiskVolume) (file : DiskFile) (name : List ℕ) (user : ℕ) (execute : Bool) (user_is : user_at m p ≡ user) (execute_is : execute ≡ is_for_execution (regs_at m p).a) where
+module _ (m : Inner) (now : TimePacket) (p : ℕ) (v : DiskVolume) (file : DiskFile) (name : List ℕ) (user : ℕ)
+    (execute : Bool) (user_is : user_at m p ≡ user) (execute_is : execute ≡ is_for_execution (regs_at m p).a) where
   pub place-same : place_calls file name user execute ≡ place_calls file name (user_at m p) (is_for_execution (regs_at m p).a)
   place-same =
       ap (place_calls file name user) execute_is

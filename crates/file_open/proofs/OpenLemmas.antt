@@ -34,8 +34,12 @@ use Rattle.file_open.specs.Steps.{begins, opens_there}
 -- ---- what it does is done where no drive failed
 
 -- what may be said of a step that is refused, and of what goes on from each file, may be said of a walk
-module _ (P : Deed → Type 0) (asker : Asker) (files : Files) (refusal : (number : ℕ) → P (leaves_so (refuses_so number files))) (next : Found → FileStep) (found : (it : Found) → P (deed_of (next it) files)) where
-  with-file : (drive n : ℕ) (v : DiskVolume) (file : Option DiskFile) → P (deed_of (needs file E_PNNF (λ file. next (record { place = record { drive = drive; number = n }; volume = v; file = file }))) files)
+module _ (P : Deed → Type 0) (asker : Asker) (files : Files) (refusal : (number : ℕ)
+    → P (leaves_so (refuses_so number files))) (next : Found → FileStep) (found : (it : Found)
+    → P (deed_of (next it) files)) where
+  with-file : (drive n : ℕ) (v : DiskVolume) (file : Option DiskFile)
+      → P (deed_of (needs file E_PNNF
+      (λ file. next (record { place = record { drive = drive; number = n }; volume = v; file = file }))) files)
   with-file drive n v None = refusal E_PNNF
   with-file drive n v (Some file) = found (record { place = record { drive = drive; number = n }; volume = v; file = file })
 
@@ -44,7 +48,10 @@ module _ (P : Deed → Type 0) (asker : Asker) (files : Files) (refusal : (numbe
   with-end drive v not_allowed = refusal E_FNA
   with-end drive v not_found = refusal E_PNNF
 
-  with-volume : (execute : Bool) (from : FilePlace) (names : List (List ℕ)) (volume : Option DiskVolume) → P (deed_of (needs volume E_MNF (λ v. reaches from.drive (walk_ends from.drive v (walk v.files asker.user execute from.number names) next))) files)
+  with-volume : (execute : Bool) (from : FilePlace) (names : List (List ℕ)) (volume : Option DiskVolume)
+      → P (deed_of (needs volume E_MNF
+      (λ v. reaches from.drive (walk_ends from.drive v (walk v.files asker.user execute from.number names) next)))
+      files)
   with-volume execute from names None = refusal E_MNF
   with-volume execute from names (Some v) = with-end from.drive v (walk v.files asker.user execute from.number names)
 
@@ -58,7 +65,9 @@ module _ (asker : Asker) (files : Files) (v : DiskVolume) where
   abbrev stays : Deed → Type 0
   stays deed = MayBeLeft deed asker v v
 
-  tests-stay : (forbidden shared : Bool) (number : Option ℕ) (regs : ℕ → Regs) (paths : PathTable) → stays (deed_of (refuses forbidden E_FNA (refuses shared E_SHARE (needs number E_PTHFUL (λ n. done (regs n) (with_path_table files paths))))) files)
+  tests-stay : (forbidden shared : Bool) (number : Option ℕ) (regs : ℕ → Regs) (paths : PathTable)
+      → stays (deed_of (refuses forbidden E_FNA
+      (refuses shared E_SHARE (needs number E_PTHFUL (λ n. done (regs n) (with_path_table files paths))))) files)
   tests-stay true shared number regs paths = refl
   tests-stay false true number regs paths = refl
   tests-stay false false None regs paths = refl
@@ -82,7 +91,11 @@ module _ (was : Files) (drives : List DriveState) where
   Late step later =
       (effect : FileEffect) → deed_of later (with_drives was drives) ≡ leaves_so effect → (it : FileEffect) × (deed_of step was ≡ leaves_so it) × (effect ≡ with_drives_after it drives)
 
-  late-tests : (forbidden shared : Bool) (number : Option ℕ) (regs : ℕ → Regs) (paths : PathTable) → Late (refuses forbidden E_FNA (refuses shared E_SHARE (needs number E_PTHFUL (λ n. done (regs n) (with_path_table was paths))))) (refuses forbidden E_FNA (refuses shared E_SHARE (needs number E_PTHFUL (λ n. done (regs n) (with_path_table (with_drives was drives) paths)))))
+  late-tests : (forbidden shared : Bool) (number : Option ℕ) (regs : ℕ → Regs) (paths : PathTable)
+      → Late (refuses forbidden E_FNA
+      (refuses shared E_SHARE (needs number E_PTHFUL (λ n. done (regs n) (with_path_table was paths)))))
+      (refuses forbidden E_FNA (refuses shared E_SHARE
+      (needs number E_PTHFUL (λ n. done (regs n) (with_path_table (with_drives was drives) paths)))))
   late-tests true shared number regs paths effect is =
       let same : effect ≡ refuses_so E_FNA (with_drives was drives) = cc in (refuses_so E_FNA was, refl, same)
   late-tests false true number regs paths effect is =
@@ -117,7 +130,8 @@ module _ (asker : Asker) (files : Files) (list : PathList) (found : Found) where
         ap (λ (step : FileStep). deed_of step files) tested
         ∙ ap (λ (shared : Bool). deed_of (refuses shared E_SHARE (begins_on asker files list found)) files) shared
 
-    pub found-begins : (target : Target) → is_not_shared files found asker.caller.regs.a ≡ false → target ≡ target_on found.file found.place → begins asker files list target ≡ opens_found asker files list found
+    pub found-begins : (target : Target) → is_not_shared files found asker.caller.regs.a ≡ false → target ≡ target_on
+        found.file found.place → begins asker files list target ≡ opens_found asker files list found
     found-begins target shared target_is =
         ap (begins asker files list) target_is
         ∙ sym (tested ∙ ap (λ (shared : Bool). refuses shared E_SHARE (begins_on asker files list found)) shared)
@@ -134,25 +148,33 @@ module _ (s : ProcState) (m : Inner) (p : ℕ) (tied : Represents s m) (regs : R
 
 -- ---- the list
 
-module _ (asker : Asker) (files : Files) (terms : ℕ) (refusal : Option ℕ) (execute : Bool) (refusal_is : refusal ≡ mode_refusal (is_mode asker.caller.regs.a)) (execute_is : execute ≡ is_for_execution asker.caller.regs.a) where
+module _ (asker : Asker) (files : Files) (terms : ℕ) (refusal : Option ℕ) (execute : Bool)
+    (refusal_is : refusal ≡ mode_refusal (is_mode asker.caller.regs.a)) (execute_is : execute ≡ is_for_execution
+    asker.caller.regs.a) where
   abbrev opens_led : Step Led → FileStep
   opens_led step = next_step step (λ led. opens_on_way asker files terms led.list led.way)
 
   by-leads : i_open asker files terms ≡ opens_led (leads asker refusal (way_for Existing asker files terms execute))
   by-leads =
-      (λ i. reads_list (list_of asker) (λ (step : FileStep). mode-tested (is_mode asker.caller.regs.a) step i) (λ list. opens_on_way asker files terms list (way_of asker files terms (is_for_execution asker.caller.regs.a) list)))
+      (λ i. reads_list (list_of asker) (λ (step : FileStep). mode-tested (is_mode asker.caller.regs.a) step i)
+      (λ list. opens_on_way asker files terms list
+      (way_of asker files terms (is_for_execution asker.caller.regs.a) list)))
       ∙ leads-on asker (mode_refusal (is_mode asker.caller.regs.a)) (way_of asker files terms (is_for_execution asker.caller.regs.a)) (opens_on_way asker files terms) (λ list number. refl)
       ∙ ap (λ (refusal : Option ℕ). opens_led (leads asker refusal (way_of asker files terms (is_for_execution asker.caller.regs.a)))) (sym refusal_is)
       ∙ ap (λ (execute : Bool). opens_led (leads asker refusal (way_for Existing asker files terms execute))) (sym execute_is)
 
   -- along the way that was found
-  pub opens-way : (list : PathList) (way : Way) → leads asker refusal (way_for Existing asker files terms execute) ≡ comes (record { list = list; way = way }) → i_open asker files terms ≡ opens_on_way asker files terms list way
+  pub opens-way : (list : PathList) (way : Way) → leads asker refusal (way_for Existing asker files terms execute) ≡
+      comes (record { list = list; way = way }) → i_open asker files terms ≡ opens_on_way asker files terms list way
   opens-way list way is = by-leads ∙ ap opens_led is
 
   -- or it is refused
   pub opens-refused : (number : ℕ) → leads asker refusal (way_for Existing asker files terms execute) ≡ refused number → i_open asker files terms ≡ refused number
   opens-refused number is = by-leads ∙ ap opens_led is
 
-  pub opens-routed : (cells : Cells) (route : Route) (way : Routed) (it : IsRoute cells asker (leads asker refusal (way_for Existing asker files terms execute)) route) → route.way ≡ way → i_open asker files terms ≡ opens_on_way asker files terms it.list (way_to (Ok way) it.list.names)
+  pub opens-routed : (cells : Cells) (route : Route) (way : Routed)
+      (it : IsRoute cells asker (leads asker refusal (way_for Existing asker files terms execute)) route)
+      → route.way ≡ way → i_open asker files terms ≡ opens_on_way asker files terms it.list
+      (way_to (Ok way) it.list.names)
   opens-routed cells route way it is =
       opens-way it.list it.way it.comes_to ∙ ap (opens_on_way asker files terms it.list) (it.route_is.way_is ∙ ap (λ (way : Routed). way_to (Ok way) it.list.names) is)

@@ -23,13 +23,16 @@ use Rattle.file_open.proofs.EndLemmas.{broken}
 use Rattle.file_open.specs.Ends.{HasReadIn}
 use Rattle.file_open.specs.Steps.{IsFoundAt}
 
-module _ (was : Files) (place : FilePlace) (found : Found) (it : IsFoundAt was place found) (mid new : FileState) (before views now : List DriveView) (few : ℕ) (read : HasReadIn few None place.drive was mid before views) where
+module _ (was : Files) (place : FilePlace) (found : Found) (it : IsFoundAt was place found) (mid new : FileState)
+    (before views now : List DriveView) (few : ℕ) (read : HasReadIn few None place.drive was mid before views) where
   -- what was read is of that file
   pub of-found : (fact : DiskVolume → DiskFile → Type 0) → OnDisks mid.disks views place fact → fact found.volume found.file
   of-found fact holds = holds was.volumes found.volume found.file read.read.stands.mounted it.volume_is it.file_is
 
   -- and the drive has been read once more
-  pub read-on : (fault : Option ℕ) (most : DiskVolume → DiskFile → ℕ) → new.io ≡ mid.io → new.directories ≡ mid.directories → ReadsFile place fault most mid.disks views new.disks now → HasReadIn (few + most found.volume found.file) fault place.drive was new before now
+  pub read-on : (fault : Option ℕ) (most : DiskVolume → DiskFile → ℕ) → new.io ≡ mid.io → new.directories ≡
+      mid.directories → ReadsFile place fault most mid.disks views new.disks now
+      → HasReadIn (few + most found.volume found.file) fault place.drive was new before now
   read-on fault most io directories reads = record {
     first = read.first;
     read = reached.has-read-then fault place.drive was mid new before views now read.read
@@ -40,8 +43,14 @@ module _ (was : Files) (place : FilePlace) (found : Found) (it : IsFoundAt was p
   }
 
   -- or the drive has failed
-  module _ (m : Inner) (time : TimePacket) (p : ℕ) (terms : List TerminalState) (step : FileStep) (at : drive_of step ≡ Some place.drive) (stays : (v : DiskVolume) → MayBeLeft (deed_of step was) (asker_of m p time) v v) where
-    pub fault-does : (A : Type 0) (fault : FileFault) (most : DiskVolume → DiskFile → ℕ) → IsSome (file_fault {A = A} (Err fault)) → new.io ≡ mid.io → new.directories ≡ mid.directories → ReadsFile place (file_fault {A = A} (Err fault)) most mid.disks views new.disks now → FileDoes step (asker_of m p time) was (refuses_so (file_error fault) (with_drives was (drive_states now))) terms terms
+  module _ (m : Inner) (time : TimePacket) (p : ℕ) (terms : List TerminalState) (step : FileStep)
+      (at : drive_of step ≡ Some place.drive) (stays : (v : DiskVolume) → MayBeLeft (deed_of step was)
+      (asker_of m p time) v v) where
+    pub fault-does : (A : Type 0) (fault : FileFault) (most : DiskVolume → DiskFile → ℕ)
+        → IsSome (file_fault {A = A} (Err fault)) → new.io ≡ mid.io → new.directories ≡ mid.directories
+        → ReadsFile place (file_fault {A = A} (Err fault)) most mid.disks views new.disks now
+        → FileDoes step (asker_of m p time) was (refuses_so (file_error fault) (with_drives was (drive_states now)))
+        terms terms
     fault-does A (Device number) most some io directories reads =
         broken m was time p terms step place.drive new before now number found.volume at it.volume_is (stays found.volume) (read-on (Some number) most io directories reads).read
     fault-does A NoCluster most some io directories reads = absurd (false≢true some)

@@ -45,7 +45,11 @@ use Rattle.file_routes.specs.Calls.{walk_and}
 use Rattle.file_open.specs.Ends.{HasReadIn}
 use Rattle.file_open.specs.Steps.{IsFoundAt, walker_at}
 
-module _ (m : Inner) (was : Files) (now : TimePacket) (p : ℕ) (terms : List TerminalState) (walker : Walker) (from : FilePlace) (names : List (List ℕ)) (state new : FileState) (before after : List DriveView) (user : (asker_of m p now).user ≡ walker.user) (stands : StandsFor state before was) (has : HasFileAt state.disks before from) (io : new.io ≡ state.io) (directories : new.directories ≡ state.directories) (next : Found → FileStep) where
+module _ (m : Inner) (was : Files) (now : TimePacket) (p : ℕ) (terms : List TerminalState) (walker : Walker)
+    (from : FilePlace) (names : List (List ℕ)) (state new : FileState) (before after : List DriveView)
+    (user : (asker_of m p now).user ≡ walker.user) (stands : StandsFor state before was) (has : HasFileAt state.disks
+    before from) (io : new.io ≡ state.io) (directories : new.directories ≡ state.directories) (next : Found
+    → FileStep) where
   abbrev step : FileStep
   step = walks (asker_of m p now) was walker.execute from names next
 
@@ -62,12 +66,15 @@ module _ (m : Inner) (was : Files) (now : TimePacket) (p : ℕ) (terms : List Te
 
   module _ (arrived : Result FilePlace DirError) (it : Walks walker from names arrived state.disks before new.disks after) where
     -- and was read, by the volume
-    pub read : (v : DiskVolume) → volume_at was from.drive ≡ Some v → HasReadIn (walk_calls v.files walker.user walker.execute from.number names) (directory_fault arrived) from.drive was new before after
+    pub read : (v : DiskVolume) → volume_at was from.drive ≡ Some v
+        → HasReadIn (walk_calls v.files walker.user walker.execute from.number names) (directory_fault arrived)
+        from.drive was new before after
     read v is = record {
       first = stands.drives;
       read = reached.has-read state new before after was from has.file (directory_fault arrived) (λ v file. walk_calls v.files walker.user walker.execute from.number names) stands
           (ap (option_and_then (λ (v : DiskVolume). v.files from.number)) is ∙ there v is) io directories it.drive;
-      calls = called-read state new before after was from v has.file (directory_fault arrived) (λ v file. walk_calls v.files walker.user walker.execute from.number names) stands is (there v is) it.drive;
+      calls = called-read state new before after was from v has.file (directory_fault arrived)
+          (λ v file. walk_calls v.files walker.user walker.execute from.number names) stands is (there v is) it.drive;
     }
 
     comes-to : WalkComes walker was from names arrived
@@ -75,7 +82,9 @@ module _ (m : Inner) (was : Files) (now : TimePacket) (p : ℕ) (terms : List Te
 
   -- ---- it was refused, or its drive failed
 
-  pub walk-refused : ((v : DiskVolume) → MayBeLeft (deed_of step was) (asker_of m p now) v v) → (error : DirError) → Walks walker from names (Err error) state.disks before new.disks after → FileDoes step (asker_of m p now) was (refuses_so (directory_error error) (with_drives was (drive_states after))) terms terms
+  pub walk-refused : ((v : DiskVolume) → MayBeLeft (deed_of step was) (asker_of m p now) v v) → (error : DirError)
+      → Walks walker from names (Err error) state.disks before new.disks after → FileDoes step (asker_of m p now) was
+      (refuses_so (directory_error error) (with_drives was (drive_states after))) terms terms
   walk-refused stays NotAllowed it =
       well-refused m was now p terms step from.drive new before after E_FNA
       (ap (λ (step : FileStep). deed_of step was) (walks-forbidden (asker_of m p now) walker was from names user next (comes-to (Err NotAllowed) it)))
@@ -130,7 +139,8 @@ module _ (m : Inner) (was : Files) (now : TimePacket) (p : ℕ) (terms : List Te
     asked : walk_and walker.user walker.execute from.number names most (volume_at was from.drive) ≡ walked_calls walker.execute
     asked = ap (λ (user : ℕ). walk_and user walker.execute from.number names most (volume_at was from.drive)) (sym user)
 
-    read-within : (arrived : Result FilePlace DirError) → Walks walker from names arrived state.disks before new.disks after → HasReadIn (walked_calls walker.execute) (directory_fault arrived) from.drive was new before after
+    read-within : (arrived : Result FilePlace DirError) → Walks walker from names arrived state.disks before new.disks
+        after → HasReadIn (walked_calls walker.execute) (directory_fault arrived) from.drive was new before after
     read-within arrived it =
         subst (λ (n : ℕ). HasReadIn n (directory_fault arrived) from.drive was new before after) asked
         (read-more (walk_calls on-volume.0.files walker.user walker.execute from.number names)
@@ -141,14 +151,26 @@ module _ (m : Inner) (was : Files) (now : TimePacket) (p : ℕ) (terms : List Te
 
     module _ (end : CallEnd) (processes : ProcState) where
       -- refused
-      pub walk-ends : (error : DirError) (it : Walks walker from names (Err error) state.disks before new.disks after) (io_then : Io) → io_then ≡ with_call new.io p None → end ≡ Error (directory_error error) → Represents processes m → ((v : DiskVolume) → MayBeLeft (deed_of step was) (asker_of m p now) v v) → Ends (walked execute) (walked_calls execute) m was now p end processes (record { io = io_then; disks = new.disks; directories = new.directories }) before after terms
+      pub walk-ends : (error : DirError) (it : Walks walker from names (Err error) state.disks before new.disks after)
+          (io_then : Io) → io_then ≡ with_call new.io p None → end ≡ Error (directory_error error)
+          → Represents processes m → ((v : DiskVolume) → MayBeLeft (deed_of step was) (asker_of m p now) v v)
+          → Ends (walked execute) (walked_calls execute) m was now p end processes
+          (record { io = io_then; disks = new.disks; directories = new.directories }) before after terms
       walk-ends error it io_then io_is end_is tied stays =
-          subst (λ (execute : Bool). Ends (walked execute) (walked_calls execute) m was now p end processes (record { io = io_then; disks = new.disks; directories = new.directories }) before after terms) execute_is
-          (read-ends m p new after end processes io_then io_is (directory_error error) end_is tied was now terms (walked_calls walker.execute) step (directory_fault {A = FilePlace} (Err error)) from.drive before reached-there
+          subst (λ (execute : Bool). Ends (walked execute) (walked_calls execute) m was now p end processes
+          (record { io = io_then; disks = new.disks; directories = new.directories }) before after terms)
+          execute_is
+          (read-ends m p new after end processes io_then io_is (directory_error error) end_is tied was now terms
+          (walked_calls walker.execute) step (directory_fault {A = FilePlace} (Err error)) from.drive before
+          reached-there
           (read-within (Err error) it) (walk-refused stays error it))
 
       -- as it does at the file that was found
-      pub walk-goes : (place : FilePlace) (it : Walks walker from names (Ok place) state.disks before new.disks after) (left : FileState) (later : List DriveView) → Ends (reaches (finds place it).found.place.drive (next (finds place it).found)) (calls_before place it + most (finds place it).found.volume (finds place it).found.file) m was now p end processes left before later terms → Ends (walked execute) (walked_calls execute) m was now p end processes left before later terms
+      pub walk-goes : (place : FilePlace) (it : Walks walker from names (Ok place) state.disks before new.disks after)
+          (left : FileState) (later : List DriveView) → Ends (reaches (finds place it).found.place.drive
+          (next (finds place it).found)) (calls_before place it + most (finds place it).found.volume
+          (finds place it).found.file) m was now p end processes left before later terms → Ends (walked execute)
+          (walked_calls execute) m was now p end processes left before later terms
       walk-goes place it left later ended =
           let found : Finds walker was from names place = finds place it in
           subst (λ (execute : Bool). Ends (walked execute) (walked_calls execute) m was now p end processes left before later terms) execute_is
@@ -178,10 +200,13 @@ walker-tied s m p walker within tied is = subst (IsWalkerOf s m p.0) (sym is) (r
 })
 
 -- the names of a list stand where the kernel sees them
-pub names-there : (s : ProcState) (p : Pid) (walker : Walker) (first : Option ℕ) (names : List (List ℕ)) → walker ≡ walker_at s p → NamesFrom (cells_of s.memory p.0) first names → NamesFrom (cells_of s.memory walker.process.0) first names
+pub names-there : (s : ProcState) (p : Pid) (walker : Walker) (first : Option ℕ) (names : List (List ℕ))
+    → walker ≡ walker_at s p → NamesFrom (cells_of s.memory p.0) first names
+    → NamesFrom (cells_of s.memory walker.process.0) first names
 names-there s p walker first names is from =
     subst (λ (walker : Walker). NamesFrom (cells_of s.memory walker.process.0) first names) (sym is) from
 
-pub names-stand : (s : ProcState) (p : Pid) (walker : Walker) (first : ℕ) (names : List (List ℕ)) → walker ≡ walker_at s p → NamesStand (cells_of s.memory p.0) first names → NamesStand (cells_of s.memory walker.process.0) first names
+pub names-stand : (s : ProcState) (p : Pid) (walker : Walker) (first : ℕ) (names : List (List ℕ)) → walker ≡ walker_at
+    s p → NamesStand (cells_of s.memory p.0) first names → NamesStand (cells_of s.memory walker.process.0) first names
 names-stand s p walker first names is stand =
     subst (λ (walker : Walker). NamesStand (cells_of s.memory walker.process.0) first names) (sym is) stand

@@ -23,23 +23,31 @@ use Rattle.file_routes.proofs.VolumeLemmas.{agrees-at, file-there, view-there}
 -- ---- the volume of a file that is there
 
 -- where a volume is mounted, one is mounted whichever volumes are
-some-agrees : (kept : Option Volume) (view : DriveView) (v : DiskVolume) (other : Option DiskVolume) → AgreesOnDrive kept view (Some v) → AgreesOnDrive kept view other → (w : DiskVolume) × (other ≡ Some w)
+some-agrees : (kept : Option Volume) (view : DriveView) (v : DiskVolume) (other : Option DiskVolume)
+    → AgreesOnDrive kept view (Some v) → AgreesOnDrive kept view other → (w : DiskVolume) × (other ≡ Some w)
 some-agrees None view v other on agrees = absurd on
 some-agrees (Some volume) view v None on agrees = absurd agrees
 some-agrees (Some volume) view v (Some w) on agrees = (w, refl)
 
-pub volume-there : (disks : List (Option Volume)) (views : List DriveView) (place : FilePlace) (volumes : List (Option DiskVolume)) → HasFileAt disks views place → AreMounted disks views volumes → (v : DiskVolume) × (mounted_at volumes place.drive ≡ Some v)
+pub volume-there : (disks : List (Option Volume)) (views : List DriveView) (place : FilePlace)
+    (volumes : List (Option DiskVolume)) → HasFileAt disks views place → AreMounted disks views volumes
+    → (v : DiskVolume) × (mounted_at volumes place.drive ≡ Some v)
 volume-there disks views place volumes has mounted =
     let there : (view : DriveView) × (slice_get views place.drive ≡ Some view) = view-there disks views has.volumes place.drive has.volume has.mounted has.is in
-    some-agrees (kept_at disks place.drive) there.0 has.volume (mounted_at volumes place.drive) (agrees-at disks views has.volumes place.drive has.volume there.0 has.mounted has.is there.1) (mounted.each place.drive there.0 there.1)
+    some-agrees (kept_at disks place.drive) there.0 has.volume (mounted_at volumes place.drive)
+    (agrees-at disks views has.volumes place.drive has.volume there.0 has.mounted has.is there.1)
+    (mounted.each place.drive there.0 there.1)
 
 -- ---- what it comes to
 
-module _ (walker : Walker) (files : Files) (from : FilePlace) (names : List (List ℕ)) (disks : List (Option Volume)) (before : List DriveView) (new : List (Option Volume)) (after : List DriveView) (has : HasFileAt disks before from) (mounted : AreMounted disks before files.volumes) where
+module _ (walker : Walker) (files : Files) (from : FilePlace) (names : List (List ℕ)) (disks : List (Option Volume))
+    (before : List DriveView) (new : List (Option Volume)) (after : List DriveView) (has : HasFileAt disks before
+    from) (mounted : AreMounted disks before files.volumes) where
   there : (v : DiskVolume) × (mounted_at files.volumes from.drive ≡ Some v)
   there = volume-there disks before from files.volumes has mounted
 
-  answered : (result : Result FilePlace DirError) → Walks walker from names result disks before new after → AnswersWalk (walk there.0.files walker.user walker.execute from.number names) (number_arrived result)
+  answered : (result : Result FilePlace DirError) → Walks walker from names result disks before new after
+      → AnswersWalk (walk there.0.files walker.user walker.execute from.number names) (number_arrived result)
   answered result walks = walks.walked files.volumes there.0 has.file mounted there.1 (file-there disks before from has files.volumes there.0 mounted there.1)
 
   pub walk-comes : (result : Result FilePlace DirError) → Walks walker from names result disks before new after → WalkComes walker files from names result
@@ -65,7 +73,9 @@ module _ (walker : Walker) (files : Files) (from : FilePlace) (names : List (Lis
 -- ---- how a call goes on
 
 module _ {E : Type 0} (asker : Asker) (walker : Walker) (files : Files) (from : FilePlace) (names : List (List ℕ)) (user : asker.user ≡ walker.user) (next : Found → Step E) where
-  on-volume : (v : DiskVolume) (end : WalkEnd) → volume_at files from.drive ≡ Some v → walk v.files walker.user walker.execute from.number names ≡ end → walks asker files walker.execute from names next ≡ reaches from.drive (walk_ends from.drive v end next)
+  on-volume : (v : DiskVolume) (end : WalkEnd) → volume_at files from.drive ≡ Some v → walk v.files walker.user
+      walker.execute from.number names ≡ end → walks asker files walker.execute from names next ≡ reaches from.drive
+      (walk_ends from.drive v end next)
   on-volume v end is ends =
       ap (λ (volume : Option DiskVolume). needs volume E_MNF (λ v. reaches from.drive (walk_ends from.drive v (walk v.files asker.user walker.execute from.number names) next))) is
       ∙ ap (λ (user : ℕ). reaches from.drive (walk_ends from.drive v (walk v.files user walker.execute from.number names) next)) user
@@ -75,7 +85,12 @@ module _ {E : Type 0} (asker : Asker) (walker : Walker) (files : Files) (from : 
   pub walks-found : (place : FilePlace) (it : Finds walker files from names place) → walks asker files walker.execute from names next ≡ reaches from.drive (next it.found)
   walks-found place it =
       on-volume it.found.volume (arrives place.number) it.volume_is it.end_is
-      ∙ ap (λ (file : Option DiskFile). reaches from.drive (needs file E_PNNF (λ file. next (record { place = record { drive = from.drive; number = place.number }; volume = it.found.volume; file = file })))) it.file_is
+      ∙ ap (λ (file : Option DiskFile). reaches from.drive
+      (needs file E_PNNF (λ file. next (record {
+        place = record { drive = from.drive; number = place.number };
+        volume = it.found.volume;
+        file = file;
+      })))) it.file_is
       ∙ ap (λ (at : FilePlace). reaches from.drive (next (record { place = at; volume = it.found.volume; file = it.found.file }))) same
     where
       same : record { drive = from.drive; number = place.number } ≡ it.found.place

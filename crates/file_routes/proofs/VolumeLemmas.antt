@@ -22,23 +22,31 @@ no_view : DriveView
 no_view = record { media = None; counts = record { faults = 0; last = None; calls = 0 } }
 
 -- the drive of a volume that is mounted is there
-pub view-there : (disks : List (Option Volume)) (views : List DriveView) (volumes : List (Option DiskVolume)) (n : ℕ) (v : DiskVolume) → AreMounted disks views volumes → mounted_at volumes n ≡ Some v → (view : DriveView) × (slice_get views n ≡ Some view)
+pub view-there : (disks : List (Option Volume)) (views : List DriveView) (volumes : List (Option DiskVolume)) (n : ℕ)
+    (v : DiskVolume) → AreMounted disks views volumes → mounted_at volumes n ≡ Some v → (view : DriveView) ×
+    (slice_get views n ≡ Some view)
 view-there disks views volumes n v mounted is =
     let within : n < length views = omega (arith, mounted-below volumes n v is, mounted.as_many) in
     (_, slice_get-get_or views n no_view within)
 
-pub agrees-at : (disks : List (Option Volume)) (views : List DriveView) (volumes : List (Option DiskVolume)) (n : ℕ) (v : DiskVolume) (view : DriveView) → AreMounted disks views volumes → mounted_at volumes n ≡ Some v → slice_get views n ≡ Some view → AgreesOnDrive (kept_at disks n) view (Some v)
+pub agrees-at : (disks : List (Option Volume)) (views : List DriveView) (volumes : List (Option DiskVolume)) (n : ℕ)
+    (v : DiskVolume) (view : DriveView) → AreMounted disks views volumes → mounted_at volumes n ≡ Some v
+    → slice_get views n ≡ Some view → AgreesOnDrive (kept_at disks n) view (Some v)
 agrees-at disks views volumes n v view mounted is there =
     subst (λ (o : Option DiskVolume). AgreesOnDrive (kept_at disks n) view o) is (mounted.each n view there)
 
 -- one volume alone is mounted on a drive
-pub same-volume : (disks : List (Option Volume)) (views : List DriveView) (volumes others : List (Option DiskVolume)) (n : ℕ) (v w : DiskVolume) → AreMounted disks views volumes → AreMounted disks views others → mounted_at volumes n ≡ Some v → mounted_at others n ≡ Some w → v ≡ w
+pub same-volume : (disks : List (Option Volume)) (views : List DriveView) (volumes others : List (Option DiskVolume))
+    (n : ℕ) (v w : DiskVolume) → AreMounted disks views volumes → AreMounted disks views others → mounted_at volumes n
+    ≡ Some v → mounted_at others n ≡ Some w → v ≡ w
 same-volume disks views volumes others n v w mounted other_mounted is other_is =
     let there = view-there disks views volumes n v mounted is in
     agree-same (kept_at disks n) there.0 v w (agrees-at disks views volumes n v there.0 mounted is there.1) (agrees-at disks views others n w there.0 other_mounted other_is there.1)
 
 -- the file at a place is that of the volume that is mounted
-pub file-there : (disks : List (Option Volume)) (views : List DriveView) (place : FilePlace) (has : HasFileAt disks views place) (volumes : List (Option DiskVolume)) (v : DiskVolume) → AreMounted disks views volumes → mounted_at volumes place.drive ≡ Some v → v.files place.number ≡ Some has.file
+pub file-there : (disks : List (Option Volume)) (views : List DriveView) (place : FilePlace)
+    (has : HasFileAt disks views place) (volumes : List (Option DiskVolume)) (v : DiskVolume) → AreMounted disks views
+    volumes → mounted_at volumes place.drive ≡ Some v → v.files place.number ≡ Some has.file
 file-there disks views place has volumes v mounted is =
     ap (λ (w : DiskVolume). w.files place.number) (same-volume disks views volumes has.volumes place.drive v has.volume mounted has.mounted is has.is) ∙ has.there
 

@@ -60,12 +60,16 @@ walks-nowhere walker from disks views has = record {
 -- ---- a walk that goes on from where it has come
 
 -- it has come to a directory, from where it goes on along the names that stand from an address on
-pub record IsWalkedTo (cells : Cells) (walker : Walker) (from : FilePlace) (names : List (List ℕ)) (at : FilePlace) (next : ℕ) (disks : List (Option Volume)) (before : List DriveView) (now : List (Option Volume)) (views : List DriveView) : Type 0 where
+pub record IsWalkedTo (cells : Cells) (walker : Walker) (from : FilePlace) (names : List (List ℕ)) (at : FilePlace)
+    (next : ℕ) (disks : List (Option Volume)) (before : List DriveView) (now : List (Option Volume))
+    (views : List DriveView) : Type 0 where
   pub rest : List (List ℕ)
   pub stand : NamesStand cells next rest
   pub last : last_of names ≡ last_of rest
   pub walked : OnDisks disks before from (λ v file. walk v.files walker.user walker.execute from.number (before_last names) ≡ walk v.files walker.user walker.execute at.number (before_last rest))
-  pub reads : OnDisks disks before from (λ v file. (made : ℕ) × ReadsDrive None made from.drive before views × (made + walk_calls v.files walker.user walker.execute at.number (before_last rest) ≤ walk_calls v.files walker.user walker.execute from.number (before_last names)))
+  pub reads : OnDisks disks before from (λ v file. (made : ℕ) × ReadsDrive None made from.drive before views ×
+      (made + walk_calls v.files walker.user walker.execute at.number (before_last rest) ≤ walk_calls v.files
+      walker.user walker.execute from.number (before_last names)))
 
 -- and a file is there
 pub record IsThere (from at : FilePlace) (disks : List (Option Volume)) (before : List DriveView) (now : List (Option Volume)) (views : List DriveView) : Type 0 where
@@ -76,7 +80,9 @@ pub record IsThere (from at : FilePlace) (disks : List (Option Volume)) (before 
 pub there-first : (from : FilePlace) (disks : List (Option Volume)) (views : List DriveView) → HasFileAt disks views from → IsThere from from disks views disks views
 there-first from disks views has = record { drive_is = refl; has = has; stay = λ volumes mounted. mounted }
 
-pub walked-first : (cells : Cells) (walker : Walker) (from : FilePlace) (names : List (List ℕ)) (next : ℕ) (disks : List (Option Volume)) (views : List DriveView) → NamesStand cells next names → IsWalkedTo cells walker from names from next disks views disks views
+pub walked-first : (cells : Cells) (walker : Walker) (from : FilePlace) (names : List (List ℕ)) (next : ℕ)
+    (disks : List (Option Volume)) (views : List DriveView) → NamesStand cells next names → IsWalkedTo cells walker
+    from names from next disks views disks views
 walked-first cells walker from names next disks views stand = record {
   rest = names;
   stand = stand;
@@ -87,7 +93,8 @@ walked-first cells walker from names next disks views stand = record {
       (0, reads-none from.drive views at.0 at.1, omega arith);
 }
 
-module _ (walker : Walker) (from at : FilePlace) (disks : List (Option Volume)) (before : List DriveView) (now : List (Option Volume)) (views : List DriveView) (so_far : IsThere from at disks before now views) where
+module _ (walker : Walker) (from at : FilePlace) (disks : List (Option Volume)) (before : List DriveView)
+    (now : List (Option Volume)) (views : List DriveView) (so_far : IsThere from at disks before now views) where
   -- the file from which it goes on, on the volume
   here : (volumes : List (Option DiskVolume)) (v : DiskVolume) → AreMounted disks before volumes → mounted_at volumes from.drive ≡ Some v → v.files at.number ≡ Some so_far.has.file
   here volumes v mounted is =
@@ -95,12 +102,16 @@ module _ (walker : Walker) (from at : FilePlace) (disks : List (Option Volume)) 
 
   module _ (name : List ℕ) (result : Result FilePlace DirError) (new : List (Option Volume)) (after : List DriveView) (walks : WalksBy walker at name result now views new after) where
     -- what the step by the name comes to on the volume
-    stepped : (volumes : List (Option DiskVolume)) (v : DiskVolume) → AreMounted disks before volumes → mounted_at volumes from.drive ≡ Some v → AnswersWalk (step (v.files at.number) walker.user walker.execute name) (number_arrived result)
+    stepped : (volumes : List (Option DiskVolume)) (v : DiskVolume) → AreMounted disks before volumes
+        → mounted_at volumes from.drive ≡ Some v → AnswersWalk (step (v.files at.number) walker.user walker.execute
+        name) (number_arrived result)
     stepped volumes v mounted is =
         subst (λ (file : Option DiskFile). AnswersWalk (step file walker.user walker.execute name) (number_arrived result)) (sym (here volumes v mounted is))
         (walks.walked volumes v so_far.has.file (so_far.stay volumes mounted) (ap (mounted_at volumes) so_far.drive_is ∙ is) (here volumes v mounted is))
 
-    read : (volumes : List (Option DiskVolume)) (v : DiskVolume) → AreMounted disks before volumes → mounted_at volumes from.drive ≡ Some v → ReadsDrive (directory_fault result) (step_calls (v.files at.number) walker.user walker.execute name) from.drive views after
+    read : (volumes : List (Option DiskVolume)) (v : DiskVolume) → AreMounted disks before volumes
+        → mounted_at volumes from.drive ≡ Some v → ReadsDrive (directory_fault result) (step_calls (v.files at.number)
+        walker.user walker.execute name) from.drive views after
     read volumes v mounted is =
         subst (λ (drive : ℕ). ReadsDrive (directory_fault result) (step_calls (v.files at.number) walker.user walker.execute name) drive views after) so_far.drive_is
         (subst (λ (file : Option DiskFile). ReadsDrive (directory_fault result) (step_calls file walker.user walker.execute name) at.drive views after) (sym (here volumes v mounted is))
@@ -115,52 +126,79 @@ module _ (walker : Walker) (from at : FilePlace) (disks : List (Option Volume)) 
         record { drive_is = on.drive_is ∙ so_far.drive_is; has = on.file; stay = stay }
 
     -- the name is not the last one
-    module _ (cells : Cells) (names : List (List ℕ)) (next : ℕ) (walked_to : IsWalkedTo cells walker from names at next disks before now views) (rest : List (List ℕ)) (later : ℕ) (are : walked_to.rest ≡ name ∷ rest) (stand : NamesStand cells later rest) where
+    module _ (cells : Cells) (names : List (List ℕ)) (next : ℕ) (walked_to : IsWalkedTo cells walker from names at
+        next disks before now views) (rest : List (List ℕ)) (later : ℕ) (are : walked_to.rest ≡ name ∷ rest)
+        (stand : NamesStand cells later rest) where
       behind : before_last walked_to.rest ≡ name ∷ before_last rest
       behind = ap before_last are ∙ before-first name rest (some-stand cells later rest stand)
 
-      module _ (volumes : List (Option DiskVolume)) (v : DiskVolume) (file : DiskFile) (mounted : AreMounted disks before volumes) (is : mounted_at volumes from.drive ≡ Some v) (there : v.files from.number ≡ Some file) where
-        whole : walk v.files walker.user walker.execute from.number (before_last names) ≡ go_on (step (v.files at.number) walker.user walker.execute name) (λ n. walk v.files walker.user walker.execute n (before_last rest))
-        whole = walked_to.walked volumes v file mounted is there ∙ ap (walk v.files walker.user walker.execute at.number) behind
+      module _ (volumes : List (Option DiskVolume)) (v : DiskVolume) (file : DiskFile) (mounted : AreMounted disks
+          before volumes) (is : mounted_at volumes from.drive ≡ Some v) (there : v.files from.number ≡ Some file)
+        where
+          whole : walk v.files walker.user walker.execute from.number (before_last names) ≡ go_on
+              (step (v.files at.number) walker.user walker.execute name) (λ n. walk v.files walker.user walker.execute n
+              (before_last rest))
+          whole = walked_to.walked volumes v file mounted is there ∙ ap (walk v.files walker.user walker.execute at.number) behind
 
-        calls : walk_calls v.files walker.user walker.execute at.number (before_last walked_to.rest) ≡ step_calls (v.files at.number) walker.user walker.execute name + calls_on (step (v.files at.number) walker.user walker.execute name) (λ n. walk_calls v.files walker.user walker.execute n (before_last rest))
-        calls = ap (walk_calls v.files walker.user walker.execute at.number) behind
+          calls : walk_calls v.files walker.user walker.execute at.number (before_last walked_to.rest) ≡ step_calls
+              (v.files at.number) walker.user walker.execute name + calls_on (step (v.files at.number) walker.user
+              walker.execute name) (λ n. walk_calls v.files walker.user walker.execute n (before_last rest))
+          calls = ap (walk_calls v.files walker.user walker.execute at.number) behind
 
-        stopped : (error : DirError) → result ≡ Err error → AnswersWalk (walk v.files walker.user walker.execute from.number (before_last names)) (Err error)
-        stopped error failed =
-            let ends : AnswersWalk (step (v.files at.number) walker.user walker.execute name) (Err error) =
-            subst (λ (r : Result FilePlace DirError). AnswersWalk (step (v.files at.number) walker.user walker.execute name) (number_arrived r)) failed (stepped volumes v mounted is) in
-            subst (λ (end : WalkEnd). AnswersWalk end (Err error)) (sym whole)
-            (stops (step (v.files at.number) walker.user walker.execute name) (λ n. walk v.files walker.user walker.execute n (before_last rest)) error ends)
+          stopped : (error : DirError) → result ≡ Err error → AnswersWalk (walk v.files walker.user walker.execute from.number (before_last names)) (Err error)
+          stopped error failed =
+              let ends : AnswersWalk (step (v.files at.number) walker.user walker.execute name) (Err error) =
+              subst (λ (r : Result FilePlace DirError). AnswersWalk (step (v.files at.number) walker.user walker.execute name) (number_arrived r)) failed (stepped volumes v mounted is) in
+              subst (λ (end : WalkEnd). AnswersWalk end (Err error)) (sym whole)
+              (stops (step (v.files at.number) walker.user walker.execute name) (λ n. walk v.files walker.user walker.execute n (before_last rest)) error ends)
 
-        stopped-read : (error : DirError) → result ≡ Err error → ReadsDrive (directory_fault {A = FilePlace} (Err error)) (walk_calls v.files walker.user walker.execute from.number (before_last names)) from.drive before after
-        stopped-read error failed =
-            let so : (made : ℕ) × ReadsDrive None made from.drive before views × (made + walk_calls v.files walker.user walker.execute at.number (before_last walked_to.rest) ≤ walk_calls v.files walker.user walker.execute from.number (before_last names)) = walked_to.reads volumes v file mounted is there in
-            let few = so.2 in
-            let by_name = calls in
-            let enough : so.0 + step_calls (v.files at.number) walker.user walker.execute name ≤ walk_calls v.files walker.user walker.execute from.number (before_last names) = omega (arith, few, by_name) in
-            reads-most (directory_fault {A = FilePlace} (Err error)) (so.0 + step_calls (v.files at.number) walker.user walker.execute name) (walk_calls v.files walker.user walker.execute from.number (before_last names)) from.drive before after enough
-            (reads-then (directory_fault {A = FilePlace} (Err error)) so.0 (step_calls (v.files at.number) walker.user walker.execute name) from.drive before views after so.1
-            (subst (λ (r : Result FilePlace DirError). ReadsDrive (directory_fault r) (step_calls (v.files at.number) walker.user walker.execute name) from.drive views after) failed (read volumes v mounted is)))
+          stopped-read : (error : DirError) → result ≡ Err error
+              → ReadsDrive (directory_fault {A = FilePlace} (Err error)) (walk_calls v.files walker.user walker.execute
+              from.number (before_last names)) from.drive before after
+          stopped-read error failed =
+              let so : (made : ℕ) × ReadsDrive None made from.drive before views ×
+              (made + walk_calls v.files walker.user walker.execute at.number (before_last walked_to.rest) ≤
+              walk_calls v.files walker.user walker.execute from.number (before_last names)) = walked_to.reads
+              volumes v file mounted is there in
+              let few = so.2 in
+              let by_name = calls in
+              let enough : so.0 + step_calls (v.files at.number) walker.user walker.execute name ≤ walk_calls v.files
+              walker.user walker.execute from.number (before_last names) = omega (arith, few, by_name) in
+              reads-most (directory_fault {A = FilePlace} (Err error)) (so.0 + step_calls (v.files at.number)
+              walker.user walker.execute name) (walk_calls v.files walker.user walker.execute from.number
+              (before_last names)) from.drive before after enough
+              (reads-then (directory_fault {A = FilePlace} (Err error)) so.0 (step_calls (v.files at.number) walker.user walker.execute name) from.drive before views after so.1
+              (subst (λ (r : Result FilePlace DirError). ReadsDrive (directory_fault r) (step_calls (v.files at.number)
+              walker.user walker.execute name) from.drive views after) failed (read volumes v mounted is)))
 
-        arrived-at : (place : FilePlace) → result ≡ Ok place → step (v.files at.number) walker.user walker.execute name ≡ arrives place.number
-        arrived-at place arrived =
-            subst (λ (r : Result FilePlace DirError). AnswersWalk (step (v.files at.number) walker.user walker.execute name) (number_arrived r)) arrived (stepped volumes v mounted is)
+          arrived-at : (place : FilePlace) → result ≡ Ok place → step (v.files at.number) walker.user walker.execute name ≡ arrives place.number
+          arrived-at place arrived =
+              subst (λ (r : Result FilePlace DirError). AnswersWalk (step (v.files at.number) walker.user walker.execute name) (number_arrived r)) arrived (stepped volumes v mounted is)
 
-        more-walked : (place : FilePlace) → result ≡ Ok place → walk v.files walker.user walker.execute from.number (before_last names) ≡ walk v.files walker.user walker.execute place.number (before_last rest)
-        more-walked place arrived =
-            whole ∙ ap (λ (end : WalkEnd). go_on end (λ n. walk v.files walker.user walker.execute n (before_last rest))) (arrived-at place arrived)
+          more-walked : (place : FilePlace) → result ≡ Ok place → walk v.files walker.user walker.execute from.number
+              (before_last names) ≡ walk v.files walker.user walker.execute place.number (before_last rest)
+          more-walked place arrived =
+              whole ∙ ap (λ (end : WalkEnd). go_on end (λ n. walk v.files walker.user walker.execute n (before_last rest))) (arrived-at place arrived)
 
-        more-read : (place : FilePlace) → result ≡ Ok place → (made : ℕ) × ReadsDrive None made from.drive before after × (made + walk_calls v.files walker.user walker.execute place.number (before_last rest) ≤ walk_calls v.files walker.user walker.execute from.number (before_last names))
-        more-read place arrived =
-            let so : (made : ℕ) × ReadsDrive None made from.drive before views × (made + walk_calls v.files walker.user walker.execute at.number (before_last walked_to.rest) ≤ walk_calls v.files walker.user walker.execute from.number (before_last names)) = walked_to.reads volumes v file mounted is there in
-            let few = so.2 in
-            let by_name = calls ∙ ap (λ (end : WalkEnd). step_calls (v.files at.number) walker.user walker.execute name + calls_on end (λ n. walk_calls v.files walker.user walker.execute n (before_last rest))) (arrived-at place arrived) in (
-              so.0 + step_calls (v.files at.number) walker.user walker.execute name,
-              reads-then None so.0 (step_calls (v.files at.number) walker.user walker.execute name) from.drive before views after so.1
-                  (subst (λ (r : Result FilePlace DirError). ReadsDrive (directory_fault r) (step_calls (v.files at.number) walker.user walker.execute name) from.drive views after) arrived (read volumes v mounted is)),
-              omega (arith, few, by_name),
-            )
+          more-read : (place : FilePlace) → result ≡ Ok place → (made : ℕ) × ReadsDrive None made from.drive before
+              after × (made + walk_calls v.files walker.user walker.execute place.number (before_last rest) ≤ walk_calls
+              v.files walker.user walker.execute from.number (before_last names))
+          more-read place arrived =
+              let so : (made : ℕ) × ReadsDrive None made from.drive before views ×
+              (made + walk_calls v.files walker.user walker.execute at.number (before_last walked_to.rest) ≤
+              walk_calls v.files walker.user walker.execute from.number (before_last names)) = walked_to.reads
+              volumes v file mounted is there in
+              let few = so.2 in
+              let by_name = calls ∙ ap (λ (end : WalkEnd). step_calls (v.files at.number) walker.user walker.execute
+              name + calls_on end (λ n. walk_calls v.files walker.user walker.execute n (before_last rest)))
+              (arrived-at place arrived) in (
+                so.0 + step_calls (v.files at.number) walker.user walker.execute name,
+                reads-then None so.0 (step_calls (v.files at.number) walker.user walker.execute name) from.drive before views after so.1
+                    (subst (λ (r : Result FilePlace DirError). ReadsDrive (directory_fault r)
+                    (step_calls (v.files at.number) walker.user walker.execute name) from.drive views after) arrived
+                    (read volumes v mounted is)),
+                omega (arith, few, by_name),
+              )
 
       pub stops-there : (error : DirError) → result ≡ Err error → Walks walker from (before_last names) (Err error) disks before new after
       stops-there error failed = record {
@@ -183,22 +221,32 @@ module _ (walker : Walker) (from at : FilePlace) (disks : List (Option Volume)) 
 
     -- it is the last name of all
     module _ (names : List (List ℕ)) (last : last_of names ≡ Some name) (walks_before : Walks walker from (before_last names) (Ok at) disks before now views) where
-      module _ (volumes : List (Option DiskVolume)) (v : DiskVolume) (file : DiskFile) (mounted : AreMounted disks before volumes) (is : mounted_at volumes from.drive ≡ Some v) (there : v.files from.number ≡ Some file) where
-        comes-here : walk v.files walker.user walker.execute from.number (before_last names) ≡ arrives at.number
-        comes-here = walks_before.walked volumes v file mounted is there
+      module _ (volumes : List (Option DiskVolume)) (v : DiskVolume) (file : DiskFile) (mounted : AreMounted disks
+          before volumes) (is : mounted_at volumes from.drive ≡ Some v) (there : v.files from.number ≡ Some file)
+        where
+          comes-here : walk v.files walker.user walker.execute from.number (before_last names) ≡ arrives at.number
+          comes-here = walks_before.walked volumes v file mounted is there
 
-        all-walked : AnswersWalk (walk v.files walker.user walker.execute from.number names) (number_arrived result)
-        all-walked =
-            subst (λ (end : WalkEnd). AnswersWalk end (number_arrived result)) (sym (walk-last v.files walker.user walker.execute names from.number name last))
-            (goes-on (walk v.files walker.user walker.execute from.number (before_last names)) (λ n. step (v.files n) walker.user walker.execute name) at.number (number_arrived result) comes-here (stepped volumes v mounted is))
+          all-walked : AnswersWalk (walk v.files walker.user walker.execute from.number names) (number_arrived result)
+          all-walked =
+              subst (λ (end : WalkEnd). AnswersWalk end (number_arrived result)) (sym (walk-last v.files walker.user walker.execute names from.number name last))
+              (goes-on (walk v.files walker.user walker.execute from.number (before_last names))
+              (λ n. step (v.files n) walker.user walker.execute name) at.number (number_arrived result) comes-here
+              (stepped volumes v mounted is))
 
-        all-read : ReadsDrive (directory_fault result) (walk_calls v.files walker.user walker.execute from.number names) from.drive before after
-        all-read =
-            let most : walk_calls v.files walker.user walker.execute from.number names ≡ walk_calls v.files walker.user walker.execute from.number (before_last names) + step_calls (v.files at.number) walker.user walker.execute name =
-            calls-last v.files walker.user walker.execute names from.number name last
-            ∙ ap (λ (end : WalkEnd). walk_calls v.files walker.user walker.execute from.number (before_last names) + calls_on end (λ n. step_calls (v.files n) walker.user walker.execute name)) comes-here in
-            subst (λ (most : ℕ). ReadsDrive (directory_fault result) most from.drive before after) (sym most)
-            (reads-then (directory_fault result) (walk_calls v.files walker.user walker.execute from.number (before_last names)) (step_calls (v.files at.number) walker.user walker.execute name) from.drive before views after (walks_before.drive.drive volumes v file mounted is there) (read volumes v mounted is))
+          all-read : ReadsDrive (directory_fault result) (walk_calls v.files walker.user walker.execute from.number names) from.drive before after
+          all-read =
+              let most : walk_calls v.files walker.user walker.execute from.number names ≡ walk_calls v.files
+              walker.user walker.execute from.number (before_last names) + step_calls (v.files at.number)
+              walker.user walker.execute name =
+              calls-last v.files walker.user walker.execute names from.number name last
+              ∙ ap (λ (end : WalkEnd). walk_calls v.files walker.user walker.execute from.number (before_last names) +
+              calls_on end (λ n. step_calls (v.files n) walker.user walker.execute name)) comes-here in
+              subst (λ (most : ℕ). ReadsDrive (directory_fault result) most from.drive before after) (sym most)
+              (reads-then (directory_fault result) (walk_calls v.files walker.user walker.execute from.number
+              (before_last names)) (step_calls (v.files at.number) walker.user walker.execute name) from.drive
+              before views after (walks_before.drive.drive volumes v file mounted is there)
+              (read volumes v mounted is))
 
       pub walks-all : Walks walker from names result disks before new after
       walks-all = record {
@@ -208,7 +256,9 @@ module _ (walker : Walker) (from at : FilePlace) (disks : List (Option Volume)) 
       }
 
   -- the last name stands here
-  pub ends-there : (cells : Cells) (names : List (List ℕ)) (next : ℕ) (walked_to : IsWalkedTo cells walker from names at next disks before now views) (name : List ℕ) → walked_to.rest ≡ name ∷ [] → ReachesLast cells walker from names (Ok (record { directory = at; at = next })) disks before now views
+  pub ends-there : (cells : Cells) (names : List (List ℕ)) (next : ℕ) (walked_to : IsWalkedTo cells walker from names
+      at next disks before now views) (name : List ℕ) → walked_to.rest ≡ name ∷ [] → ReachesLast cells walker from
+      names (Ok (record { directory = at; at = next })) disks before now views
   ends-there cells names next walked_to name one = record {
     walks = record {
       walked = λ volumes v file mounted is there.
@@ -216,7 +266,10 @@ module _ (walker : Walker) (from at : FilePlace) (disks : List (Option Volume)) 
       file = record { drive_is = so_far.drive_is; file = so_far.has };
       drive = record {
         drive = λ volumes v file mounted is there.
-            let so : (made : ℕ) × ReadsDrive None made from.drive before views × (made + walk_calls v.files walker.user walker.execute at.number (before_last walked_to.rest) ≤ walk_calls v.files walker.user walker.execute from.number (before_last names)) = walked_to.reads volumes v file mounted is there in
+            let so : (made : ℕ) × ReadsDrive None made from.drive before views ×
+            (made + walk_calls v.files walker.user walker.execute at.number (before_last walked_to.rest) ≤
+            walk_calls v.files walker.user walker.execute from.number (before_last names)) = walked_to.reads
+            volumes v file mounted is there in
             let few = so.2 in
             reads-most None so.0 (walk_calls v.files walker.user walker.execute from.number (before_last names)) from.drive before views (omega (arith, few)) so.1;
         mounted = so_far.stay;
@@ -232,7 +285,9 @@ module _ (walker : Walker) (from at : FilePlace) (disks : List (Option Volume)) 
 -- ---- the whole walk
 
 -- the directory that was reached is there
-pub there-before : (walker : Walker) (from at : FilePlace) (names : List (List ℕ)) (disks : List (Option Volume)) (before : List DriveView) (now : List (Option Volume)) (views : List DriveView) → Walks walker from names (Ok at) disks before now views → IsThere from at disks before now views
+pub there-before : (walker : Walker) (from at : FilePlace) (names : List (List ℕ)) (disks : List (Option Volume))
+    (before : List DriveView) (now : List (Option Volume)) (views : List DriveView) → Walks walker from names (Ok at)
+    disks before now views → IsThere from at disks before now views
 there-before walker from at names disks before now views walks = record {
   drive_is = walks.file.drive_is;
   has = walks.file.file;
@@ -243,18 +298,25 @@ some-last : (names : List (List ℕ)) → 1 ≤ length names → (last : List �
 some-last names some = (_, slice_get-get_or names (length names - 1) [] (omega arith))
 
 -- it stopped before the last name
-pub stops-before : (walker : Walker) (from : FilePlace) (names : List (List ℕ)) (error : DirError) (disks : List (Option Volume)) (before : List DriveView) (new : List (Option Volume)) (after : List DriveView) → 1 ≤ length names → Walks walker from (before_last names) (Err error) disks before new after → Walks walker from names (Err error) disks before new after
+pub stops-before : (walker : Walker) (from : FilePlace) (names : List (List ℕ)) (error : DirError)
+    (disks : List (Option Volume)) (before : List DriveView) (new : List (Option Volume)) (after : List DriveView)
+    → 1 ≤ length names → Walks walker from (before_last names) (Err error) disks before new after → Walks walker from
+    names (Err error) disks before new after
 stops-before walker from names error disks before new after some walks =
     let last : (last : List ℕ) × (last_of names ≡ Some last) = some-last names some in
     record {
       walked = λ volumes v file mounted is there.
           subst (λ (end : WalkEnd). AnswersWalk end (Err error)) (sym (walk-last v.files walker.user walker.execute names from.number last.0 last.1))
-          (stops (walk v.files walker.user walker.execute from.number (before_last names)) (λ n. step (v.files n) walker.user walker.execute last.0) error (walks.walked volumes v file mounted is there));
+          (stops (walk v.files walker.user walker.execute from.number (before_last names))
+          (λ n. step (v.files n) walker.user walker.execute last.0) error (walks.walked volumes v file mounted is
+          there));
       file = tt;
       drive = record {
         drive = λ volumes v file mounted is there.
             let all = calls-last v.files walker.user walker.execute names from.number last.0 last.1 in
-            reads-most (directory_fault {A = FilePlace} (Err error)) (walk_calls v.files walker.user walker.execute from.number (before_last names)) (walk_calls v.files walker.user walker.execute from.number names) from.drive before after (omega (arith, all))
+            reads-most (directory_fault {A = FilePlace} (Err error)) (walk_calls v.files walker.user walker.execute
+            from.number (before_last names)) (walk_calls v.files walker.user walker.execute from.number names)
+            from.drive before after (omega (arith, all))
             (walks.drive.drive volumes v file mounted is there);
         mounted = walks.drive.mounted;
       };
@@ -263,19 +325,27 @@ stops-before walker from names error disks before new after some walks =
 -- ---- the steps of the loop
 
 -- what a step comes to, of the same bytes
-pub steps-of : (now old : Cells) (walker : Walker) (at : FilePlace) (next : ℕ) (result found : Result Stepped DirError) (disks : List (Option Volume)) (before : List DriveView) (new : List (Option Volume)) (after : List DriveView) → now ≡ old → result ≡ found → ((names : List (List ℕ)) → NamesStand now next names → Steps now walker at names result disks before new after) → (names : List (List ℕ)) → NamesStand old next names → Steps old walker at names found disks before new after
+pub steps-of : (now old : Cells) (walker : Walker) (at : FilePlace) (next : ℕ) (result found : Result Stepped
+    DirError) (disks : List (Option Volume)) (before : List DriveView) (new : List (Option Volume))
+    (after : List DriveView) → now ≡ old → result ≡ found → ((names : List (List ℕ)) → NamesStand now next names
+    → Steps now walker at names result disks before new after) → (names : List (List ℕ)) → NamesStand old next names
+    → Steps old walker at names found disks before new after
 steps-of now old walker at next result found disks before new after same is steps =
     subst (λ (found : Result Stepped DirError). (names : List (List ℕ)) → NamesStand old next names → Steps old walker at names found disks before new after) is
     (subst (λ (cells : Cells). (names : List (List ℕ)) → NamesStand cells next names → Steps cells walker at names result disks before new after) same steps)
 
-module _ (cells : Cells) (walker : Walker) (from at : FilePlace) (names : List (List ℕ)) (next : ℕ) (disks : List (Option Volume)) (before : List DriveView) (now : List (Option Volume)) (views : List DriveView) (new : List (Option Volume)) (after : List DriveView) (so_far : IsThere from at disks before now views) (walked_to : IsWalkedTo cells walker from names at next disks before now views) where
+module _ (cells : Cells) (walker : Walker) (from at : FilePlace) (names : List (List ℕ)) (next : ℕ)
+    (disks : List (Option Volume)) (before : List DriveView) (now : List (Option Volume)) (views : List DriveView)
+    (new : List (Option Volume)) (after : List DriveView) (so_far : IsThere from at disks before now views)
+    (walked_to : IsWalkedTo cells walker from names at next disks before now views) where
   pub walk-stopped : (error : DirError) → Steps cells walker at walked_to.rest (Err error) now views new after → ReachesLast cells walker from names (Err error) disks before new after
   walk-stopped error (later, step) = record {
     walks = stops-there walker from at disks before now views so_far step.name (Err error) new after step.walks cells names next walked_to step.rest later step.are step.stand error refl;
     last = tt;
   }
 
-  pub walk-onward : (place : FilePlace) (later : ℕ) → Steps cells walker at walked_to.rest (Ok (Onward place later)) now views new after → IsWalkedTo cells walker from names place later disks before new after
+  pub walk-onward : (place : FilePlace) (later : ℕ) → Steps cells walker at walked_to.rest (Ok (Onward place later))
+      now views new after → IsWalkedTo cells walker from names place later disks before new after
   walk-onward place later step =
       walked-more walker from at disks before now views so_far step.name (Ok place) new after step.walks cells names next walked_to step.rest later step.are step.stand place refl
 
@@ -300,7 +370,9 @@ only-name cells names named first none =
 pub first-of : (cells : Cells) (names : List (List ℕ)) (result : Result Named NameFault) (named : Named) → result ≡ Ok named → IsFirstRead cells names result → IsFirstOf cells names named
 first-of cells names result named is first = subst (IsFirstRead cells names) is first
 
-pub steps-last : (cells : Cells) (names : List (List ℕ)) (named : Named) (disks : List (Option Volume)) (views : List DriveView) → IsFirstOf cells names named → named.next ≡ None → StepsToLast names disks views disks views
+pub steps-last : (cells : Cells) (names : List (List ℕ)) (named : Named) (disks : List (Option Volume))
+    (views : List DriveView) → IsFirstOf cells names named → named.next ≡ None → StepsToLast names disks views disks
+    views
 steps-last cells names named disks views first none = record {
   name = named.name;
   one = only-name cells names named first none;
@@ -308,11 +380,18 @@ steps-last cells names named disks views first none = record {
   drives_kept = refl;
 }
 
-steps-by : (cells : Cells) (walker : Walker) (at : FilePlace) (names : List (List ℕ)) (next : ℕ) (answer : Result FilePlace DirError) (disks : List (Option Volume)) (before : List DriveView) (new : List (Option Volume)) (after : List DriveView) → StepsBy cells walker at names next answer disks before new after → Steps cells walker at names (stepped_to next answer) disks before new after
+steps-by : (cells : Cells) (walker : Walker) (at : FilePlace) (names : List (List ℕ)) (next : ℕ)
+    (answer : Result FilePlace DirError) (disks : List (Option Volume)) (before : List DriveView)
+    (new : List (Option Volume)) (after : List DriveView) → StepsBy cells walker at names next answer disks before new
+    after → Steps cells walker at names (stepped_to next answer) disks before new after
 steps-by cells walker at names next (Ok place) disks before new after step = step
 steps-by cells walker at names next (Err error) disks before new after step = (next, step)
 
-pub steps-onward : (cells : Cells) (walker : Walker) (at : FilePlace) (names : List (List ℕ)) (named : Named) (next : ℕ) (answer : Result FilePlace DirError) (result : Result Stepped DirError) (disks : List (Option Volume)) (before : List DriveView) (new : List (Option Volume)) (after : List DriveView) → IsFirstOf cells names named → named.next ≡ Some next → result ≡ stepped_to next answer → WalksBy walker at named.name answer disks before new after → Steps cells walker at names result disks before new after
+pub steps-onward : (cells : Cells) (walker : Walker) (at : FilePlace) (names : List (List ℕ)) (named : Named)
+    (next : ℕ) (answer : Result FilePlace DirError) (result : Result Stepped DirError) (disks : List (Option Volume))
+    (before : List DriveView) (new : List (Option Volume)) (after : List DriveView) → IsFirstOf cells names named
+    → named.next ≡ Some next → result ≡ stepped_to next answer → WalksBy walker at named.name answer disks before new
+    after → Steps cells walker at names result disks before new after
 steps-onward cells walker at names named next answer result disks before new after first some is walks =
     subst (λ (result : Result Stepped DirError). Steps cells walker at names result disks before new after) (sym is)
     (steps-by cells walker at names next answer disks before new after (record {
@@ -327,7 +406,9 @@ up-by : (at next : ℕ) (answer : Result FilePlace DirError) → (at < next) × 
 up-by at next (Ok place) up = up
 up-by at next (Err error) up = tt
 
-pub goes-up : (at next : ℕ) (answer : Result FilePlace DirError) (result : Result Stepped DirError) (read : Result Named NameFault) (named : Named) → read ≡ Ok named → NextIsBehind at read → named.next ≡ Some next → result ≡ stepped_to next answer → IfOk result (GoesUp at)
+pub goes-up : (at next : ℕ) (answer : Result FilePlace DirError) (result : Result Stepped DirError)
+    (read : Result Named NameFault) (named : Named) → read ≡ Ok named → NextIsBehind at read → named.next ≡ Some next
+    → result ≡ stepped_to next answer → IfOk result (GoesUp at)
 goes-up at next answer result read named is behind some result_is =
     let up : IfSome named.next (λ next. (at < next) × (next < 65536)) = subst (NextIsBehind at) is behind in
     subst (λ (result : Result Stepped DirError). IfOk result (GoesUp at)) (sym result_is)
@@ -336,7 +417,9 @@ goes-up at next answer result read named is behind some result_is =
 -- ---- the last name
 
 -- it was read
-pub last-read : (cells : Cells) (names : List (List ℕ)) (at : ℕ) (named : Named) → LastStands cells names at → ((names : List (List ℕ)) → NamesStand cells at names → IsFirstOf cells names named) → last_of names ≡ Some named.name
+pub last-read : (cells : Cells) (names : List (List ℕ)) (at : ℕ) (named : Named) → LastStands cells names at
+    → ((names : List (List ℕ)) → NamesStand cells at names → IsFirstOf cells names named) → last_of names ≡ Some
+    named.name
 last-read cells names at named it first =
     let only : it.name ∷ [] ≡ named.name ∷ (first (it.name ∷ []) it.stand).rest = (first (it.name ∷ []) it.stand).are in
     let same : it.name ≡ named.name = cc in
@@ -344,7 +427,9 @@ last-read cells names at named it first =
 
 -- ---- the whole walk, by what the walk to its last name answered
 
-pub walks-none : (cells : Cells) (walker : Walker) (from : FilePlace) (names : List (List ℕ)) (first : Option ℕ) (disks : List (Option Volume)) (views : List DriveView) → first ≡ None → NamesFrom cells first names → HasFileAt disks views from → Walks walker from names (Ok from) disks views disks views
+pub walks-none : (cells : Cells) (walker : Walker) (from : FilePlace) (names : List (List ℕ)) (first : Option ℕ)
+    (disks : List (Option Volume)) (views : List DriveView) → first ≡ None → NamesFrom cells first names
+    → HasFileAt disks views from → Walks walker from names (Ok from) disks views disks views
 walks-none cells walker from names first disks views none stand has =
     let no : names ≡ [] = subst (λ (first : Option ℕ). NamesFrom cells first names) none stand in
     subst (λ (names : List (List ℕ)). Walks walker from names (Ok from) disks views disks views) (sym no) (walks-nowhere walker from disks views has)
@@ -352,6 +437,12 @@ walks-none cells walker from names first disks views none stand has =
 pub from-some : (cells : Cells) (names : List (List ℕ)) (first : Option ℕ) (at : ℕ) → first ≡ Some at → NamesFrom cells first names → NamesStand cells at names
 from-some cells names first at some stand = subst (λ (first : Option ℕ). NamesFrom cells first names) some stand
 
-pub walks-last : (walker : Walker) (from : FilePlace) (names : List (List ℕ)) (last : LastName) (result : Result FilePlace DirError) (disks : List (Option Volume)) (before : List DriveView) (now : List (Option Volume)) (views : List DriveView) (new : List (Option Volume)) (after : List DriveView) → WalksToLast walker from names (Ok last) disks before now views → WalksBy walker last.directory last.name result now views new after → Walks walker from names result disks before new after
+pub walks-last : (walker : Walker) (from : FilePlace) (names : List (List ℕ)) (last : LastName)
+    (result : Result FilePlace DirError) (disks : List (Option Volume)) (before : List DriveView)
+    (now : List (Option Volume)) (views : List DriveView) (new : List (Option Volume)) (after : List DriveView)
+    → WalksToLast walker from names (Ok last) disks before now views → WalksBy walker last.directory last.name result
+    now views new after → Walks walker from names result disks before new after
 walks-last walker from names last result disks before now views new after to_last by =
-    walks-all walker from last.directory disks before now views (there-before walker from last.directory (before_last names) disks before now views to_last.walks) last.name result new after by names to_last.name to_last.walks
+    walks-all walker from last.directory disks before now views (there-before walker from last.directory
+    (before_last names) disks before now views to_last.walks) last.name result new after by names to_last.name
+    to_last.walks

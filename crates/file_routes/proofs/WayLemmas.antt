@@ -38,7 +38,9 @@ on-drive : (n : ℕ) (volume : Option DiskVolume) (first : Option ℕ) (names : 
 on-drive n None first names = refl
 on-drive n (Some v) first names = refl
 
-pub drive-way : (n : ℕ) (volume : Option DiskVolume) (root : Option FilePlace) (first : Option ℕ) (names : List (List ℕ)) (result : Result Way ℕ) → result ≡ along_from root first E_MNF → root ≡ option_map (root_of n) volume → way_to result names ≡ way_on_drive n names volume
+pub drive-way : (n : ℕ) (volume : Option DiskVolume) (root : Option FilePlace) (first : Option ℕ)
+    (names : List (List ℕ)) (result : Result Way ℕ) → result ≡ along_from root first E_MNF → root ≡ option_map
+    (root_of n) volume → way_to result names ≡ way_on_drive n names volume
 drive-way n volume root first names result is root_is =
     ap (λ (result : Result Way ℕ). way_to result names) is ∙ ap (λ (root : Option FilePlace). way_to (along_from root first E_MNF) names) root_is ∙ on-drive n volume first names
 
@@ -46,7 +48,9 @@ slash-by : (slash : Bool) (names : List (List ℕ)) → way_to (if slash then Er
 slash-by true names = refl
 slash-by false names = refl
 
-pub device-way : (list : Listed) (named : PathList) (result : Result Way ℕ) → list ≡ listed named → result ≡ (if list.slash || list.has_names then Err E_BPNAM else Ok Device) → way_to result named.names ≡ to_device_of named
+pub device-way : (list : Listed) (named : PathList) (result : Result Way ℕ) → list ≡ listed named
+    → result ≡ (if list.slash || list.has_names then Err E_BPNAM else Ok Device) → way_to result named.names ≡
+    to_device_of named
 device-way list named result is result_is =
     ap (λ (result : Result Way ℕ). way_to result named.names) result_is
     ∙ ap (λ (list : Listed). way_to (if list.slash || list.has_names then Err E_BPNAM else Ok Device) named.names) is
@@ -54,11 +58,14 @@ device-way list named result is result_is =
 
 -- ---- what it has
 
-pub along-names : (cells : Cells) (start : Option FilePlace) (first : Option ℕ) (number : ℕ) (names : List (List ℕ)) → NamesFrom cells first names → IfOk (along_from start first number) (λ way. NamesOn cells way names)
+pub along-names : (cells : Cells) (start : Option FilePlace) (first : Option ℕ) (number : ℕ) (names : List (List ℕ))
+    → NamesFrom cells first names → IfOk (along_from start first number) (λ way. NamesOn cells way names)
 along-names cells None first number names stand = tt
 along-names cells (Some from) first number names stand = stand
 
-pub along-starts : (disks : List (Option Volume)) (views : List DriveView) (start : Option FilePlace) (first : Option ℕ) (number : ℕ) → IfSome start (HasFileAt disks views) → IfOk (along_from start first number) (StartsOn disks views)
+pub along-starts : (disks : List (Option Volume)) (views : List DriveView) (start : Option FilePlace)
+    (first : Option ℕ) (number : ℕ) → IfSome start (HasFileAt disks views) → IfOk (along_from start first number)
+    (StartsOn disks views)
 along-starts disks views None first number has = tt
 along-starts disks views (Some from) first number has = has
 
@@ -94,7 +101,8 @@ module _ (asker : Asker) (files : Files) (drives terms : ℕ) (execute : Bool) (
       ap (λ (n : ℕ). not (not (length named.names == 0)) && option_map_or (λ device. is_drive (device_of n terms device)) named.device false) (sym as_many)
       ∙ ap (λ (b : Bool). b && option_map_or (λ device. is_drive (device_of (length files.drives) terms device)) named.device false) (not-not (length named.names == 0))
 
-  nothing-same : (made : Bool) → makes_nothing New drives terms (listed named) ≡ made → way_to_new asker files terms execute named ≡ (if made then nowhere E_BPNAM else way_of asker files terms execute named)
+  nothing-same : (made : Bool) → makes_nothing New drives terms (listed named) ≡ made → way_to_new asker files terms
+      execute named ≡ (if made then nowhere E_BPNAM else way_of asker files terms execute named)
   nothing-same made is =
       ap (λ (made : Bool). if made then nowhere E_BPNAM else way_of asker files terms execute named)
       (ap (λ (root : Bool). ends_in_dots named || root) (sym root-same) ∙ is)
@@ -103,12 +111,16 @@ module _ (asker : Asker) (files : Files) (drives terms : ℕ) (execute : Bool) (
   makes-none Existing list is none = cc
   makes-none New list is none = sym (nothing-same true (ap (makes_nothing New drives terms) (sym is) ∙ none))
 
-  pub makes-some : (purpose : Purpose) (list : Listed) → list ≡ listed named → makes_nothing purpose drives terms list ≡ false → way_for purpose asker files terms execute named ≡ way_of asker files terms execute named
+  pub makes-some : (purpose : Purpose) (list : Listed) → list ≡ listed named → makes_nothing purpose drives terms list
+      ≡ false → way_for purpose asker files terms execute named ≡ way_of asker files terms execute named
   makes-some Existing list is some = refl
   makes-some New list is some = nothing-same false (ap (makes_nothing New drives terms) (sym is) ∙ some)
 
   -- a list without a device
-  pub directory-way : (list : Listed) (directory : Option FilePlace) (first : Option ℕ) (result : Result Way ℕ) → list ≡ listed named → list.device ≡ None → directory_of files asker.caller.process.0 execute ≡ directory → result ≡ along_from directory first E_PNNF → way_to result named.names ≡ way_of asker files terms execute named
+  pub directory-way : (list : Listed) (directory : Option FilePlace) (first : Option ℕ) (result : Result Way ℕ)
+      → list ≡ listed named → list.device ≡ None → directory_of files asker.caller.process.0 execute ≡ directory
+      → result ≡ along_from directory first E_PNNF → way_to result named.names ≡ way_of asker files terms execute
+      named
   directory-way list directory first result is none directory_is result_is =
       ap (λ (result : Result Way ℕ). way_to result named.names) result_is
       ∙ from-directory directory first named.names
@@ -116,7 +128,9 @@ module _ (asker : Asker) (files : Files) (drives terms : ℕ) (execute : Bool) (
       ∙ ap (way_by asker files terms execute named) (sym none ∙ ap (λ (list : Listed). list.device) is)
 
   -- a list with one
-  pub named-way : (list : Listed) (name : List ℕ) (device : Option Dev) → list ≡ listed named → list.device ≡ Some name → device ≡ device_of drives terms name → way_of_device files named device ≡ way_of asker files terms execute named
+  pub named-way : (list : Listed) (name : List ℕ) (device : Option Dev) → list ≡ listed named → list.device ≡ Some
+      name → device ≡ device_of drives terms name → way_of_device files named device ≡ way_of asker files terms
+      execute named
   named-way list name device is some device_is =
       ap (way_of_device files named) (device_is ∙ ap (λ (n : ℕ). device_of n terms name) (sym as_many))
       ∙ ap (way_by asker files terms execute named) (sym some ∙ ap (λ (list : Listed). list.device) is)
@@ -152,7 +166,9 @@ module _ (cells : Cells) (asker : Asker) (way : PathList → Rule.Way) where
       by (Along from first) = refl
       by Device = refl
 
-  pub route-read : (refusal : Option ℕ) (named : PathList) (route : Result Route ℕ) → list_of asker ≡ Ok named → IsRouteOf cells named (way named) route → RouteIs cells asker (leads asker refusal way) (unless_refused refusal route)
+  pub route-read : (refusal : Option ℕ) (named : PathList) (route : Result Route ℕ) → list_of asker ≡ Ok named
+      → IsRouteOf cells named (way named) route → RouteIs cells asker (leads asker refusal way)
+      (unless_refused refusal route)
   route-read None named (Ok route) read it = record {
     list = named;
     read = read;
@@ -174,16 +190,23 @@ pub mode-tested : {E : Type 0} (allowed : Bool) (step : Step E) → tests_mode a
 mode-tested true step = refl
 mode-tested false step = refl
 
-on-led : {E : Type 0} (on : PathList → Rule.Way → Step E) → ((list : PathList) (number : ℕ) → on list (nowhere number) ≡ refused number) → (list : PathList) (w : Rule.Way) → on list w ≡ next_step (led_by list w) (λ led. on led.list led.way)
+on-led : {E : Type 0} (on : PathList → Rule.Way → Step E) → ((list : PathList) (number : ℕ) → on list (nowhere number)
+    ≡ refused number) → (list : PathList) (w : Rule.Way) → on list w ≡ next_step (led_by list w)
+    (λ led. on led.list led.way)
 on-led on refuses list (along from names) = refl
 on-led on refuses list to_device = refl
 on-led on refuses list (nowhere number) = refuses list number
 
 -- what a call makes of its path list, which is refused where that leads nowhere
-pub leads-on : {E : Type 0} (asker : Asker) (refusal : Option ℕ) (way : PathList → Rule.Way) (on : PathList → Rule.Way → Step E) → ((list : PathList) (number : ℕ) → on list (nowhere number) ≡ refused number) → reads_list (list_of asker) (refuses_by refusal) (λ list. on list (way list)) ≡ next_step (leads asker refusal way) (λ led. on led.list led.way)
+pub leads-on : {E : Type 0} (asker : Asker) (refusal : Option ℕ) (way : PathList → Rule.Way) (on : PathList → Rule.Way
+    → Step E) → ((list : PathList) (number : ℕ) → on list (nowhere number) ≡ refused number)
+    → reads_list (list_of asker) (refuses_by refusal) (λ list. on list (way list)) ≡ next_step
+    (leads asker refusal way) (λ led. on led.list led.way)
 leads-on {E} asker refusal way on refuses = by (list_of asker) refusal
   where
-    by : (read : Result PathList NameFault) (refusal : Option ℕ) → reads_list read (refuses_by refusal) (λ list. on list (way list)) ≡ next_step (reads_list read (refuses_by refusal) (λ list. led_by list (way list))) (λ led. on led.list led.way)
+    by : (read : Result PathList NameFault) (refusal : Option ℕ) → reads_list read (refuses_by refusal)
+        (λ list. on list (way list)) ≡ next_step (reads_list read (refuses_by refusal)
+        (λ list. led_by list (way list))) (λ led. on led.list led.way)
     by (Ok list) None = on-led on refuses list (way list)
     by (Ok list) (Some number) = refl
     by (Err Unreadable) refusal = refl

@@ -64,13 +64,16 @@ represents : (slot : Option Volume) (view : DriveView) (v : DiskVolume) → Agre
 represents None view v agrees = absurd agrees
 represents (Some volume) view v agrees = agrees.on
 
-pub of-image : (disks : List (Option Volume)) (views : List DriveView) (volumes : List (Option DiskVolume)) (n : ℕ) (v : DiskVolume) → AreMounted disks views volumes → mounted_at volumes n ≡ Some v → (image : List ℕ) × Vol image v
+pub of-image : (disks : List (Option Volume)) (views : List DriveView) (volumes : List (Option DiskVolume)) (n : ℕ)
+    (v : DiskVolume) → AreMounted disks views volumes → mounted_at volumes n ≡ Some v → (image : List ℕ) × Vol image v
 of-image disks views volumes n v mounted is =
     let within = mounted-below volumes n v is in
     let many = mounted.as_many in
     let below : n < length views = omega (arith, within, many) in
     let view : DriveView = get_or views n unused_drive in
-    let on : Represents view.media v = represents (kept_at disks n) view v (subst (λ o. AgreesOnDrive (kept_at disks n) view o) is (mounted.each n view (slice_get-get_or views n unused_drive below))) in
+    let on : Represents view.media v = represents (kept_at disks n) view v
+    (subst (λ o. AgreesOnDrive (kept_at disks n) view o) is
+    (mounted.each n view (slice_get-get_or views n unused_drive below))) in
     (on.image, on.vol)
 
 -- its root is there, and is a directory
@@ -87,7 +90,9 @@ some-is None some = absurd (cc some)
 some-is (Some x) some = (x, refl)
 
 -- an entry of it names a file
-pub entry-there : (image : List ℕ) (v : DiskVolume) (root : DiskFile) (name : List ℕ) (place n : ℕ) → Vol image v → v.files (shape v).root ≡ Some root → is_directory root ≡ true → IsFoundAt root.contents name place n → (file : DiskFile) × (v.files n ≡ Some file)
+pub entry-there : (image : List ℕ) (v : DiskVolume) (root : DiskFile) (name : List ℕ) (place n : ℕ) → Vol image v
+    → v.files (shape v).root ≡ Some root → is_directory root ≡ true → IsFoundAt root.contents name place n
+    → (file : DiskFile) × (v.files n ≡ Some file)
 entry-there image v root name place n vol is directory found =
     let used = (and_parts _ _ found.has).0 in
     let some = entry_file (image_geometry image) v.files vol.sound.tree (shape v).root place root is directory (record { within = found.within; used = used }) in
@@ -126,7 +131,9 @@ module _ (disks : List (Option Volume)) (views : List DriveView) (root : FilePla
       let it = root-of at.volumes at.volume at.mounted at.is in
       record { volumes = at.volumes; mounted = at.mounted; volume = at.volume; is = at.is; file = it.file; there = it.is }
 
-  module _ (bytes : List ℕ) (kept : List (Option Volume)) (mid : List DriveView) (wanted : List ℕ) (read : ReadsFile root None (λ v file. 2 + sector_count (length file.contents)) disks views kept mid) (whole : OnDisks disks views root (λ v file. bytes ≡ file.contents)) where
+  module _ (bytes : List ℕ) (kept : List (Option Volume)) (mid : List DriveView) (wanted : List ℕ)
+      (read : ReadsFile root None (λ v file. 2 + sector_count (length file.contents)) disks views kept mid)
+      (whole : OnDisks disks views root (λ v file. bytes ≡ file.contents)) where
     -- the bytes are those of each such root
     root-bytes : (v : DiskVolume) (volumes : List (Option DiskVolume)) → AreMounted disks views volumes → mounted_at volumes root.drive ≡ Some v → (of : RootOf v) → bytes ≡ of.file.contents
     root-bytes v volumes mounted is of = whole volumes v of.file mounted is of.is
@@ -160,11 +167,15 @@ module _ (disks : List (Option Volume)) (views : List DriveView) (root : FilePla
           ∙ ap (option_and_then (directory_at entry)) (sym file.1)
           ∙ ap (option_and_then (λ (k : ℕ). option_and_then (directory_at (record { drive = root.drive; number = k })) (v.files k))) (sym names)
 
-      pub entry-answer : (result : Result (Option FilePlace) StartFault) → OnDisks kept mid entry (λ v file. IfOk result (λ found. found ≡ directory_at entry file)) → OnVolumeOf disks views root (λ v. IfOk result (λ found. found ≡ directory_in_root v root wanted))
+      pub entry-answer : (result : Result (Option FilePlace) StartFault) → OnDisks kept mid entry
+          (λ v file. IfOk result (λ found. found ≡ directory_at entry file)) → OnVolumeOf disks views root
+          (λ v. IfOk result (λ found. found ≡ directory_in_root v root wanted))
       entry-answer (Ok found) looked = entry-found found looked
       entry-answer (Err fault) looked = λ volumes v mounted is. tt
 
-      pub entry-read : (new : List (Option Volume)) (after : List DriveView) (fault : Option ℕ) → ReadsFile entry fault (λ v file. 1) kept mid new after → ReadsFile root fault (λ v file. search_calls file) disks views new after
+      pub entry-read : (new : List (Option Volume)) (after : List DriveView) (fault : Option ℕ)
+          → ReadsFile entry fault (λ v file. 1) kept mid new after → ReadsFile root fault
+          (λ v file. search_calls file) disks views new after
       entry-read new after fault looked = record {
         drive = λ volumes v file mounted is there.
             let other = entry-of volumes v mounted is in

@@ -43,12 +43,17 @@ some-volume (v ∷ volumes) (suc n) low = some-volume volumes n (omega (arith, l
 
 -- ---- one volume more
 
-set-volume : (volumes : List DiskVolume) (n k : ℕ) (v : DiskVolume) → slice_get volumes n ≡ Some v → set (map some_volume (take n volumes) ++ replicate (suc k) None) n (Some v) ≡ map some_volume (take (suc n) volumes) ++ replicate k None
+set-volume : (volumes : List DiskVolume) (n k : ℕ) (v : DiskVolume) → slice_get volumes n ≡ Some v
+    → set (map some_volume (take n volumes) ++ replicate (suc k) None) n (Some v) ≡ map some_volume
+    (take (suc n) volumes) ++ replicate k None
 set-volume [] n k v is = absurd (none-some v is)
 set-volume (u ∷ volumes) zero k v is = ap (λ (o : Option DiskVolume). o ∷ replicate k None) (sym is)
 set-volume (u ∷ volumes) (suc n) k v is = ap (λ rest. some_volume u ∷ rest) (set-volume volumes n k v is)
 
-pub volumes-next : (volumes : List DiskVolume) (n many more : ℕ) (v : DiskVolume) → slice_get volumes n ≡ Some v → more ≡ many → length volumes ≤ many → set (map some_volume (take n volumes) ++ replicate (many - length (take n volumes)) None) n (Some v) ≡ map some_volume (take (n + 1) volumes) ++ replicate (more - length (take (n + 1) volumes)) None
+pub volumes-next : (volumes : List DiskVolume) (n many more : ℕ) (v : DiskVolume) → slice_get volumes n ≡ Some v
+    → more ≡ many → length volumes ≤ many → set (map some_volume (take n volumes) ++ replicate
+    (many - length (take n volumes)) None) n (Some v) ≡ map some_volume (take (n + 1) volumes) ++ replicate
+    (more - length (take (n + 1) volumes)) None
 volumes-next volumes n many more v is same enough =
     let inside : n < length volumes = slice_get_within volumes n v is in
     let few = length-take n volumes in
@@ -76,7 +81,9 @@ mounted-none drives state views = record {
 }
 
 -- the volume to be mounted next
-pub next-held : (n drives : ℕ) (first state : FileState) (before now : List DriveView) (volumes : List DiskVolume) → n < drives → MountedTo n drives first state before now → length volumes ≡ drives → HoldVolumes volumes before → (v : DiskVolume) × DriveHolds now n v
+pub next-held : (n drives : ℕ) (first state : FileState) (before now : List DriveView) (volumes : List DiskVolume)
+    → n < drives → MountedTo n drives first state before now → length volumes ≡ drives → HoldVolumes volumes before
+    → (v : DiskVolume) × DriveHolds now n v
 next-held n drives first state before now volumes inside so_far many hold =
     let v = some-volume volumes n (omega (arith, many, inside)) in
     (v.0, holds-still before now n v.0 so_far.read.as_many (so_far.read.media n) (hold.each n v.0 v.1))
@@ -84,7 +91,9 @@ next-held n drives first state before now volumes inside so_far many hold =
 below : (n m : ℕ) (views : List DriveView) → m < n → mounts_calls n views m ≡ media_calls (media_at views m)
 below n m views low = cond-true (ltb m n) (media_calls (media_at views m)) 0 (lt-ltb m n low)
 
-module _ (n drives : ℕ) (first state new : FileState) (before now after : List DriveView) (inside : n < drives) (enough : drives ≤ length before) (so_far : MountedTo n drives first state before now) (read : ReadUpTo (only_drive n (media_calls (media_at now n))) now after) where
+module _ (n drives : ℕ) (first state new : FileState) (before now after : List DriveView) (inside : n < drives)
+    (enough : drives ≤ length before) (so_far : MountedTo n drives first state before now)
+    (read : ReadUpTo (only_drive n (media_calls (media_at now n))) now after) where
   -- so often the drives were called
   fewer : (m : ℕ) → mounts_calls n before m + only_drive n (media_calls (media_at now n)) m ≤ mounts_calls (n + 1) before m
   fewer m =
@@ -146,7 +155,9 @@ module _ (n drives : ℕ) (first state new : FileState) (before now after : List
   }
 
 -- all are mounted
-pub mounted-all : (n drives : ℕ) (first state : FileState) (before now : List DriveView) (volumes : List DiskVolume) → drives ≤ n → MountedTo n drives first state before now → length volumes ≡ drives → HoldVolumes volumes before → HasMounted [] first before → HasMounted volumes state now
+pub mounted-all : (n drives : ℕ) (first state : FileState) (before now : List DriveView) (volumes : List DiskVolume)
+    → drives ≤ n → MountedTo n drives first state before now → length volumes ≡ drives → HoldVolumes volumes before
+    → HasMounted [] first before → HasMounted volumes state now
 mounted-all n drives first state before now volumes past so_far many hold has =
     subst (λ all. HasMounted all state now) (take_all n volumes (omega (arith, past, many))) (so_far.mounted volumes many hold has)
 
@@ -170,11 +181,17 @@ chosen place (Some other) = refl
 pub given-directories : (root : FilePlace) (commands : Option FilePlace) (v : DiskVolume) → root ≡ root_of 0 v → commands ≡ directory_in_root v root (codes "CMDS") → directories_on v ≡ record { data_directory = Some root; execution_directory = Some (unwrap_or commands root) }
 given-directories root commands v is found =
     let all : Directories = record { data_directory = Some root; execution_directory = Some (unwrap_or commands root) } in
-    sym (ap (λ (execution : Option FilePlace). let given : Directories = record { data_directory = Some root; execution_directory = execution } in given) (chosen root commands ∙ ap (λ found. option_map_or (λ place. Some place) found (Some root)) found)
+    sym (ap (λ (execution : Option FilePlace). let given : Directories = record {
+      data_directory = Some root;
+      execution_directory = execution;
+    } in given)
+    (chosen root commands ∙ ap (λ found. option_map_or (λ place. Some place) found (Some root)) found)
     ∙ ap (λ (place : FilePlace). let given : Directories = record { data_directory = Some place; execution_directory = option_map_or (λ place. Some place) (directory_in_root v place (codes "CMDS")) (Some place) } in given) is)
 
 -- the images of the volumes
-pub images-zip : (images : List (List ℕ)) (volumes : List DiskVolume) → length images ≡ length volumes → ((n : ℕ) (image : List ℕ) (v : DiskVolume) → slice_get images n ≡ Some image → slice_get volumes n ≡ Some v → Vol image v) → AllZip Vol images volumes
+pub images-zip : (images : List (List ℕ)) (volumes : List DiskVolume) → length images ≡ length volumes
+    → ((n : ℕ) (image : List ℕ) (v : DiskVolume) → slice_get images n ≡ Some image → slice_get volumes n ≡ Some v
+    → Vol image v) → AllZip Vol images volumes
 images-zip [] [] same each = tt
 images-zip [] (v ∷ volumes) same each = absurd (omega (arith, same))
 images-zip (image ∷ images) [] same each = absurd (omega (arith, same))

@@ -34,7 +34,8 @@ drive-more fault few most n before after more read =
     }) read
 
 -- reads that did not fail, and then reads
-pub drive-then : (fault : Option ℕ) (first then n : ℕ) (before mid after : List DriveView) → ReadsDrive None first n before mid → ReadsDrive fault then n mid after → ReadsDrive fault (first + then) n before after
+pub drive-then : (fault : Option ℕ) (first then n : ℕ) (before mid after : List DriveView) → ReadsDrive None first n
+    before mid → ReadsDrive fault then n mid after → ReadsDrive fault (first + then) n before after
 drive-then fault first then n before mid after (old, new, is, mid_is, one) (there, left, at, after_is, two) =
     let same : there ≡ new = read-same before n new there (subst (λ views. slice_get views n ≡ Some there) mid_is at) in (
       old,
@@ -53,15 +54,23 @@ moves-of fault most n before after read =
 
 -- ---- reads of a file
 
-pub file-more : (place : FilePlace) (fault : Option ℕ) (few most : DiskVolume → DiskFile → ℕ) (disks new : List (Option Volume)) (before after : List DriveView) → ((v : DiskVolume) (file : DiskFile) → few v file ≤ most v file) → ReadsFile place fault few disks before new after → ReadsFile place fault most disks before new after
+pub file-more : (place : FilePlace) (fault : Option ℕ) (few most : DiskVolume → DiskFile → ℕ)
+    (disks new : List (Option Volume)) (before after : List DriveView) → ((v : DiskVolume) (file : DiskFile)
+    → few v file ≤ most v file) → ReadsFile place fault few disks before new after → ReadsFile place fault most disks
+    before new after
 file-more place fault few most disks new before after more read = record {
   drive = λ volumes v file mounted is there. drive-more fault (few v file) (most v file) place.drive before after (more v file) (read.drive volumes v file mounted is there);
   mounted = read.mounted;
 }
 
-pub file-then : (place : FilePlace) (fault : Option ℕ) (first then : DiskVolume → DiskFile → ℕ) (disks mid new : List (Option Volume)) (before views after : List DriveView) → ReadsFile place None first disks before mid views → ReadsFile place fault then mid views new after → ReadsFile place fault (λ v file. first v file + then v file) disks before new after
+pub file-then : (place : FilePlace) (fault : Option ℕ) (first then : DiskVolume → DiskFile → ℕ)
+    (disks mid new : List (Option Volume)) (before views after : List DriveView) → ReadsFile place None first disks
+    before mid views → ReadsFile place fault then mid views new after → ReadsFile place fault
+    (λ v file. first v file + then v file) disks before new after
 file-then place fault first then disks mid new before views after one two = record {
-  drive = λ volumes v file mounted is there. drive-then fault (first v file) (then v file) place.drive before views after (one.drive volumes v file mounted is there) (two.drive volumes v file (one.mounted volumes mounted) is there);
+  drive = λ volumes v file mounted is there. drive-then fault (first v file) (then v file) place.drive before views
+      after (one.drive volumes v file mounted is there) (two.drive volumes v file (one.mounted volumes mounted) is
+      there);
   mounted = λ volumes mounted. two.mounted volumes (one.mounted volumes mounted);
 }
 
@@ -121,23 +130,31 @@ read-one fault most n before after (old, new, is, after_is, reads) =
         omega (arith, same)
 
 -- the volume of a drive was mounted, or was to be
-pub mount-read : (result : Result (Unit {0}) VolFault) (n : ℕ) (before after : List DriveView) → ((media : Option (List ℕ)) → mounting_calls result media ≡ media_calls media) → ChangesOneDrive (ReadsToMount result) n before after → ReadsDrive (volume_fault result) (media_calls (media_at before n)) n before after
+pub mount-read : (result : Result (Unit {0}) VolFault) (n : ℕ) (before after : List DriveView)
+    → ((media : Option (List ℕ)) → mounting_calls result media ≡ media_calls media)
+    → ChangesOneDrive (ReadsToMount result) n before after → ReadsDrive (volume_fault result)
+    (media_calls (media_at before n)) n before after
 mount-read result n before after all (old, new, is, after_is, mount) = (
   old,
   new,
   is,
   after_is,
-  subst (λ most. Reads (volume_fault result) most old new) (all old.media ∙ ap media_calls (ap (λ (view : DriveView). view.media) (sym (get_or_from_slice_get before n old unused_drive is)))) mount.reads,
+  subst (λ most. Reads (volume_fault result) most old new) (all old.media ∙ ap media_calls
+      (ap (λ (view : DriveView). view.media) (sym (get_or_from_slice_get before n old unused_drive is)))) mount.reads,
 )
 
 -- the same where a fault ended it
-pub mount-broken : (fault wanted : VolFault) (n : ℕ) (before after : List DriveView) → fault ≡ wanted → ((media : Option (List ℕ)) → mounting_calls (Err wanted) media ≡ media_calls media) → ChangesOneDrive (ReadsToMount (Err fault)) n before after → ReadsDrive (volume_fault {A = Unit {0}} (Err wanted)) (media_calls (media_at before n)) n before after
+pub mount-broken : (fault wanted : VolFault) (n : ℕ) (before after : List DriveView) → fault ≡ wanted
+    → ((media : Option (List ℕ)) → mounting_calls (Err wanted) media ≡ media_calls media)
+    → ChangesOneDrive (ReadsToMount (Err fault)) n before after
+    → ReadsDrive (volume_fault {A = Unit {0}} (Err wanted)) (media_calls (media_at before n)) n before after
 mount-broken fault wanted n before after is all mount =
     mount-read (Err wanted) n before after all (subst (λ (f : VolFault). ChangesOneDrive (ReadsToMount (Err f)) n before after) is mount)
 
 -- ---- faults
 
-pub start-moves : {A : Type 0} (result : Result A StartFault) (most n : ℕ) (before after : List DriveView) → FailsOn n result → OneDriveMoves (start_fault result) most n before after → StartMoves result before after
+pub start-moves : {A : Type 0} (result : Result A StartFault) (most n : ℕ) (before after : List DriveView)
+    → FailsOn n result → OneDriveMoves (start_fault result) most n before after → StartMoves result before after
 start-moves (Ok a) most n before after fails moved = none-failed most n before after moved
 start-moves (Err OutOfMemory) most n before after fails moved = none-failed most n before after moved
 start-moves (Err (Drive drive number)) most n before after fails moved =
@@ -150,7 +167,9 @@ fails-among (Err OutOfMemory) n drives inside fails = tt
 fails-among (Err (Drive drive number)) n drives inside fails = omega (arith, inside, fails)
 
 -- behind what did not fail
-pub moves-then : {A : Type 0} (result : Result A StartFault) (before mid after : List DriveView) → NoneFailed (drive_states before) (drive_states mid) → StartMoves result mid after → StartMoves result before after
+pub moves-then : {A : Type 0} (result : Result A StartFault) (before mid after : List DriveView)
+    → NoneFailed (drive_states before) (drive_states mid) → StartMoves result mid after → StartMoves result before
+    after
 moves-then (Ok a) before mid after none moves = moves ∙ none
 moves-then (Err OutOfMemory) before mid after none moves = moves ∙ none
 moves-then (Err (Drive drive number)) before mid after none moves =

@@ -25,7 +25,9 @@ use Rattle.file_start.specs.declared.fault.StartFault.TheVariants.{OutOfMemory, 
 -- ---- how D0 was read
 
 module _ (disks : List (Option Volume)) (views : List DriveView) (root : FilePlace) (at : IsRootAt disks views root) (new : List (Option Volume)) (after : List DriveView) where
-  pub root-reads : (fault : Option ℕ) → root.drive ≡ 0 → ReadsFile root fault (λ v file. search_calls file) disks views new after → (volumes : List (Option DiskVolume)) (v : DiskVolume) → AreMounted disks views volumes → mounted_at volumes 0 ≡ Some v → ReadUpTo (only_drive 0 (root_calls (Some v))) views after
+  pub root-reads : (fault : Option ℕ) → root.drive ≡ 0 → ReadsFile root fault (λ v file. search_calls file) disks
+      views new after → (volumes : List (Option DiskVolume)) (v : DiskVolume) → AreMounted disks views volumes
+      → mounted_at volumes 0 ≡ Some v → ReadUpTo (only_drive 0 (root_calls (Some v))) views after
   root-reads fault first read volumes v mounted is =
       let here = subst (λ d. mounted_at volumes d ≡ Some v) (sym first) is in
       let of = root-of disks views root at volumes v mounted here in
@@ -34,7 +36,9 @@ module _ (disks : List (Option Volume)) (views : List DriveView) (root : FilePla
       (subst (λ d. ReadUpTo (only_drive d (search_calls of.file)) views after) first
       (read-one fault (search_calls of.file) root.drive views after (read.drive volumes v of.file mounted here of.is)))
 
-  pub root-moves : {A : Type 0} (result : Result A StartFault) → FailsOn root.drive result → ReadsFile root (start_fault result) (λ v file. search_calls file) disks views new after → StartMoves result views after
+  pub root-moves : {A : Type 0} (result : Result A StartFault) → FailsOn root.drive result
+      → ReadsFile root (start_fault result) (λ v file. search_calls file) disks views new after → StartMoves result
+      views after
   root-moves result fails read =
       let of = root-of disks views root at at.volumes at.volume at.mounted at.is in
       start-moves result (search_calls of.file) root.drive views after fails
@@ -95,23 +99,31 @@ pub ok-map : {A E : Type 0} (result : Result A E) (P Q : Type 0) → (P → Q) �
 ok-map (Ok a) P Q next holds = next holds
 ok-map (Err fault) P Q next holds = holds
 
-pub given-first : (volumes : List DiskVolume) (v : DiskVolume) (before after : List DriveView) → slice_get volumes 0 ≡ Some v → length after ≡ length before → given (mounted_files volumes (drive_states before)) v after ≡ first_files volumes (drive_states after)
+pub given-first : (volumes : List DiskVolume) (v : DiskVolume) (before after : List DriveView) → slice_get volumes 0 ≡
+    Some v → length after ≡ length before → given (mounted_files volumes (drive_states before)) v after ≡ first_files
+    volumes (drive_states after)
 given-first volumes v before after is many =
     let states : length (drive_states before) ≡ length (drive_states after) = length-map before drive_state ∙ sym many ∙ sym (length-map after drive_state) in
-    ap (λ (directories : Directories). record (given (mounted_files volumes (drive_states before)) v after) { directories = slice_set (replicate 33 no_directories) 2 directories }) (ap first_directories (sym is))
+    ap (λ (directories : Directories). record (given (mounted_files volumes (drive_states before)) v after)
+    { directories = slice_set (replicate 33 no_directories) 2 directories }) (ap first_directories (sym is))
     ∙ ap (λ count. record (first_files volumes (drive_states after)) { volumes = map (λ (v : DiskVolume). Some v) volumes ++ replicate (count - length volumes) None }) states
 
 -- the volume of D0
 pub first-is : (volumes : List DiskVolume) (views : List DriveView) (v : DiskVolume) → mounted_at (mounted_files volumes (drive_states views)).volumes 0 ≡ Some v → slice_get volumes 0 ≡ Some v
 first-is volumes views v is = sym (first-volume volumes (length (drive_states views) - length volumes)) ∙ is
 
-pub without-drives : (volumes : List DiskVolume) (state : FileState) (views : List DriveView) → mounted_at (mounted_files volumes (drive_states views)).volumes 0 ≡ None → HasMounted volumes state views → HasStarted volumes state views
+pub without-drives : (volumes : List DiskVolume) (state : FileState) (views : List DriveView)
+    → mounted_at (mounted_files volumes (drive_states views)).volumes 0 ≡ None → HasMounted volumes state views
+    → HasStarted volumes state views
 without-drives volumes state views none has =
     let is : slice_get volumes 0 ≡ None = sym (first-volume volumes (length (drive_states views) - length volumes)) ∙ none in
-    subst (λ (directories : Directories). StandsFor state views (record (first_files volumes (drive_states views)) { directories = slice_set (replicate 33 no_directories) 2 directories })) (ap first_directories (sym is)) has
+    subst (λ (directories : Directories). StandsFor state views (record (first_files volumes (drive_states views))
+    { directories = slice_set (replicate 33 no_directories) 2 directories })) (ap first_directories (sym is)) has
 
 -- the first process has its directories on D0
-module _ (state new : FileState) (views after : List DriveView) (volumes : List DiskVolume) (root : FilePlace) (has : HasMounted volumes state views) (is : IsRootOf state.disks root) (read : OnFirst state views (λ files v. ReadUpTo (only_drive 0 (root_calls (Some v))) views after)) where
+module _ (state new : FileState) (views after : List DriveView) (volumes : List DiskVolume) (root : FilePlace)
+    (has : HasMounted volumes state views) (is : IsRootOf state.disks root) (read : OnFirst state views
+    (λ files v. ReadUpTo (only_drive 0 (root_calls (Some v))) views after)) where
   abbrev files_before : Files
   files_before = mounted_files volumes (drive_states views)
 
@@ -130,13 +142,21 @@ module _ (state new : FileState) (views after : List DriveView) (volumes : List 
   pub stands-first : {A E : Type 0} (result : Result A E) → OnFirst state views (λ files v. OnOk result (StandsFor new after (given files v after))) → OnOk result (HasStarted volumes new after)
   stands-first result stands =
       ok-map result (StandsFor new after (given files_before on-first.0 after)) (HasStarted volumes new after)
-      (subst (λ (files : Files). StandsFor new after files) (given-first volumes on-first.0 views after (first-is volumes views on-first.0 on-first.1) (read files_before on-first.0 has on-first.1).as_many))
+      (subst (λ (files : Files). StandsFor new after files) (given-first volumes on-first.0 views after
+      (first-is volumes views on-first.0 on-first.1) (read files_before on-first.0 has on-first.1).as_many))
       (stands files_before on-first.0 has on-first.1)
 
 -- ---- the start
 
 -- the volumes are mounted, and then the directories are looked for
-pub starts-drives : {A : Type 0} (result : Result A StartFault) (state : FileState) (drives : ℕ) (before mid after : List DriveView) → HaveVolumes drives before → ((volumes : List DiskVolume) → length volumes ≡ drives → HoldVolumes volumes before → HasMounted volumes state mid) → ReadUpTo (mounts_calls drives before) before mid → NoneFailed (drive_states before) (drive_states mid) → ((volumes : List DiskVolume) → HasMounted volumes state mid → ReadUpTo (only_drive 0 (root_calls (slice_get volumes 0))) mid after) → StartMoves result mid after → ((volumes : List DiskVolume) → HasMounted volumes state mid → FailsAmong (length volumes) result) → StartsDrives drives result before after
+pub starts-drives : {A : Type 0} (result : Result A StartFault) (state : FileState) (drives : ℕ)
+    (before mid after : List DriveView) → HaveVolumes drives before → ((volumes : List DiskVolume)
+    → length volumes ≡ drives → HoldVolumes volumes before → HasMounted volumes state mid)
+    → ReadUpTo (mounts_calls drives before) before mid → NoneFailed (drive_states before) (drive_states mid)
+    → ((volumes : List DiskVolume) → HasMounted volumes state mid
+    → ReadUpTo (only_drive 0 (root_calls (slice_get volumes 0))) mid after) → StartMoves result mid after
+    → ((volumes : List DiskVolume) → HasMounted volumes state mid → FailsAmong (length volumes) result)
+    → StartsDrives drives result before after
 starts-drives result state drives before mid after have has mounted none found moves among = record {
   moves = moves-then result before mid after none moves;
   among =
@@ -150,7 +170,9 @@ starts-drives result state drives before mid after have has mounted none found m
         read-then (mounts_calls (length volumes) before) (only_drive 0 (root_calls (slice_get volumes 0))) before mid after
         (subst (λ k. ReadUpTo (mounts_calls k before) before mid) (sym many) mounted) (found volumes (has volumes many hold))
 
-pub started-on : (images : List (List ℕ)) (state : FileState) (before after : List DriveView) (drives : ℕ) (have : HaveVolumes drives before) → HaveImages drives images before → HasStarted have.volumes state after → StartedOn images state after
+pub started-on : (images : List (List ℕ)) (state : FileState) (before after : List DriveView) (drives : ℕ)
+    (have : HaveVolumes drives before) → HaveImages drives images before → HasStarted have.volumes state after
+    → StartedOn images state after
 started-on images state before after drives have at has = record {
   was = first_files have.volumes (drive_states after);
   starts = record {

@@ -62,14 +62,22 @@ called-one fault most n before after (old, new, is, after_is, moved) =
         omega (arith, stays)
 
 -- a read of a file, by the volume and the file
-pub called-read : (state new : FileState) (views now : List DriveView) (files : Files) (place : FilePlace) (v : DiskVolume) (file : DiskFile) (fault : Option ℕ) (most : DiskVolume → DiskFile → ℕ) → StandsFor state views files → volume_at files place.drive ≡ Some v → v.files place.number ≡ Some file → ReadsFile place fault most state.disks views new.disks now → CalledAtMost (most v file) views now
+pub called-read : (state new : FileState) (views now : List DriveView) (files : Files) (place : FilePlace)
+    (v : DiskVolume) (file : DiskFile) (fault : Option ℕ) (most : DiskVolume → DiskFile → ℕ) → StandsFor state views
+    files → volume_at files place.drive ≡ Some v → v.files place.number ≡ Some file → ReadsFile place fault most
+    state.disks views new.disks now → CalledAtMost (most v file) views now
 called-read state new views now files place v file fault most stands is there read =
     let calls = most v file in
     let drive : ReadsDrive fault calls place.drive views now = read.drive files.volumes v file stands.mounted is there in
-    called-one fault calls place.drive views now (changes-weaker (Reads fault calls) (λ old new. MovesCounts fault calls old.counts new.counts) place.drive views now (λ old new reads. reads.counts) drive)
+    called-one fault calls place.drive views now (changes-weaker (Reads fault calls) (λ old new. MovesCounts fault
+    calls old.counts new.counts) place.drive views now (λ old new reads. reads.counts) drive)
 
 -- a change of a volume, as has-changed has it, and the calls that it made
-pub has-changed-in : (state new : FileState) (views now : List DriveView) (files : Files) (place : FilePlace) (v : DiskVolume) (file : DiskFile) (asked : Asked) (answer : Result ℕ DirError) (most : DiskVolume → DiskFile → DiskVolume → ℕ) → StandsFor state views files → volume_at files place.drive ≡ Some v → v.files place.number ≡ Some file → new.io ≡ state.io → new.directories ≡ state.directories → ChangesVolume place asked answer most state.disks views new.disks now → HasChangedIn (most v file) asked answer place.drive v file files new views now
+pub has-changed-in : (state new : FileState) (views now : List DriveView) (files : Files) (place : FilePlace)
+    (v : DiskVolume) (file : DiskFile) (asked : Asked) (answer : Result ℕ DirError) (most : DiskVolume → DiskFile
+    → DiskVolume → ℕ) → StandsFor state views files → volume_at files place.drive ≡ Some v → v.files place.number ≡
+    Some file → new.io ≡ state.io → new.directories ≡ state.directories → ChangesVolume place asked answer most
+    state.disks views new.disks now → HasChangedIn (most v file) asked answer place.drive v file files new views now
 unfolding has-changed
 has-changed-in state new views now files place v file asked answer most stands is there io directories changes =
     let it = has-changed state new views now files place v file asked answer most stands is there io directories changes in

@@ -25,7 +25,9 @@ asked_of it asker = record { change = it.change; user = asker.user; now = asker.
 -- ---- no drive failed
 
 -- the attempt leaves this, and changes no volume; so it is too where it is refused
-pub goes-well : (step : FileStep) (asker : Asker) (files : Files) (it : FileEffect) (drives : List DriveState) (terms : List TerminalState) → deed_of step files ≡ leaves_so it → NoneFailed files.drives drives → FileDoes step asker files (with_drives_after it drives) terms terms
+pub goes-well : (step : FileStep) (asker : Asker) (files : Files) (it : FileEffect) (drives : List DriveState)
+    (terms : List TerminalState) → deed_of step files ≡ leaves_so it → NoneFailed files.drives drives
+    → FileDoes step asker files (with_drives_after it drives) terms terms
 goes-well step asker files it drives terms deed none = inl (record {
   it = it;
   does = subst (λ d. DoesDeed d asker files it terms terms) (sym deed) (refl, refl);
@@ -35,7 +37,11 @@ goes-well step asker files it drives terms deed none = inl (record {
 })
 
 -- the change is made
-pub is-made : (step : FileStep) (asker : Asker) (files : Files) (it : VolumeChange) (v left : DiskVolume) (file : DiskFile) (n : ℕ) (drives : List DriveState) (terms : List TerminalState) → deed_of step files ≡ changes it → volume_at files it.drive ≡ Some v → AnswersChange (asked_of it asker) v file left (Ok n) → NoneFailed files.drives drives → FileDoes step asker files (with_drives_after (with_volume_after (it.effect n) it.drive left) drives) terms terms
+pub is-made : (step : FileStep) (asker : Asker) (files : Files) (it : VolumeChange) (v left : DiskVolume)
+    (file : DiskFile) (n : ℕ) (drives : List DriveState) (terms : List TerminalState) → deed_of step files ≡ changes
+    it → volume_at files it.drive ≡ Some v → AnswersChange (asked_of it asker) v file left (Ok n)
+    → NoneFailed files.drives drives → FileDoes step asker files
+    (with_drives_after (with_volume_after (it.effect n) it.drive left) drives) terms terms
 is-made step asker files it v left file n drives terms deed is made none =
     let changed : IsChanged it asker files (with_volume_after (it.effect n) it.drive left) = record { old = v; is = is; new = left; number = n; makes = made.makes; effect_is = refl } in
     inl (record {
@@ -47,7 +53,11 @@ is-made step asker files it v left file n drives terms deed is made none =
     })
 
 -- a cluster that was chosen found no place: E$SLF, where the list of a directory is not full
-pub is-too-long : (step : FileStep) (asker : Asker) (files : Files) (it : VolumeChange) (v left : DiskVolume) (file : DiskFile) (drives : List DriveState) (terms : List TerminalState) → deed_of step files ≡ changes it → volume_at files it.drive ≡ Some v → has_full_list it.change v file ≡ false → AnswersChange (asked_of it asker) v file left (Err (File TooManyRuns)) → NoneFailed files.drives drives → FileDoes step asker files (with_drives_after (refuses_so E_SLF files) drives) terms terms
+pub is-too-long : (step : FileStep) (asker : Asker) (files : Files) (it : VolumeChange) (v left : DiskVolume)
+    (file : DiskFile) (drives : List DriveState) (terms : List TerminalState) → deed_of step files ≡ changes it
+    → volume_at files it.drive ≡ Some v → has_full_list it.change v file ≡ false → AnswersChange (asked_of it asker) v
+    file left (Err (File TooManyRuns)) → NoneFailed files.drives drives → FileDoes step asker files
+    (with_drives_after (refuses_so E_SLF files) drives) terms terms
 is-too-long step asker files it v left file drives terms deed is list long none =
     let found : MayBeTooLong it.change v = elim (long.full) [
       | inl full ↦ absurd (let e = sym list ∙ full in cc)
@@ -64,7 +74,10 @@ is-too-long step asker files it v left file drives terms deed is list long none 
 
 -- ---- a drive failed
 
-pub breaks : (step : FileStep) (asker : Asker) (files : Files) (drive number : ℕ) (old left : DiskVolume) (drives : List DriveState) (terms : List TerminalState) → drive_of step ≡ Some drive → volume_at files drive ≡ Some old → MayBeLeft (deed_of step files) asker old left → OneFailed drive number files.drives drives → FileDoes step asker files (refuses_so number (with_drives (with_volume files drive left) drives)) terms terms
+pub breaks : (step : FileStep) (asker : Asker) (files : Files) (drive number : ℕ) (old left : DiskVolume)
+    (drives : List DriveState) (terms : List TerminalState) → drive_of step ≡ Some drive → volume_at files drive ≡
+    Some old → MayBeLeft (deed_of step files) asker old left → OneFailed drive number files.drives drives
+    → FileDoes step asker files (refuses_so number (with_drives (with_volume files drive left) drives)) terms terms
 breaks step asker files drive number old left drives terms reached is may failed = inr (
   record {
     drive = drive;
@@ -82,12 +95,20 @@ breaks step asker files drive number old left drives terms reached is may failed
 )
 
 -- in the change
-pub breaks-change : (step : FileStep) (asker : Asker) (files : Files) (it : VolumeChange) (number : ℕ) (v left : DiskVolume) (file : DiskFile) (drives : List DriveState) (terms : List TerminalState) → drive_of step ≡ Some it.drive → deed_of step files ≡ changes it → volume_at files it.drive ≡ Some v → AnswersChange (asked_of it asker) v file left (Err (File (Device number))) → OneFailed it.drive number files.drives drives → FileDoes step asker files (refuses_so number (with_drives (with_volume files it.drive left) drives)) terms terms
+pub breaks-change : (step : FileStep) (asker : Asker) (files : Files) (it : VolumeChange) (number : ℕ)
+    (v left : DiskVolume) (file : DiskFile) (drives : List DriveState) (terms : List TerminalState)
+    → drive_of step ≡ Some it.drive → deed_of step files ≡ changes it → volume_at files it.drive ≡ Some v
+    → AnswersChange (asked_of it asker) v file left (Err (File (Device number))) → OneFailed it.drive number
+    files.drives drives → FileDoes step asker files (refuses_so number (with_drives (with_volume files it.drive left)
+    drives)) terms terms
 breaks-change step asker files it number v left file drives terms reached deed is broken failed =
     breaks step asker files it.drive number v left drives terms reached is (subst (λ d. MayBeLeft d asker v left) (sym deed) broken.may_be) failed
 
 -- in what changes no volume
-pub breaks-nothing : (step : FileStep) (asker : Asker) (files : Files) (it : FileEffect) (drive number : ℕ) (v : DiskVolume) (drives : List DriveState) (terms : List TerminalState) → drive_of step ≡ Some drive → deed_of step files ≡ leaves_so it → volume_at files drive ≡ Some v → OneFailed drive number files.drives drives → FileDoes step asker files (refuses_so number (with_drives (with_volume files drive v) drives)) terms terms
+pub breaks-nothing : (step : FileStep) (asker : Asker) (files : Files) (it : FileEffect) (drive number : ℕ)
+    (v : DiskVolume) (drives : List DriveState) (terms : List TerminalState) → drive_of step ≡ Some drive
+    → deed_of step files ≡ leaves_so it → volume_at files drive ≡ Some v → OneFailed drive number files.drives drives
+    → FileDoes step asker files (refuses_so number (with_drives (with_volume files drive v) drives)) terms terms
 breaks-nothing step asker files it drive number v drives terms reached deed is failed =
     breaks step asker files drive number v v drives terms reached is (subst (λ d. MayBeLeft d asker v v) (sym deed) refl) failed
 
@@ -121,14 +142,20 @@ deed-may-stay (as_io step) asker v image vol none = refl
 deed-may-stay (changes it) asker v image vol none = may-stay it.change asker.user asker.now v image vol none
 
 -- a fault before a change: the volume is as it was
-pub breaks-before : (step : FileStep) (asker : Asker) (files : Files) (drive number : ℕ) (v : DiskVolume) (image : List ℕ) (drives : List DriveState) (terms : List TerminalState) → drive_of step ≡ Some drive → WritesNothing (deed_of step files) → volume_at files drive ≡ Some v → Vol image v → OneFailed drive number files.drives drives → FileDoes step asker files (refuses_so number (with_drives (with_volume files drive v) drives)) terms terms
+pub breaks-before : (step : FileStep) (asker : Asker) (files : Files) (drive number : ℕ) (v : DiskVolume)
+    (image : List ℕ) (drives : List DriveState) (terms : List TerminalState) → drive_of step ≡ Some drive
+    → WritesNothing (deed_of step files) → volume_at files drive ≡ Some v → Vol image v → OneFailed drive number
+    files.drives drives → FileDoes step asker files (refuses_so number (with_drives (with_volume files drive v)
+    drives)) terms terms
 breaks-before step asker files drive number v image drives terms reached none is vol failed =
     breaks step asker files drive number v v drives terms reached is (deed-may-stay (deed_of step files) asker v image vol none) failed
 
 -- ---- calls on terminals and pipes
 
 -- what they do is done in the state of files
-pub goes-as-io : (step : FileStep) (asker : Asker) (files : Files) (deed : IoStep) (it : IoEffect) (before after : List TerminalState) → deed_of step files ≡ as_io deed → Does deed asker.caller files.io it before after → FileDoes step asker files (on_files files it) before after
+pub goes-as-io : (step : FileStep) (asker : Asker) (files : Files) (deed : IoStep) (it : IoEffect)
+    (before after : List TerminalState) → deed_of step files ≡ as_io deed → Does deed asker.caller files.io it before
+    after → FileDoes step asker files (on_files files it) before after
 goes-as-io step asker files deed it before after is does = inl (record {
   it = on_files files it;
   does = subst (λ d. DoesDeed d asker files (on_files files it) before after) (sym is) (it, does, refl);
@@ -138,5 +165,8 @@ goes-as-io step asker files deed it before after is does = inl (record {
 })
 
 -- an attempt that comes to this effect
-pub attempts : (call : PathCall) (m : Inner) (files : Files) (now : TimePacket) (p : ℕ) (effect : FileEffect) (before after : List TerminalState) → FileDoes (file_step call (asker_of m p now) files (length before)) (asker_of m p now) files effect before after → FileAttempts call m files now p (result_of m p (io_effect effect)) (files_after p effect) before after
+pub attempts : (call : PathCall) (m : Inner) (files : Files) (now : TimePacket) (p : ℕ) (effect : FileEffect)
+    (before after : List TerminalState) → FileDoes (file_step call (asker_of m p now) files (length before))
+    (asker_of m p now) files effect before after → FileAttempts call m files now p (result_of m p (io_effect effect))
+    (files_after p effect) before after
 attempts call m files now p effect before after does = record { effect = effect; does = does; result_is = refl; state = refl }

@@ -43,7 +43,8 @@ error-keeps (leaves_so it) number = tt
 error-keeps (as_io step) number = tt
 error-keeps (changes it) number = (number, refl)
 
-media-stays : (deed : Deed) (asker : Asker) (files : Files) (end : CallEnd) (before after : List DriveView) → MayKeepAll deed end → media_of after ≡ media_of before → MediaAfter deed asker files end before after
+media-stays : (deed : Deed) (asker : Asker) (files : Files) (end : CallEnd) (before after : List DriveView)
+    → MayKeepAll deed end → media_of after ≡ media_of before → MediaAfter deed asker files end before after
 media-stays (leaves_so it) asker files end before after may same = same
 media-stays (as_io step) asker files end before after may same = same
 media-stays (changes it) asker files end before after (number, is) same =
@@ -53,7 +54,9 @@ media-stays (changes it) asker files end before after (number, is) same =
 abbrev pub ReachesAtMost : {E : Type 0} → Step E → ℕ → List DriveView → List DriveView → Type 0
 ReachesAtMost step drive before after = (drive_of step ≡ Some drive) ⊎ (after ≡ before)
 
-pub others-reached : {E : Type 0} (step : Step E) (drive : ℕ) (before after : List DriveView) → ReachesAtMost step drive before after → OthersStay drive before after → (n : ℕ) → drive_of step ≢ Some n → slice_get after n ≡ slice_get before n
+pub others-reached : {E : Type 0} (step : Step E) (drive : ℕ) (before after : List DriveView) → ReachesAtMost step
+    drive before after → OthersStay drive before after → (n : ℕ) → drive_of step ≢ Some n → slice_get after n ≡
+    slice_get before n
 others-reached step drive before after (inl reached) stay n other =
     stay n (λ same. other (subst (λ k. drive_of step ≡ Some k) (sym same) reached))
 others-reached step drive before after (inr same) stay n other = ap (λ views. slice_get views n) same
@@ -80,7 +83,9 @@ module _ (step : FileStep) (asker : Asker) (files : Files) (end : CallEnd) where
     keeps-read fault new read = keeps-media read.others read.media_kept
 
     -- a change was refused, or was to be when the drive failed
-    pub keeps-refused : (asked : Asked) (answer : Result ℕ DirError) (v : DiskVolume) (file : DiskFile) (new : FileState) → HasChanged asked answer drive v file files new before after → IsRefused answer ⊎ (is_refused asked v file ≡ true) → KeepsDrives step asker files end before after
+    pub keeps-refused : (asked : Asked) (answer : Result ℕ DirError) (v : DiskVolume) (file : DiskFile)
+        (new : FileState) → HasChanged asked answer drive v file files new before after → IsRefused answer ⊎
+        (is_refused asked v file ≡ true) → KeepsDrives step asker files end before after
     keeps-refused asked answer v file new changed quiet = keeps-media changed.others (changed.refused quiet)
 
 -- ---- a volume is changed
@@ -97,7 +102,9 @@ module _ (step : FileStep) (asker : Asker) (files : Files) (it : VolumeChange) (
       (λ apart. ident-same (media_at before n) (media_at after n) (media-of_same before after n (changed.others n apart)))
       (cases_eq n it.drive)
 
-  keeps-changed : (end : CallEnd) (answer : Result ℕ DirError) → HasChanged (asked_of it asker) answer it.drive v file files new before after → MediaAfterChange it asker files end before after → KeepsDrives step asker files end before after
+  keeps-changed : (end : CallEnd) (answer : Result ℕ DirError) → HasChanged (asked_of it asker) answer it.drive v file
+      files new before after → MediaAfterChange it asker files end before after → KeepsDrives step asker files end
+      before after
   keeps-changed end answer changed media = record {
     others = others-reached step it.drive before after (inl reached) changed.others;
     media = subst (λ d. MediaAfter d asker files end before after) (sym deed) media;
@@ -109,7 +116,9 @@ module _ (step : FileStep) (asker : Asker) (files : Files) (it : VolumeChange) (
   keeps-made n changed = keeps-changed Done (Ok n) changed (n, on-disk (Ok n) changed)
 
   -- the drive failed in it
-  pub keeps-broken : (number : ℕ) → files.drives ≡ drive_states before → HasChanged (asked_of it asker) (Err (File (Device number))) it.drive v file files new before after → KeepsDrives step asker files (Error number) before after
+  pub keeps-broken : (number : ℕ) → files.drives ≡ drive_states before → HasChanged (asked_of it asker)
+      (Err (File (Device number))) it.drive v file files new before after → KeepsDrives step asker files
+      (Error number) before after
   keeps-broken number drives changed =
       keeps-changed (Error number) (Err (File (Device number))) changed
       (inr
@@ -120,7 +129,10 @@ module _ (step : FileStep) (asker : Asker) (files : Files) (it : VolumeChange) (
 
 -- ---- a whole call
 
-pub ends-attempt : (most : ℕ) (call : PathCall) (m : Inner) (was : Files) (now : TimePacket) (p : ℕ) (end : CallEnd) (terms : List TerminalState) (before after : Standing) → Ends (file_step call (asker_of m p now) was (length terms)) most m was now p end after.processes after.files before.views after.views terms → AttemptsIn most call m was now p end terms terms before after
+pub ends-attempt : (most : ℕ) (call : PathCall) (m : Inner) (was : Files) (now : TimePacket) (p : ℕ) (end : CallEnd)
+    (terms : List TerminalState) (before after : Standing)
+    → Ends (file_step call (asker_of m p now) was (length terms)) most m was now p end after.processes after.files
+    before.views after.views terms → AttemptsIn most call m was now p end terms terms before after
 ends-attempt most call m was now p end terms before after ends = record {
   attempts = record {
     result = result_of m p (io_effect ends.effect);

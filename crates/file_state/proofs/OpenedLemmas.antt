@@ -45,7 +45,10 @@ module _ (state : FileState) (views : List DriveView) (files : Files) (p n : ℕ
   goes-on opened = option_and_then (open_file_at files opened) (place_of_target opened.desc.target)
 
   -- of a path at the place of a file
-  named-at : (path : SysPath) (desc : Desc) (place : FilePlace) (directory : Bool) → open_path files.io p n ≡ Some (path-and-desc path desc) → place_of_target desc.target ≡ Some place → IsOfKind files place directory → (directory ≡ true → can_write desc.mode ≡ false) → IsFileOf state views files p n (record { path = path; desc = desc; place = place; is_directory = directory })
+  named-at : (path : SysPath) (desc : Desc) (place : FilePlace) (directory : Bool) → open_path files.io p n ≡ Some
+      (path-and-desc path desc) → place_of_target desc.target ≡ Some place → IsOfKind files place directory
+      → (directory ≡ true → can_write desc.mode ≡ false) → IsFileOf state views files p n
+      (record { path = path; desc = desc; place = place; is_directory = directory })
   named-at path desc place directory is at kind unwritten =
       let on = on-volume files place kind.file kind.there in
       let found : Found = record { opened = path-and-desc path desc; place = place; volume = on.volume; file = kind.file } in
@@ -67,7 +70,8 @@ module _ (state : FileState) (views : List DriveView) (files : Files) (p n : ℕ
       }
 
   -- of a path that was opened on this
-  named-by : (path : SysPath) (desc : Desc) (target : Target) → open_path files.io p n ≡ Some (path-and-desc path desc) → desc.target ≡ target → NamesFile state views files p n (opened_by path desc target)
+  named-by : (path : SysPath) (desc : Desc) (target : Target) → open_path files.io p n ≡ Some
+      (path-and-desc path desc) → desc.target ≡ target → NamesFile state views files p n (opened_by path desc target)
   named-by path desc (File drive number) is on =
       named-at path desc (record { drive = drive; number = number }) false is (ap place_of_target on)
       (subst (λ target. IsOnTarget files desc.mode target) on (kinds.paths path.0 desc (open-desc files.io p n path desc is)))

@@ -41,7 +41,8 @@ file-there files place v file is there =
     ap (option_and_then (λ (v : DiskVolume). v.files place.number)) is ∙ there
 
 -- it is there on the mounted volumes
-pub has-file : (state : FileState) (views : List DriveView) (files : Files) (place : FilePlace) (file : DiskFile) → StandsFor state views files → file_in files place ≡ Some file → HasFileAt state.disks views place
+pub has-file : (state : FileState) (views : List DriveView) (files : Files) (place : FilePlace) (file : DiskFile)
+    → StandsFor state views files → file_in files place ≡ Some file → HasFileAt state.disks views place
 has-file state views files place file stands there =
     let on = on-volume files place file there in
     record { volumes = files.volumes; mounted = stands.mounted; volume = on.volume; is = on.is; file = file; there = on.there }
@@ -69,7 +70,10 @@ read-none drive state views files stands = record {
 }
 
 -- a drive was read
-pub has-read : (state new : FileState) (views now : List DriveView) (files : Files) (place : FilePlace) (file : DiskFile) (fault : Option ℕ) (most : DiskVolume → DiskFile → ℕ) → StandsFor state views files → file_in files place ≡ Some file → new.io ≡ state.io → new.directories ≡ state.directories → ReadsFile place fault most state.disks views new.disks now → HasRead fault place.drive files new views now
+pub has-read : (state new : FileState) (views now : List DriveView) (files : Files) (place : FilePlace)
+    (file : DiskFile) (fault : Option ℕ) (most : DiskVolume → DiskFile → ℕ) → StandsFor state views files
+    → file_in files place ≡ Some file → new.io ≡ state.io → new.directories ≡ state.directories
+    → ReadsFile place fault most state.disks views new.disks now → HasRead fault place.drive files new views now
 has-read state new views now files place file fault most stands there io directories read =
     let on = on-volume files place file there in
     let calls = most on.volume file in
@@ -88,13 +92,19 @@ has-read state new views now files place file fault most stands there io directo
     }
 
 -- a volume was changed, or was to be
-unfoldable pub has-changed : (state new : FileState) (views now : List DriveView) (files : Files) (place : FilePlace) (v : DiskVolume) (file : DiskFile) (asked : Asked) (answer : Result ℕ DirError) (most : DiskVolume → DiskFile → DiskVolume → ℕ) → StandsFor state views files → volume_at files place.drive ≡ Some v → v.files place.number ≡ Some file → new.io ≡ state.io → new.directories ≡ state.directories → ChangesVolume place asked answer most state.disks views new.disks now → HasChanged asked answer place.drive v file files new views now
+unfoldable pub has-changed : (state new : FileState) (views now : List DriveView) (files : Files) (place : FilePlace)
+    (v : DiskVolume) (file : DiskFile) (asked : Asked) (answer : Result ℕ DirError) (most : DiskVolume → DiskFile
+    → DiskVolume → ℕ) → StandsFor state views files → volume_at files place.drive ≡ Some v → v.files place.number ≡
+    Some file → new.io ≡ state.io → new.directories ≡ state.directories → ChangesVolume place asked answer most
+    state.disks views new.disks now → HasChanged asked answer place.drive v file files new views now
 has-changed state new views now files place v file asked answer most stands is there io directories changes =
     let it = changes files.volumes v file stands.mounted is there in
     record {
       left = it.left;
       answers = it.answers;
-      moved = subst (λ drives. DrivesMove (directory_fault answer) place.drive drives (drive_states now)) (sym stands.drives) (drives-move (directory_fault answer) (most v file it.left) place.drive views now it.moves);
+      moved = subst (λ drives. DrivesMove (directory_fault answer) place.drive drives (drive_states now))
+          (sym stands.drives) (drives-move (directory_fault answer) (most v file it.left) place.drive views now
+          it.moves);
       stands = record {
         io = stands.io ∙ sym io;
         directories = stands.directories ∙ sym directories;
@@ -110,7 +120,8 @@ has-changed state new views now files place v file asked answer most stands is t
 -- ---- one after another
 
 -- what was read of one drive, or of none, stands for what was read of another
-pub read-at : (first drive : ℕ) (files : Files) (mid : FileState) (before views : List DriveView) → (first ≡ drive) ⊎ (views ≡ before) → HasRead None first files mid before views → HasRead None drive files mid before views
+pub read-at : (first drive : ℕ) (files : Files) (mid : FileState) (before views : List DriveView) → (first ≡ drive) ⊎
+    (views ≡ before) → HasRead None first files mid before views → HasRead None drive files mid before views
 read-at first drive files mid before views (inl same) was = subst (λ (n : ℕ). HasRead None n files mid before views) same was
 read-at first drive files mid before views (inr same) was = record {
   moved = was.moved;
@@ -120,7 +131,9 @@ read-at first drive files mid before views (inr same) was = record {
 }
 
 -- a read behind reads of the same drive that did not fail
-pub has-read-then : (fault : Option ℕ) (drive : ℕ) (files : Files) (mid new : FileState) (before views now : List DriveView) → HasRead None drive files mid before views → HasRead fault drive (with_drives files (drive_states views)) new views now → HasRead fault drive files new before now
+pub has-read-then : (fault : Option ℕ) (drive : ℕ) (files : Files) (mid new : FileState)
+    (before views now : List DriveView) → HasRead None drive files mid before views → HasRead fault drive
+    (with_drives files (drive_states views)) new views now → HasRead fault drive files new before now
 has-read-then fault drive files mid new before views now was is = record {
   moved = moved-then fault drive files.drives (drive_states views) (drive_states now) was.moved is.moved;
   stands = is.stands;
@@ -129,7 +142,10 @@ has-read-then fault drive files mid new before views now was is = record {
 }
 
 -- and a change
-pub has-changed-then : (asked : Asked) (answer : Result ℕ DirError) (drive : ℕ) (v : DiskVolume) (file : DiskFile) (files : Files) (mid new : FileState) (before views now : List DriveView) → HasRead None drive files mid before views → HasChanged asked answer drive v file (with_drives files (drive_states views)) new views now → HasChanged asked answer drive v file files new before now
+pub has-changed-then : (asked : Asked) (answer : Result ℕ DirError) (drive : ℕ) (v : DiskVolume) (file : DiskFile)
+    (files : Files) (mid new : FileState) (before views now : List DriveView) → HasRead None drive files mid before
+    views → HasChanged asked answer drive v file (with_drives files (drive_states views)) new views now
+    → HasChanged asked answer drive v file files new before now
 has-changed-then asked answer drive v file files mid new before views now was is =
     let same : media_at views drive ≡ media_at before drive = media-same before views drive was.media_kept in
     record {

@@ -55,7 +55,12 @@ some-path io files place test is =
 -- ---- what is changed
 
 -- other paths
-pub stands-with_io : (state : FileState) (views : List DriveView) (files : Files) (io new : Io) → io ≡ new → StandsFor state views files → StandsFor (record { io = new; disks = state.disks; directories = state.directories }) views (with_io files io)
+pub stands-with_io : (state : FileState) (views : List DriveView) (files : Files) (io new : Io) → io ≡ new
+    → StandsFor state views files → StandsFor (record {
+      io = new;
+      disks = state.disks;
+      directories = state.directories;
+    }) views (with_io files io)
 stands-with_io state views files io new is stands = record {
   io = is;
   directories = stands.directories;
@@ -64,7 +69,10 @@ stands-with_io state views files io new is stands = record {
 }
 
 -- other directories
-pub stands-with_directories : (state : FileState) (views : List DriveView) (files : Files) (p : ℕ) (directories other : Directories) → directories ≡ other → StandsFor state views files → StandsFor (record { io = state.io; disks = state.disks; directories = slice_set state.directories p other }) views (with_directories_of files p directories)
+pub stands-with_directories : (state : FileState) (views : List DriveView) (files : Files) (p : ℕ)
+    (directories other : Directories) → directories ≡ other → StandsFor state views files
+    → StandsFor (record { io = state.io; disks = state.disks; directories = slice_set state.directories p other })
+    views (with_directories_of files p directories)
 stands-with_directories state views files p directories other same stands = record {
   io = stands.io;
   directories = ap (λ all. slice_set all p directories) stands.directories ∙ ap (slice_set state.directories p) same;
@@ -75,18 +83,24 @@ stands-with_directories state views files p directories other same stands = reco
 -- ---- the directories of processes
 
 -- each is there
-has-directory : (state : FileState) (views : List DriveView) (files : Files) (p : ℕ) (execute : Bool) (place : FilePlace) → StandsFor state views files → AreKinds files → directory_of files p execute ≡ Some place → HasFileAt state.disks views place
+has-directory : (state : FileState) (views : List DriveView) (files : Files) (p : ℕ) (execute : Bool)
+    (place : FilePlace) → StandsFor state views files → AreKinds files → directory_of files p execute ≡ Some place
+    → HasFileAt state.disks views place
 has-directory state views files p execute place stands kinds is =
     let kind = kinds.directories p execute place is in
     has-file state views files place kind.file stands kind.there
 
-pub has-directories : (state : FileState) (views : List DriveView) (files : Files) (p : ℕ) (execute : Bool) (found : Option FilePlace) → StandsFor state views files → AreKinds files → found ≡ directory_of files p execute → IfSome found (HasFileAt state.disks views)
+pub has-directories : (state : FileState) (views : List DriveView) (files : Files) (p : ℕ) (execute : Bool)
+    (found : Option FilePlace) → StandsFor state views files → AreKinds files → found ≡ directory_of files p execute
+    → IfSome found (HasFileAt state.disks views)
 has-directories state views files p execute None stands kinds is = tt
 has-directories state views files p execute (Some place) stands kinds is = has-directory state views files p execute place stands kinds (sym is)
 
 -- ---- mounting
 
-pub mounts-on : (state : FileState) (result : Result (Unit {0}) VolFault) (n : ℕ) (before after : List DriveView) (disks : List (Option Volume)) → MountsAs result n state.disks before disks after → MountsOn result n state before (record { io = state.io; disks = disks; directories = state.directories }) after
+pub mounts-on : (state : FileState) (result : Result (Unit {0}) VolFault) (n : ℕ) (before after : List DriveView)
+    (disks : List (Option Volume)) → MountsAs result n state.disks before disks after → MountsOn result n state before
+    (record { io = state.io; disks = disks; directories = state.directories }) after
 mounts-on state (Ok done) n before after disks mounts = λ files v stands holds. record {
   io = stands.io;
   directories = stands.directories;
@@ -102,7 +116,10 @@ mounts-on state (Err fault) n before after disks stays = λ files stands. record
 
 -- ---- a process ends
 
-pub stands-ended : (state : FileState) (views : List DriveView) (files : Files) (p : ℕ) (new : Io) → new ≡ io_ended state.io p → StandsFor state views files → StandsFor (record { io = new; disks = state.disks; directories = slice_set state.directories p no_directories }) views (files_ended files p)
+pub stands-ended : (state : FileState) (views : List DriveView) (files : Files) (p : ℕ) (new : Io)
+    → new ≡ io_ended state.io p → StandsFor state views files
+    → StandsFor (record { io = new; disks = state.disks; directories = slice_set state.directories p no_directories })
+    views (files_ended files p)
 stands-ended state views files p new is stands = record {
   io = ap (λ (io : Io). io_ended io p) stands.io ∙ sym is;
   directories = ap (λ all. slice_set all p no_directories) stands.directories;
@@ -122,7 +139,14 @@ none-at {X} k n = elim (cases_lt n k) [
 ]
 
 -- a new state is that of drives without volumes
-pub stands-first : (state : FileState) (views : List DriveView) → length views ≤ 4 → state.io ≡ first_io → state.disks ≡ replicate 4 None → state.directories ≡ replicate 33 no_directories → StandsFor state views (record { io = first_io; directories = replicate 33 no_directories; volumes = replicate (length views) None; drives = drive_states views })
+pub stands-first : (state : FileState) (views : List DriveView) → length views ≤ 4 → state.io ≡ first_io
+    → state.disks ≡ replicate 4 None → state.directories ≡ replicate 33 no_directories → StandsFor state views
+    (record {
+      io = first_io;
+      directories = replicate 33 no_directories;
+      volumes = replicate (length views) None;
+      drives = drive_states views;
+    })
 stands-first state views few io disks directories = record {
   io = sym io;
   directories = sym directories;

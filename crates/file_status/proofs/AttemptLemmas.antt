@@ -32,24 +32,37 @@ regs-tied processes m p tied = sym (ap (λ (i : Inner). regs_at i p) tied.is)
 pub user-tied : (processes : ProcState) (m : Inner) (p user : ℕ) → Represents processes m → user ≡ (record_at processes.table p).user → user ≡ user_at m p
 user-tied processes m p user tied is = is ∙ sym (ap (λ (i : Inner). user_at i p) tied.is)
 
-module _ (m : Inner) (was : Files) (now : TimePacket) (p : ℕ) (end : CallEnd) (before after : Standing) (opened : KernelFile) (terms : List TerminalState) (tied : Represents before.processes m) (stands : StandsFor before.files before.views was) (kinds : AreKinds was) (named : IsNamedInA p opened before) where
-  abbrev found : OpenFile
-  found = (named was stands kinds).found
+module _ (m : Inner) (was : Files) (now : TimePacket) (p : ℕ) (end : CallEnd) (before after : Standing)
+    (opened : KernelFile) (terms : List TerminalState) (tied : Represents before.processes m)
+    (stands : StandsFor before.files before.views was) (kinds : AreKinds was) (named : IsNamedInA p opened before)
+  where
+    abbrev found : OpenFile
+    found = (named was stands kinds).found
 
-  found_is : open_file was p (regs_at m p).a ≡ Some found
-  found_is = subst (λ (r : Regs). open_file was p r.a ≡ Some found) (regs-tied before.processes m p tied) (named was stands kinds).is
+    found_is : open_file was p (regs_at m p).a ≡ Some found
+    found_is = subst (λ (r : Regs). open_file was p r.a ≡ Some found) (regs-tied before.processes m p tied) (named was stands kinds).is
 
-  found-open : IsOpen was opened found
-  found-open = open-of before.files before.views was p (record_at before.processes.table p).regs.a opened (named was stands kinds)
+    found-open : IsOpen was opened found
+    found-open = open-of before.files before.views was p (record_at before.processes.table p).regs.a opened (named was stands kinds)
 
-  pub get-attempt : ((it : OpenFile) → IsOpen was opened it → Ends (gets_status (asker_of m p now) was it (regs_at m p).b) 1 m was now p end after.processes after.files before.views after.views terms) → AttemptsIn 1 Call.GetStt m was now p end terms terms before after
-  get-attempt by =
-      ends-attempt 1 Call.GetStt m was now p end terms before after
-      (subst (λ o. Ends (by_kind o (gets_of_device (asker_of m p now).caller was.io) (λ it. gets_status (asker_of m p now) was it (regs_at m p).b)) 1 m was now p end after.processes after.files before.views after.views terms) (sym found_is)
-      (by found found-open))
+    pub get-attempt : ((it : OpenFile) → IsOpen was opened it
+        → Ends (gets_status (asker_of m p now) was it (regs_at m p).b) 1 m was now p end after.processes after.files
+        before.views after.views terms) → AttemptsIn 1 Call.GetStt m was now p end terms terms before after
+    get-attempt by =
+        ends-attempt 1 Call.GetStt m was now p end terms before after
+        (subst (λ o. Ends (by_kind o (gets_of_device (asker_of m p now).caller was.io)
+        (λ it. gets_status (asker_of m p now) was it (regs_at m p).b)) 1 m was now p end after.processes after.files
+        before.views after.views terms) (sym found_is)
+        (by found found-open))
 
-  pub set-attempt : ((it : OpenFile) → IsOpen was opened it → Ends (sets_status (asker_of m p now) was it (regs_at m p).b) (calls_by_code (asker_of m p now) it) m was now p end after.processes after.files before.views after.views terms) → AttemptsIn (i_setstt_calls (asker_of m p now) was (length terms)) Call.SetStt m was now p end terms terms before after
-  set-attempt by =
-      ends-attempt (i_setstt_calls (asker_of m p now) was (length terms)) Call.SetStt m was now p end terms before after
-      (subst (λ o. Ends (by_kind o (sets_of_device (asker_of m p now).caller was.io) (λ it. sets_status (asker_of m p now) was it (regs_at m p).b)) (option_map_or (calls_by_code (asker_of m p now)) o 0) m was now p end after.processes after.files before.views after.views terms) (sym found_is)
-      (by found found-open))
+    pub set-attempt : ((it : OpenFile) → IsOpen was opened it
+        → Ends (sets_status (asker_of m p now) was it (regs_at m p).b) (calls_by_code (asker_of m p now) it) m was now p
+        end after.processes after.files before.views after.views terms) → AttemptsIn (i_setstt_calls (asker_of m p now)
+        was (length terms)) Call.SetStt m was now p end terms terms before after
+    set-attempt by =
+        ends-attempt (i_setstt_calls (asker_of m p now) was (length terms)) Call.SetStt m was now p end terms before after
+        (subst (λ o. Ends (by_kind o (sets_of_device (asker_of m p now).caller was.io)
+        (λ it. sets_status (asker_of m p now) was it (regs_at m p).b))
+        (option_map_or (calls_by_code (asker_of m p now)) o 0) m was now p end after.processes after.files
+        before.views after.views terms) (sym found_is)
+        (by found found-open))

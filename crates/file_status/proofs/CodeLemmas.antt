@@ -27,7 +27,10 @@ use Rattle.file_status.specs.Status.{IsOpen, setting_calls, uncalled}
 two-fail : (a b : Bool) (one two other : FileStep) → a ≡ false → b ≡ false → (if a then one else (if b then two else other)) ≡ other
 two-fail a b one two other na nb = subst (λ t. (if t then one else (if b then two else other)) ≡ other) (sym na) (subst (λ t. (if t then two else other) ≡ other) (sym nb) refl)
 
-six-fail : (a b c d e f : Bool) (one two three four five six other : FileStep) → a ≡ false → b ≡ false → c ≡ false → d ≡ false → e ≡ false → f ≡ false → (if a then one else (if b then two else (if c then three else (if d then four else (if e then five else (if f then six else other)))))) ≡ other
+six-fail : (a b c d e f : Bool) (one two three four five six other : FileStep) → a ≡ false → b ≡ false → c ≡ false
+    → d ≡ false → e ≡ false → f ≡ false
+    → (if a then one else (if b then two else
+    (if c then three else (if d then four else (if e then five else (if f then six else other)))))) ≡ other
 six-fail a b c d e f one two three four five six other na nb nc nd ne nf =
     subst (λ t. (if t then one else (if b then two else (if c then three else (if d then four else (if e then five else (if f then six else other)))))) ≡ other) (sym na)
     (subst (λ t. (if t then two else (if c then three else (if d then four else (if e then five else (if f then six else other))))) ≡ other) (sym nb)
@@ -36,34 +39,55 @@ six-fail a b c d e f one two three four five six other na nb nc nd ne nf =
     (two-fail e f five six other ne nf))))
 
 -- the code that B has
-pub by-code : (m : Inner) (files : Files) (now : TimePacket) (p : ℕ) (end : CallEnd) (processes : ProcState) (new : FileState) (before after : List DriveView) (terms : List TerminalState) (it : OpenFile) (known code : ℕ) → known ≡ code → Ends (gets_status (asker_of m p now) files it known) 1 m files now p end processes new before after terms → Ends (gets_status (asker_of m p now) files it code) 1 m files now p end processes new before after terms
-by-code m files now p end processes new before after terms it known code is ends = subst (λ n. Ends (gets_status (asker_of m p now) files it n) 1 m files now p end processes new before after terms) is ends
+pub by-code : (m : Inner) (files : Files) (now : TimePacket) (p : ℕ) (end : CallEnd) (processes : ProcState)
+    (new : FileState) (before after : List DriveView) (terms : List TerminalState) (it : OpenFile) (known code : ℕ)
+    → known ≡ code → Ends (gets_status (asker_of m p now) files it known) 1 m files now p end processes new before
+    after terms → Ends (gets_status (asker_of m p now) files it code) 1 m files now p end processes new before after
+    terms
+by-code m files now p end processes new before after terms it known code is ends = subst
+    (λ n. Ends (gets_status (asker_of m p now) files it n) 1 m files now p end processes new before after terms) is
+    ends
 
-pub set-by-code : (m : Inner) (files : Files) (now : TimePacket) (p : ℕ) (end : CallEnd) (processes : ProcState) (new : FileState) (before after : List DriveView) (terms : List TerminalState) (it : OpenFile) (known code : ℕ) → known ≡ code → Ends (sets_status (asker_of m p now) files it known) (setting_calls known (asker_of m p now) it) m files now p end processes new before after terms → Ends (sets_status (asker_of m p now) files it code) (setting_calls code (asker_of m p now) it) m files now p end processes new before after terms
+pub set-by-code : (m : Inner) (files : Files) (now : TimePacket) (p : ℕ) (end : CallEnd) (processes : ProcState)
+    (new : FileState) (before after : List DriveView) (terms : List TerminalState) (it : OpenFile) (known code : ℕ)
+    → known ≡ code → Ends (sets_status (asker_of m p now) files it known) (setting_calls known (asker_of m p now) it)
+    m files now p end processes new before after terms → Ends (sets_status (asker_of m p now) files it code)
+    (setting_calls code (asker_of m p now) it) m files now p end processes new before after terms
 set-by-code m files now p end processes new before after terms it known code is ends =
     subst (λ n. Ends (sets_status (asker_of m p now) files it n) (setting_calls n (asker_of m p now) it) m files now p end processes new before after terms) is ends
 
-module _ (m : Inner) (files : Files) (now : TimePacket) (p : ℕ) (end : CallEnd) (processes : ProcState) (state new : FileState) (views : List DriveView) (terms : List TerminalState) (it : OpenFile) (regs : Regs) (same : regs ≡ regs_at m p) (stands : StandsFor state views files) (new_is : new ≡ uncalled state p) where
-  pub getting-unknown : (code : ℕ) → (code ≡ 0 → ⊥) → (code ≡ 1 → ⊥) → (code ≡ 2 → ⊥) → (code ≡ 5 → ⊥) → (code ≡ 6 → ⊥) → (code ≡ 15 → ⊥) → end ≡ CallEnd.Error E_UNKSVC → Represents processes m → Ends (gets_status (asker_of m p now) files it code) 1 m files now p end processes new views views terms
+module _ (m : Inner) (files : Files) (now : TimePacket) (p : ℕ) (end : CallEnd) (processes : ProcState)
+    (state new : FileState) (views : List DriveView) (terms : List TerminalState) (it : OpenFile) (regs : Regs)
+    (same : regs ≡ regs_at m p) (stands : StandsFor state views files) (new_is : new ≡ uncalled state p) where
+  pub getting-unknown : (code : ℕ) → (code ≡ 0 → ⊥) → (code ≡ 1 → ⊥) → (code ≡ 2 → ⊥) → (code ≡ 5 → ⊥)
+      → (code ≡ 6 → ⊥) → (code ≡ 15 → ⊥) → end ≡ CallEnd.Error E_UNKSVC → Represents processes m
+      → Ends (gets_status (asker_of m p now) files it code) 1 m files now p end processes new views views terms
   getting-unknown code n0 n1 n2 n5 n6 n15 is_end tied =
       subst (λ step. Ends step 1 m files now p end processes new views views terms)
-      (sym (six-fail (code == 0) (code == 1) (code == 2) (code == 5) (code == 6) (code == 15) _ _ _ _ _ _ (refused E_UNKSVC) (ne_eqb code 0 n0) (ne_eqb code 1 n1) (ne_eqb code 2 n2) (ne_eqb code 5 n5) (ne_eqb code 6 n6) (ne_eqb code 15 n15)))
+      (sym (six-fail (code == 0) (code == 1) (code == 2) (code == 5) (code == 6) (code == 15) _ _ _ _ _ _
+      (refused E_UNKSVC) (ne_eqb code 0 n0) (ne_eqb code 1 n1) (ne_eqb code 2 n2) (ne_eqb code 5 n5)
+      (ne_eqb code 6 n6) (ne_eqb code 15 n15)))
       (ends-refused (refused E_UNKSVC) 1 m files now p end processes state new views terms E_UNKSVC refl is_end tied stands new_is)
 
-  pub setting-unknown : (most code : ℕ) → (code ≡ 2 → ⊥) → (code ≡ 28 → ⊥) → end ≡ CallEnd.Error E_UNKSVC → Represents processes m → Ends (sets_status (asker_of m p now) files it code) most m files now p end processes new views views terms
+  pub setting-unknown : (most code : ℕ) → (code ≡ 2 → ⊥) → (code ≡ 28 → ⊥) → end ≡ CallEnd.Error E_UNKSVC
+      → Represents processes m → Ends (sets_status (asker_of m p now) files it code) most m files now p end processes
+      new views views terms
   setting-unknown most code n2 n28 is_end tied =
       subst (λ step. Ends step most m files now p end processes new views views terms)
       (sym (two-fail (code == 2) (code == 28) _ _ (refused E_UNKSVC) (ne_eqb code 2 n2) (ne_eqb code 28 n28)))
       (ends-refused (refused E_UNKSVC) most m files now p end processes state new views terms E_UNKSVC refl is_end tied stands new_is)
 
   -- SS.Ready
-  pub ready-told : end ≡ CallEnd.Done → Represents processes (with_regs_of m p (record regs { b = 0 })) → Ends (gets_status (asker_of m p now) files it 1) 1 m files now p end processes new views views terms
+  pub ready-told : end ≡ CallEnd.Done → Represents processes (with_regs_of m p (record regs { b = 0 }))
+      → Ends (gets_status (asker_of m p now) files it 1) 1 m files now p end processes new views views terms
   ready-told is_end tied =
       ends-done (done (record (regs_at m p) { b = 0 }) files) 1 m files now p end processes state new views terms (record (regs_at m p) { b = 0 }) refl is_end
       (subst (λ (r : Regs). Represents processes (with_regs_of m p (record r { b = 0 }))) same tied) stands new_is
 
   -- SS.Pos
-  pub position-told : (opened : KernelFile) → IsOpen files opened it → end ≡ CallEnd.Done → Represents processes (with_regs_of m p (long_regs regs opened.desc.at)) → Ends (gets_status (asker_of m p now) files it 5) 1 m files now p end processes new views views terms
+  pub position-told : (opened : KernelFile) → IsOpen files opened it → end ≡ CallEnd.Done → Represents processes
+      (with_regs_of m p (long_regs regs opened.desc.at)) → Ends (gets_status (asker_of m p now) files it 5) 1 m files
+      now p end processes new views views terms
   position-told opened open_is is_end tied =
       ends-done (done (long_regs (regs_at m p) it.opened.desc.at) files) 1 m files now p end processes state new views terms (long_regs (regs_at m p) it.opened.desc.at) refl is_end
       (subst (λ (desc : Desc). Represents processes (with_regs_of m p (long_regs (regs_at m p) desc.at))) (sym open_is.desc_is)

@@ -47,7 +47,9 @@ front fd = (fd.attr ∷ word_bytes fd.owner) ++ (fd.modified ++ (fd.links ∷ lo
 front-of : (fd : Fd) (file : DiskFile) → IsFdOf file fd → front fd ≡ descriptor_front file
 front-of fd file is =
     let one : front fd ≡ front (record fd { attr = file.attributes }) = ap (λ a. front (record fd { attr = a })) is.attributes_are in
-    let two : front (record fd { attr = file.attributes }) ≡ front (record fd { attr = file.attributes; owner = file.owner }) = ap (λ o. front (record fd { attr = file.attributes; owner = o })) is.owner_is in
+    let two : front (record fd { attr = file.attributes }) ≡ front
+    (record fd { attr = file.attributes; owner = file.owner }) = ap
+    (λ o. front (record fd { attr = file.attributes; owner = o })) is.owner_is in
     one ∙ two
     ∙ ap (λ n. (file.attributes ∷ word_bytes file.owner) ++ (fd.modified ++ (fd.links ∷ long_bytes n) ++ fd.created)) is.size_is
     ∙ ap (λ l. (file.attributes ∷ word_bytes file.owner) ++ (fd.modified ++ (l ∷ long_bytes (length file.contents)) ++ fd.created)) is.links_are
@@ -55,14 +57,18 @@ front-of fd file is =
     ∙ ap (λ c. (file.attributes ∷ word_bytes file.owner) ++ (file.modified ++ (file.links ∷ long_bytes (length file.contents)) ++ c)) is.created_is
 
 -- its parts, one behind the other
-pub front-told : (fd : Fd) (bytes long : List ℕ) → bytes ≡ (fd.attr ∷ word_bytes fd.owner) ++ (fd.modified ++ (fd.links ∷ long) ++ fd.created) → long ≡ long_bytes fd.size → (file : DiskFile) → IsFdOf file fd → bytes ≡ descriptor_front file
+pub front-told : (fd : Fd) (bytes long : List ℕ) → bytes ≡ (fd.attr ∷ word_bytes fd.owner) ++
+    (fd.modified ++ (fd.links ∷ long) ++ fd.created) → long ≡ long_bytes fd.size → (file : DiskFile) → IsFdOf file fd
+    → bytes ≡ descriptor_front file
 front-told fd bytes long joined is file shown =
     joined ∙ ap (λ l. (fd.attr ∷ word_bytes fd.owner) ++ (fd.modified ++ (fd.links ∷ l) ++ fd.created)) is ∙ front-of fd file shown
 
 -- ---- bytes one behind the other
 
 pub parts-joined : (front modified size created : List ℕ) (links : ℕ) → length front ≡ 3 → length modified ≡ 5 → length size ≡ 4 → length created ≡ 3
-    → get_or front 0 0 ∷ get_or front 1 0 ∷ get_or front 2 0 ∷ get_or modified 0 0 ∷ get_or modified 1 0 ∷ get_or modified 2 0 ∷ get_or modified 3 0 ∷ get_or modified 4 0 ∷ links ∷ get_or size 0 0 ∷ get_or size 1 0 ∷ get_or size 2 0 ∷ get_or size 3 0 ∷ get_or created 0 0 ∷ get_or created 1 0 ∷ get_or created 2 0 ∷ []
+    → get_or front 0 0 ∷ get_or front 1 0 ∷ get_or front 2 0 ∷ get_or modified 0 0 ∷ get_or modified 1 0 ∷ get_or
+    modified 2 0 ∷ get_or modified 3 0 ∷ get_or modified 4 0 ∷ links ∷ get_or size 0 0 ∷ get_or size 1 0 ∷ get_or
+    size 2 0 ∷ get_or size 3 0 ∷ get_or created 0 0 ∷ get_or created 1 0 ∷ get_or created 2 0 ∷ []
     ≡ front ++ (modified ++ (links ∷ size) ++ created)
 parts-joined front modified size created links three_are five_are four_are end_are =
     let c0 = get_or created 0 0 in

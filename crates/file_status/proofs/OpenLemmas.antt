@@ -38,9 +38,12 @@ found-by : (files : Files) (p n : ℕ) (found : OpenFile) → open_file files p 
 found-by files p n found is =
     let one = and-then (λ (opened : OpenPath). option_and_then (open_file_at files opened) (place_of_target opened.desc.target)) (open_path files.io p n) found is in
     let two = and-then (open_file_at files one.0) (place_of_target one.0.desc.target) found one.2 in
-    let three = and-then (λ (v : DiskVolume). option_map (λ (file : DiskFile). let f : OpenFile = record { opened = one.0; place = two.0; volume = v; file = file } in f) (v.files two.0.number)) (volume_at files two.0.drive) found two.2 in
+    let three = and-then (λ (v : DiskVolume). option_map (λ (file : DiskFile). let f : OpenFile = record
+    { opened = one.0; place = two.0; volume = v; file = file } in f) (v.files two.0.number))
+    (volume_at files two.0.drive) found two.2 in
     let four = mapped (λ (file : DiskFile). let f : OpenFile = record { opened = one.0; place = two.0; volume = three.0; file = file } in f) (three.0.files two.0.number) found three.2 in
-    let slot = and-then (λ (s : SysPath). option_map (λ (desc : Desc). let path : OpenPath = record { path = s; desc = desc } in path) (desc_of files.io.paths s.0)) (slot_of files.io.paths p n) one.0 one.1 in
+    let slot = and-then (λ (s : SysPath). option_map (λ (desc : Desc). let path : OpenPath = record
+    { path = s; desc = desc } in path) (desc_of files.io.paths s.0)) (slot_of files.io.paths p n) one.0 one.1 in
     let path = mapped (λ (desc : Desc). let path : OpenPath = record { path = slot.0; desc = desc } in path) (desc_of files.io.paths slot.0.0) one.0 slot.2 in
     subst (λ (f : OpenFile). IsFound files f) four.2
     (record {
@@ -64,11 +67,15 @@ open-of state views files p n opened it =
     }
 
 -- where the kernel's files stand for some, the file is there
-pub file-there : (state : FileState) (views : List DriveView) (p n : ℕ) (opened : KernelFile) → IsSound state views → ((was : Files) → StandsFor state views was → AreKinds was → IsFileOf state views was p n opened) → HasFileAt state.disks views opened.place
+pub file-there : (state : FileState) (views : List DriveView) (p n : ℕ) (opened : KernelFile) → IsSound state views
+    → ((was : Files) → StandsFor state views was → AreKinds was → IsFileOf state views was p n opened)
+    → HasFileAt state.disks views opened.place
 file-there state views p n opened sound named = (named sound.files sound.stands sound.kinds).has
 
 -- a path that may be written is on no directory
-pub data-file-there : (state : FileState) (views : List DriveView) (p n : ℕ) (opened : KernelFile) → IsSound state views → ((was : Files) → StandsFor state views was → AreKinds was → IsFileOf state views was p n opened) → can_write opened.desc.mode ≡ true → HasDataFileAt state.disks views opened.place
+pub data-file-there : (state : FileState) (views : List DriveView) (p n : ℕ) (opened : KernelFile)
+    → IsSound state views → ((was : Files) → StandsFor state views was → AreKinds was → IsFileOf state views was p n
+    opened) → can_write opened.desc.mode ≡ true → HasDataFileAt state.disks views opened.place
 data-file-there state views p n opened sound named may = by opened.is_directory refl
   where
     it : IsFileOf state views sound.files p n opened

@@ -77,7 +77,10 @@ one-at-least v file marks sizing = by (nat_lt (length file.contents) sizing.size
     by false true = omega arith
     by false false = omega arith
 
-module _ (m : Inner) (files : Files) (now : TimePacket) (p : ℕ) (end : CallEnd) (processes : ProcState) (state new : FileState) (before after : List DriveView) (terms : List TerminalState) (disks : List (Option Volume)) (opened : KernelFile) (it : OpenFile) (stands : StandsFor state before files) (open_is : IsOpen files opened it) (new_is : new ≡ uncalled (with_disks state disks) p) where
+module _ (m : Inner) (files : Files) (now : TimePacket) (p : ℕ) (end : CallEnd) (processes : ProcState)
+    (state new : FileState) (before after : List DriveView) (terms : List TerminalState)
+    (disks : List (Option Volume)) (opened : KernelFile) (it : OpenFile) (stands : StandsFor state before files)
+    (open_is : IsOpen files opened it) (new_is : new ≡ uncalled (with_disks state disks) p) where
   abbrev place : FilePlace
   place = opened.place
 
@@ -99,21 +102,38 @@ module _ (m : Inner) (files : Files) (now : TimePacket) (p : ℕ) (end : CallEnd
       (comes (changes (record { drive = at.drive; change = sizes at.number size; effect = λ n. leaves (answers (regs_at m p)) files })))
 
   -- by the size that the registers have
-  size-step : (size : ℕ) → size ≡ long_of (regs_at m p) → can_write opened.desc.mode ≡ true → Ends (reaches place.drive (size_deed size place)) (size_bound size place) m files now p end processes new before after terms → Ends (sets_size (asker_of m p now) files it) (sizing_calls (asker_of m p now) it (long_of (regs_at m p))) m files now p end processes new before after terms
+  size-step : (size : ℕ) → size ≡ long_of (regs_at m p) → can_write opened.desc.mode ≡ true
+      → Ends (reaches place.drive (size_deed size place)) (size_bound size place) m files now p end processes new
+      before after terms → Ends (sets_size (asker_of m p now) files it) (sizing_calls (asker_of m p now) it
+      (long_of (regs_at m p))) m files now p end processes new before after terms
   size-step size size_is may ends =
-      passes (sizing_calls (asker_of m p now) it (long_of (regs_at m p))) m files now p end processes new before after terms (not (can_write it.opened.desc.mode)) E_BMODE (reaches it.place.drive (size_deed (long_of (regs_at m p)) it.place))
+      passes (sizing_calls (asker_of m p now) it (long_of (regs_at m p))) m files now p end processes new before after
+      terms (not (can_write it.opened.desc.mode)) E_BMODE
+      (reaches it.place.drive (size_deed (long_of (regs_at m p)) it.place))
       (ap (λ (desc : Desc). not (can_write desc.mode)) open_is.desc_is ∙ ap not may)
-      (subst (λ (at : FilePlace). Ends (reaches at.drive (size_deed (long_of (regs_at m p)) at)) (size_bound (long_of (regs_at m p)) at) m files now p end processes new before after terms) (sym open_is.place_is)
+      (subst (λ (at : FilePlace). Ends (reaches at.drive (size_deed (long_of (regs_at m p)) at))
+      (size_bound (long_of (regs_at m p)) at) m files now p end processes new before after terms)
+      (sym open_is.place_is)
       (subst (λ n. Ends (reaches place.drive (size_deed n place)) (size_bound n place) m files now p end processes new before after terms) size_is ends))
 
   abbrev SizeChanges : ℕ → Result (Unit {0}) FileFault → Type 0
-  SizeChanges size result = (user : ℕ) → ChangesVolume place (record { change = sizing size; user = user; now = now }) (file_answer result) (drive_calls (record { number = place.number; size = size; now = now }) result) state.disks before disks after
+  SizeChanges size result = (user : ℕ) → ChangesVolume place (record { change = sizing size; user = user; now = now })
+      (file_answer result) (drive_calls (record { number = place.number; size = size; now = now }) result) state.disks
+      before disks after
 
-  size-changed : (size : ℕ) (result : Result (Unit {0}) FileFault) → SizeChanges size result → HasChangedIn (drive_calls (record { number = place.number; size = size; now = now }) result it.volume it.file) (record { change = sizing size; user = user_at m p; now = now }) (file_answer result) place.drive it.volume it.file files (with_disks state disks) before after
+  size-changed : (size : ℕ) (result : Result (Unit {0}) FileFault) → SizeChanges size result
+      → HasChangedIn (drive_calls (record { number = place.number; size = size; now = now }) result it.volume it.file)
+      (record { change = sizing size; user = user_at m p; now = now }) (file_answer result) place.drive it.volume
+      it.file files (with_disks state disks) before after
   size-changed size result changed =
-      has-changed-in state (with_disks state disks) before after files place it.volume it.file (record { change = sizing size; user = user_at m p; now = now }) (file_answer result) (drive_calls (record { number = place.number; size = size; now = now }) result) stands open_is.volume_is open_is.file_is refl refl (changed (user_at m p))
+      has-changed-in state (with_disks state disks) before after files place it.volume it.file
+      (record { change = sizing size; user = user_at m p; now = now }) (file_answer result)
+      (drive_calls (record { number = place.number; size = size; now = now }) result) stands open_is.volume_is
+      open_is.file_is refl refl (changed (user_at m p))
 
-  size-few : (size : ℕ) (result : Result (Unit {0}) FileFault) (left : DiskVolume) → drive_calls (record { number = place.number; size = size; now = now }) result it.volume it.file left ≤ size_bound size place
+  size-few : (size : ℕ) (result : Result (Unit {0}) FileFault) (left : DiskVolume)
+      → drive_calls (record { number = place.number; size = size; now = now }) result it.volume it.file left ≤
+      size_bound size place
   size-few size (Ok done) left = size-at-most it.volume it.file _ (record { number = place.number; size = size; now = now })
   size-few size (Err (Device number)) left = size-at-most it.volume it.file _ (record { number = place.number; size = size; now = now })
   size-few size (Err NoCluster) left = one-at-least it.volume it.file _ (record { number = place.number; size = size; now = now })
@@ -124,28 +144,42 @@ module _ (m : Inner) (files : Files) (now : TimePacket) (p : ℕ) (end : CallEnd
       let it = size-changed size result changed in
       called-more _ (size_bound size place) before after (size-few size result it.changed.left) it.calls
 
-  pub size-set : (regs : Regs) (size : ℕ) → regs ≡ regs_at m p → size ≡ long_of (regs_at m p) → can_write opened.desc.mode ≡ true → SizeChanges size (Ok tt) → end ≡ CallEnd.Done → Represents processes (with_regs_of m p regs) → Ends (sets_size (asker_of m p now) files it) (sizing_calls (asker_of m p now) it (long_of (regs_at m p))) m files now p end processes new before after terms
+  pub size-set : (regs : Regs) (size : ℕ) → regs ≡ regs_at m p → size ≡ long_of (regs_at m p)
+      → can_write opened.desc.mode ≡ true → SizeChanges size (Ok tt) → end ≡ CallEnd.Done → Represents processes
+      (with_regs_of m p regs) → Ends (sets_size (asker_of m p now) files it) (sizing_calls (asker_of m p now) it
+      (long_of (regs_at m p))) m files now p end processes new before after terms
   size-set regs size same size_is may changed is_end tied =
       let made = size-changed size (Ok tt) changed in
       size-step size size_is may
-      (change-made (size_bound size place) m files now p end processes (with_disks state disks) new before after terms place.drive it.volume open_is.volume_is new_is (size-called size (Ok tt) changed) (sizing size) it.file open_is.file_is (regs_at m p) (needs_more size) E_FULL
+      (change-made (size_bound size place) m files now p end processes (with_disks state disks) new before after terms
+      place.drive it.volume open_is.volume_is new_is (size-called size (Ok tt) changed) (sizing size) it.file
+      open_is.file_is (regs_at m p) (needs_more size) E_FULL
       0 made.changed.answers.enough made.changed is_end (subst (λ (r : Regs). Represents processes (with_regs_of m p r)) same tied))
 
-  pub size-failed : (size : ℕ) (fault : FileFault) → size ≡ long_of (regs_at m p) → can_write opened.desc.mode ≡ true → SizeChanges size (Err fault) → end ≡ CallEnd.Error (file_error fault) → Represents processes m → Ends (sets_size (asker_of m p now) files it) (sizing_calls (asker_of m p now) it (long_of (regs_at m p))) m files now p end processes new before after terms
+  pub size-failed : (size : ℕ) (fault : FileFault) → size ≡ long_of (regs_at m p) → can_write opened.desc.mode ≡ true
+      → SizeChanges size (Err fault) → end ≡ CallEnd.Error (file_error fault) → Represents processes m
+      → Ends (sets_size (asker_of m p now) files it) (sizing_calls (asker_of m p now) it (long_of (regs_at m p))) m
+      files now p end processes new before after terms
   size-failed size (Device number) size_is may changed is_end tied =
       let broken = size-changed size (Err (Device number)) changed in
       size-step size size_is may
-      (change-broken (size_bound size place) m files now p end processes (with_disks state disks) new before after terms place.drive it.volume open_is.volume_is new_is (size-called size (Err (Device number)) changed) (sizing size) it.file open_is.file_is (regs_at m p) (needs_more size) E_FULL
+      (change-broken (size_bound size place) m files now p end processes (with_disks state disks) new before after
+      terms place.drive it.volume open_is.volume_is new_is (size-called size (Err (Device number)) changed)
+      (sizing size) it.file open_is.file_is (regs_at m p) (needs_more size) E_FULL
       number stands.drives (λ full. or_left (needs_more size) false full) broken.changed is_end tied)
   size-failed size NoCluster size_is may changed is_end tied =
       let full = size-changed size (Err NoCluster) changed in
       size-step size size_is may
-      (change-refused (size_bound size place) m files now p end processes (with_disks state disks) new before after terms place.drive it.volume open_is.volume_is new_is (size-called size (Err NoCluster) changed) (sizing size) it.file open_is.file_is (regs_at m p) (needs_more size) E_FULL
+      (change-refused (size_bound size place) m files now p end processes (with_disks state disks) new before after
+      terms place.drive it.volume open_is.volume_is new_is (size-called size (Err NoCluster) changed)
+      (sizing size) it.file open_is.file_is (regs_at m p) (needs_more size) E_FULL
       (Err (File NoCluster)) full.changed.answers.few full.changed tt full.changed.answers.same full.changed.moved is_end tied)
   size-failed size TooManyRuns size_is may changed is_end tied =
       let long = size-changed size (Err TooManyRuns) changed in
       size-step size size_is may
-      (change-too_long (size_bound size place) m files now p end processes (with_disks state disks) new before after terms place.drive it.volume open_is.volume_is new_is (size-called size (Err TooManyRuns) changed) (sizing size) it.file open_is.file_is (regs_at m p) (needs_more size) E_FULL
+      (change-too_long (size_bound size place) m files now p end processes (with_disks state disks) new before after
+      terms place.drive it.volume open_is.volume_is new_is (size-called size (Err TooManyRuns) changed)
+      (sizing size) it.file open_is.file_is (regs_at m p) (needs_more size) E_FULL
       long.changed.answers.enough refl long.changed is_end tied)
 
   -- ---- SS.Attr
@@ -161,13 +195,22 @@ module _ (m : Inner) (files : Files) (now : TimePacket) (p : ℕ) (end : CallEnd
       refuses (is_foreign (user_at m p)) E_FNA
       (comes (changes (record { drive = at.drive; change = sets_attributes at.number (regs.x % 256); effect = λ n. leaves (answers (regs_at m p)) files })))
 
-  attribute-step : (regs : Regs) → regs ≡ regs_at m p → Ends (reaches place.drive (attribute_deed regs place)) (attribute_calls it.file (user_at m p)) m files now p end processes new before after terms → Ends (sets_attributes_of (asker_of m p now) files it) (attribute_calls it.file (user_at m p)) m files now p end processes new before after terms
+  attribute-step : (regs : Regs) → regs ≡ regs_at m p → Ends (reaches place.drive (attribute_deed regs place))
+      (attribute_calls it.file (user_at m p)) m files now p end processes new before after terms
+      → Ends (sets_attributes_of (asker_of m p now) files it) (attribute_calls it.file (user_at m p)) m files now p
+      end processes new before after terms
   attribute-step regs same ends =
-      subst (λ (at : FilePlace). Ends (reaches at.drive (attribute_deed (regs_at m p) at)) (attribute_calls it.file (user_at m p)) m files now p end processes new before after terms) (sym open_is.place_is)
+      subst (λ (at : FilePlace). Ends (reaches at.drive (attribute_deed (regs_at m p) at))
+      (attribute_calls it.file (user_at m p)) m files now p end processes new before after terms)
+      (sym open_is.place_is)
       (subst (λ (r : Regs). Ends (reaches place.drive (attribute_deed r place)) (attribute_calls it.file (user_at m p)) m files now p end processes new before after terms) same ends)
 
   abbrev AttributesChange : Regs → ℕ → Result (Unit {0}) DirError → Type 0
-  AttributesChange regs user result = ChangesVolume place (record { change = attributing regs; user = user; now = now }) (numbered result) (λ v file left. attribute_calls file user) state.disks before disks after
+  AttributesChange regs user result = ChangesVolume place (record {
+    change = attributing regs;
+    user = user;
+    now = now;
+  }) (numbered result) (λ v file left. attribute_calls file user) state.disks before disks after
 
   owned : (owns : Bool) → owns ≡ true → not owns ≡ false
   owned true h = refl
@@ -177,23 +220,38 @@ module _ (m : Inner) (files : Files) (now : TimePacket) (p : ℕ) (end : CallEnd
   foreign true h = sym h
   foreign false h = refl
 
-  attributes-changed : (regs : Regs) (user : ℕ) (result : Result (Unit {0}) DirError) → user ≡ user_at m p → AttributesChange regs user result → HasChangedIn (λ left. attribute_calls it.file (user_at m p)) (record { change = attributing regs; user = user_at m p; now = now }) (numbered result) place.drive it.volume it.file files (with_disks state disks) before after
+  attributes-changed : (regs : Regs) (user : ℕ) (result : Result (Unit {0}) DirError) → user ≡ user_at m p
+      → AttributesChange regs user result → HasChangedIn (λ left. attribute_calls it.file (user_at m p))
+      (record { change = attributing regs; user = user_at m p; now = now }) (numbered result) place.drive it.volume
+      it.file files (with_disks state disks) before after
   attributes-changed regs user result who changed =
-      has-changed-in state (with_disks state disks) before after files place it.volume it.file (record { change = attributing regs; user = user_at m p; now = now }) (numbered result) (λ v file left. attribute_calls file (user_at m p)) stands open_is.volume_is open_is.file_is refl refl
+      has-changed-in state (with_disks state disks) before after files place it.volume it.file
+      (record { change = attributing regs; user = user_at m p; now = now }) (numbered result)
+      (λ v file left. attribute_calls file (user_at m p)) stands open_is.volume_is open_is.file_is refl refl
       (subst (λ u. AttributesChange regs u result) who changed)
 
-  pub attributes-set : (regs : Regs) (user : ℕ) → regs ≡ regs_at m p → user ≡ user_at m p → AttributesChange regs user (Ok tt) → end ≡ CallEnd.Done → Represents processes (with_regs_of m p regs) → Ends (sets_attributes_of (asker_of m p now) files it) (attribute_calls it.file (user_at m p)) m files now p end processes new before after terms
+  pub attributes-set : (regs : Regs) (user : ℕ) → regs ≡ regs_at m p → user ≡ user_at m p → AttributesChange regs user
+      (Ok tt) → end ≡ CallEnd.Done → Represents processes (with_regs_of m p regs)
+      → Ends (sets_attributes_of (asker_of m p now) files it) (attribute_calls it.file (user_at m p)) m files now p
+      end processes new before after terms
   attributes-set regs user same who changed is_end tied =
       let made = attributes-changed regs user (Ok tt) who changed in
       attribute-step regs same
-      (change-made (attribute_calls it.file (user_at m p)) m files now p end processes (with_disks state disks) new before after terms place.drive it.volume open_is.volume_is new_is made.calls (attributing regs) it.file open_is.file_is (regs_at m p) (is_foreign (user_at m p)) E_FNA
+      (change-made (attribute_calls it.file (user_at m p)) m files now p end processes (with_disks state disks) new
+      before after terms place.drive it.volume open_is.volume_is new_is made.calls (attributing regs) it.file
+      open_is.file_is (regs_at m p) (is_foreign (user_at m p)) E_FNA
       0 (owned (owns_file it.file (user_at m p)) made.changed.answers.allowed) made.changed is_end (subst (λ (r : Regs). Represents processes (with_regs_of m p r)) same tied))
 
-  pub attributes-failed : (regs : Regs) (user : ℕ) (error : DirError) → regs ≡ regs_at m p → user ≡ user_at m p → AttributesChange regs user (Err error) → end ≡ CallEnd.Error (directory_error error) → Represents processes m → Ends (sets_attributes_of (asker_of m p now) files it) (attribute_calls it.file (user_at m p)) m files now p end processes new before after terms
+  pub attributes-failed : (regs : Regs) (user : ℕ) (error : DirError) → regs ≡ regs_at m p → user ≡ user_at m p
+      → AttributesChange regs user (Err error) → end ≡ CallEnd.Error (directory_error error) → Represents processes m
+      → Ends (sets_attributes_of (asker_of m p now) files it) (attribute_calls it.file (user_at m p)) m files now p
+      end processes new before after terms
   attributes-failed regs user NotAllowed same who changed is_end tied =
       let closed = attributes-changed regs user (Err NotAllowed) who changed in
       attribute-step regs same
-      (change-refused (attribute_calls it.file (user_at m p)) m files now p end processes (with_disks state disks) new before after terms place.drive it.volume open_is.volume_is new_is closed.calls (attributing regs) it.file open_is.file_is (regs_at m p) (is_foreign (user_at m p)) E_FNA
+      (change-refused (attribute_calls it.file (user_at m p)) m files now p end processes (with_disks state disks) new
+      before after terms place.drive it.volume open_is.volume_is new_is closed.calls (attributing regs) it.file
+      open_is.file_is (regs_at m p) (is_foreign (user_at m p)) E_FNA
       (Err NotAllowed) (foreign (owns_file it.file (user_at m p)) closed.changed.answers.forbidden) closed.changed tt closed.changed.answers.same closed.changed.moved is_end tied)
   attributes-failed regs user BadPath same who changed is_end tied = absurd (attributes-changed regs user (Err BadPath) who changed).changed.answers
   attributes-failed regs user NotFound same who changed is_end tied = absurd (attributes-changed regs user (Err NotFound) who changed).changed.answers
@@ -201,7 +259,9 @@ module _ (m : Inner) (files : Files) (now : TimePacket) (p : ℕ) (end : CallEnd
   attributes-failed regs user (File (Device number)) same who changed is_end tied =
       let broken = attributes-changed regs user (Err (File (Device number))) who changed in
       attribute-step regs same
-      (change-broken (attribute_calls it.file (user_at m p)) m files now p end processes (with_disks state disks) new before after terms place.drive it.volume open_is.volume_is new_is broken.calls (attributing regs) it.file open_is.file_is (regs_at m p) (is_foreign (user_at m p)) E_FNA
+      (change-broken (attribute_calls it.file (user_at m p)) m files now p end processes (with_disks state disks) new
+      before after terms place.drive it.volume open_is.volume_is new_is broken.calls (attributing regs) it.file
+      open_is.file_is (regs_at m p) (is_foreign (user_at m p)) E_FNA
       number stands.drives (λ refused. or_left (is_foreign (user_at m p)) _ refused) broken.changed is_end tied)
   attributes-failed regs user (File NoCluster) same who changed is_end tied =
       absurd (none-lacking (free_total it.volume) (attributes-changed regs user (Err (File NoCluster)) who changed).changed.answers.few)
@@ -209,7 +269,12 @@ module _ (m : Inner) (files : Files) (now : TimePacket) (p : ℕ) (end : CallEnd
       absurd (⊎_elim (λ e. let e : false ≡ true = e in cc) (λ it. it) (attributes-changed regs user (Err (File TooManyRuns)) who changed).changed.answers.full)
 
 -- a path that may not be written
-pub size-stopped : (m : Inner) (files : Files) (now : TimePacket) (p : ℕ) (end : CallEnd) (processes : ProcState) (state new : FileState) (views : List DriveView) (terms : List TerminalState) (opened : KernelFile) (it : OpenFile) → StandsFor state views files → IsOpen files opened it → new ≡ uncalled state p → not (can_write opened.desc.mode) ≡ true → end ≡ CallEnd.Error E_BMODE → Represents processes m → Ends (sets_size (asker_of m p now) files it) (sizing_calls (asker_of m p now) it (long_of (regs_at m p))) m files now p end processes new views views terms
+pub size-stopped : (m : Inner) (files : Files) (now : TimePacket) (p : ℕ) (end : CallEnd) (processes : ProcState)
+    (state new : FileState) (views : List DriveView) (terms : List TerminalState) (opened : KernelFile)
+    (it : OpenFile) → StandsFor state views files → IsOpen files opened it → new ≡ uncalled state p
+    → not (can_write opened.desc.mode) ≡ true → end ≡ CallEnd.Error E_BMODE → Represents processes m
+    → Ends (sets_size (asker_of m p now) files it) (sizing_calls (asker_of m p now) it (long_of (regs_at m p))) m
+    files now p end processes new views views terms
 size-stopped m files now p end processes state new views terms opened it stands open_is new_is closed is_end tied =
     stops (sizing_calls (asker_of m p now) it (long_of (regs_at m p))) m files now p end processes new views terms state (not (can_write it.opened.desc.mode)) E_BMODE
     (reaches it.place.drive

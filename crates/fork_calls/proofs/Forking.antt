@@ -35,7 +35,10 @@ made-child made first free child is number some =
     ap (λ (n : ℕ). record { 0 = n }) same
 
 -- a child that is made has its user and its priority from its parent
-pub child-added : (m : Inner) (p child made : Pid) (start : Beginning) (user priority : ℕ) → made ≡ child → user ≡ (record_at m.records p.0).user → priority ≡ (record_at m.records p.0).priority → with_regs_of (with_made (with_own m child.0 start.own) made p user priority) made.0 start.regs ≡ with_new_child m p.0 child.0 start
+pub child-added : (m : Inner) (p child made : Pid) (start : Beginning) (user priority : ℕ) → made ≡ child
+    → user ≡ (record_at m.records p.0).user → priority ≡ (record_at m.records p.0).priority
+    → with_regs_of (with_made (with_own m child.0 start.own) made p user priority) made.0 start.regs ≡ with_new_child
+    m p.0 child.0 start
 child-added m p child made start user priority made_is user_is priority_is = λ i. record {
   memory = m.memory;
   records = with_regs (after_make m.records p (user_is i) (priority_is i)) (made_is i).0 start.regs;

@@ -32,7 +32,9 @@ module _ (m : Inner) (p : ℕ) (program : Program) (new : ProcState) where
   }
 
   module _ (small : nat_lt most_pages program.pages ≡ false) where
-    by_start : (outcome : Result MemoryState MemoryFault) → started m.memory p program.entered.number (blocks_of_pages program.pages) ≡ outcome → (next : MemoryState → CallResult) → loads_program m p program next ≡ changes outcome next
+    by_start : (outcome : Result MemoryState MemoryFault) → started m.memory p program.entered.number
+        (blocks_of_pages program.pages) ≡ outcome → (next : MemoryState → CallResult) → loads_program m p program next
+        ≡ changes outcome next
     by_start outcome is next =
         ap (λ (b : Bool). refuses b E_MEMFUL (changes (started m.memory p program.entered.number (blocks_of_pages program.pages)) next)) small
         ∙ ap (λ (change : Result MemoryState MemoryFault). changes change next) is
@@ -41,19 +43,26 @@ module _ (m : Inner) (p : ℕ) (program : Program) (new : ProcState) where
     further memory = with_parameters (linked memory program.entered.number) p program
 
     -- there is no room
-    pub loaded-refused : (fault : MemoryFault) → AnswersMemory {T = Unit {0}} (begun m.memory p program) m.memory (Err fault) new.memory → ((memory : MemoryState) → RepresentsMemory new.memory memory → Represents new (with_memory m memory)) → IsNotLoaded m p program new (memory_error fault)
+    pub loaded-refused : (fault : MemoryFault) → AnswersMemory {T = Unit {0}} (begun m.memory p program) m.memory
+        (Err fault) new.memory → ((memory : MemoryState) → RepresentsMemory new.memory memory
+        → Represents new (with_memory m memory)) → IsNotLoaded m p program new (memory_error fault)
     loaded-refused fault answers lift =
         let there = by_outcome (started m.memory p program.entered.number (blocks_of_pages program.pages)) answers in record {
           goes = λ next. by_start (Err fault) there.0 next;
           stands = lift m.memory there.1;
         }
       where
-        by_outcome : (outcome : Result MemoryState MemoryFault) → AnswersMemory {T = Unit {0}} (result_map_both further (λ fault. fault) outcome) m.memory (Err fault) new.memory → (outcome ≡ Err fault) × RepresentsMemory new.memory m.memory
+        by_outcome : (outcome : Result MemoryState MemoryFault) → AnswersMemory {T = Unit {0}}
+            (result_map_both further (λ fault. fault) outcome) m.memory (Err fault) new.memory → (outcome ≡ Err fault)
+            × RepresentsMemory new.memory m.memory
         by_outcome (Ok memory) answers = absurd (let no_ok = answers.0 in cc)
         by_outcome (Err other) answers = let same = answers.0 in (cc, answers.1)
 
     -- it is loaded
-    pub loaded-ok : (start : Beginning) → AnswersMemory {T = Unit {0}} (begun m.memory p program) m.memory (Ok tt) new.memory → ((memory : MemoryState) → RepresentsMemory new.memory memory → Represents new (with_memory m memory)) → start.regs ≡ start_regs program → start.own ≡ start_own program → IsLoaded m p program new start
+    pub loaded-ok : (start : Beginning) → AnswersMemory {T = Unit {0}} (begun m.memory p program) m.memory (Ok tt)
+        new.memory → ((memory : MemoryState) → RepresentsMemory new.memory memory
+        → Represents new (with_memory m memory)) → start.regs ≡ start_regs program → start.own ≡ start_own program
+        → IsLoaded m p program new start
     loaded-ok start answers lift regs own =
         let there = by_outcome (started m.memory p program.entered.number (blocks_of_pages program.pages)) answers in record {
           memory = there.0;
@@ -63,6 +72,8 @@ module _ (m : Inner) (p : ℕ) (program : Program) (new : ProcState) where
           own = own;
         }
       where
-        by_outcome : (outcome : Result MemoryState MemoryFault) → AnswersMemory {T = Unit {0}} (result_map_both further (λ fault. fault) outcome) m.memory (Ok tt) new.memory → (memory : MemoryState) × (outcome ≡ Ok memory) × RepresentsMemory new.memory (further memory)
+        by_outcome : (outcome : Result MemoryState MemoryFault) → AnswersMemory {T = Unit {0}}
+            (result_map_both further (λ fault. fault) outcome) m.memory (Ok tt) new.memory → (memory : MemoryState) ×
+            (outcome ≡ Ok memory) × RepresentsMemory new.memory (further memory)
         by_outcome (Ok memory) answers = (memory, refl, answers.1)
         by_outcome (Err fault) answers = absurd (let no_ok = answers.0 in cc)

@@ -38,7 +38,9 @@ module _ (entries : List (Option ModuleEntry)) (kind : ℕ) where
     found-nameless next = goes_on None next
 
     module _ (name : List ℕ) where
-      by_number : (place : Option ℕ) → found_module entries name kind ≡ place → (next : List ℕ → Entered → CallResult) → finds_program entries kind (Some name) next ≡ needs (option_and_then (entered_at entries) place) E_MNF (λ found. by_kind next name found)
+      by_number : (place : Option ℕ) → found_module entries name kind ≡ place → (next : List ℕ → Entered → CallResult)
+          → finds_program entries kind (Some name) next ≡ needs (option_and_then (entered_at entries) place) E_MNF
+          (λ found. by_kind next name found)
       by_number place is next = goes_on (Some name) next ∙ ap (λ (found : Option ℕ). needs (option_and_then (entered_at entries) found) E_MNF (λ found. by_kind next name found)) is
 
       -- no module is found
@@ -116,7 +118,10 @@ module _ (m : Inner) (p : ℕ) where
         read-unfound number unfound next = by_program next ∙ unfound (found_next next bytes)
 
         -- there is one
-        pub read-found : (program : NamedProgram) (buffer : List ℕ) → IsFound m.memory.modules (regs_at m p).a (module_name name) program.id.0 program.count → ((entry : ModuleEntry) → module_entry_at m.memory.modules program.id.0 ≡ Some entry → program.pages ≡ area_pages entry (regs_at m p).b (length bytes)) → bytes ≡ take program.parameters buffer → IsRead m p program buffer
+        pub read-found : (program : NamedProgram) (buffer : List ℕ) → IsFound m.memory.modules (regs_at m p).a
+            (module_name name) program.id.0 program.count → ((entry : ModuleEntry) → module_entry_at m.memory.modules
+            program.id.0 ≡ Some entry → program.pages ≡ area_pages entry (regs_at m p).b (length bytes))
+            → bytes ≡ take program.parameters buffer → IsRead m p program buffer
         read-found program buffer found pages front = record {
           entry = found.entry;
           is = found.is;

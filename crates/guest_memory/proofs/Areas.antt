@@ -34,6 +34,8 @@ module _ (memory : Memory) (process : ℕ) (within : process < 33) where
       from_zero k = omega arith
 
 -- a run that was read from the same cells
-pub run-read : (cells other : ℕ → Option ℕ) (at most : ℕ) (result : Option ℕ) (into : List ℕ) → IfNone result (run_bytes cells at most ≡ None) → IfSome result (λ count. run_bytes cells at most ≡ Some (take count into)) → cells ≡ other → run_bytes other at most ≡ option_map (λ count. take count into) result
+pub run-read : (cells other : ℕ → Option ℕ) (at most : ℕ) (result : Option ℕ) (into : List ℕ)
+    → IfNone result (run_bytes cells at most ≡ None) → IfSome result (λ count. run_bytes cells at most ≡ Some
+    (take count into)) → cells ≡ other → run_bytes other at most ≡ option_map (λ count. take count into) result
 run-read cells other at most None into none some same = ap (λ (c : ℕ → Option ℕ). run_bytes c at most) (sym same) ∙ none
 run-read cells other at most (Some count) into none some same = ap (λ (c : ℕ → Option ℕ). run_bytes c at most) (sym same) ∙ some

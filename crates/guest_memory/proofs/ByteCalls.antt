@@ -14,7 +14,10 @@ use Rattle.memory_laws.proofs.Keeping.{map_of}
 use Rattle.memory_laws.proofs.Writing.{write-from, named-from, IsSound-written, represent-written}
 use Rattle.guest_memory.proofs.MapCalls.{is_map_of}
 
-module _ (pool after : Blocks) (maps : List (Slots BlockId)) (entries : List (Option ModuleEntry)) (sound : IsSound pool maps entries) (process : ℕ) (within : process < 33) (old seen now : Slots BlockId) (at : old ≡ get_or maps process old) (seen_is : seen ≡ old) (now_is : now ≡ seen) (before : Blocks) (before_is : before ≡ pool) (beyond : SameBeyond seen before after) where
+module _ (pool after : Blocks) (maps : List (Slots BlockId)) (entries : List (Option ModuleEntry))
+    (sound : IsSound pool maps entries) (process : ℕ) (within : process < 33) (old seen now : Slots BlockId)
+    (at : old ≡ get_or maps process old) (seen_is : seen ≡ old) (now_is : now ≡ seen) (before : Blocks)
+    (before_is : before ≡ pool) (beyond : SameBeyond seen before after) where
   abbrev slots : Slots BlockId
   slots = map_of pool maps entries sound process
 
@@ -27,7 +30,11 @@ module _ (pool after : Blocks) (maps : List (Slots BlockId)) (entries : List (Op
   pub sound-store : IsSound after maps entries
   sound-store = IsSound-written pool after maps entries sound (beyond_is.shape sound.shape) beyond_is.counts
 
-  pub tied-store : (address : ℕ) (bytes : List ℕ) → FitsIn (map_cells (get_or maps process no_slots) pool) address (length bytes) → map_cells now after ≡ store_cells (map_cells seen before) address bytes → (m : MemoryState) → RepresentMemory pool maps entries m → RepresentMemory after maps entries (stored m process address bytes)
+  pub tied-store : (address : ℕ) (bytes : List ℕ) → FitsIn (map_cells (get_or maps process no_slots) pool) address
+      (length bytes) → map_cells now after ≡ store_cells (map_cells seen before) address bytes → (m : MemoryState)
+      → RepresentMemory pool maps entries m → RepresentMemory after maps entries (stored m process address bytes)
   tied-store address bytes fits changed =
       represent-written pool after maps entries sound process within beyond_is (writes_from address bytes) (named-from (map_cells slots pool) address bytes fits.1)
-      (ap (λ (s : Slots BlockId). map_cells s after) (sym (now_is ∙ map_is)) ∙ changed ∙ (λ i. store_cells (map_cells (map_is i) (before_is i)) address bytes) ∙ sym (write-from (map_cells slots pool) address bytes))
+      (ap (λ (s : Slots BlockId). map_cells s after) (sym (now_is ∙ map_is)) ∙ changed ∙
+      (λ i. store_cells (map_cells (map_is i) (before_is i)) address bytes) ∙ sym
+      (write-from (map_cells slots pool) address bytes))

@@ -60,7 +60,9 @@ count-none zero block = refl
 count-none (suc n) zero = refl
 count-none (suc n) (suc block) = count-none n block
 
-module _ (blocks : ℕ) (pool : Blocks) (maps : List (Slots BlockId)) (entries : List (Option ModuleEntry)) (unnamed : pool.counts ≡ replicate blocks 0) (shape : IsPool pool) (maps_are : maps ≡ replicate 33 no_slots) (entries_are : entries ≡ replicate 64 None) where
+module _ (blocks : ℕ) (pool : Blocks) (maps : List (Slots BlockId)) (entries : List (Option ModuleEntry))
+    (unnamed : pool.counts ≡ replicate blocks 0) (shape : IsPool pool) (maps_are : maps ≡ replicate 33 no_slots)
+    (entries_are : entries ≡ replicate 64 None) where
   none : (block : ℕ) → reference_count pool block ≡ 0
   none block = ap (λ (counts : List ℕ). get_or counts block 0) unnamed ∙ count-none blocks block
 
@@ -75,7 +77,8 @@ module _ (blocks : ℕ) (pool : Blocks) (maps : List (Slots BlockId)) (entries :
     processes = ap (λ (all : List (Slots BlockId)). length all) maps_are ∙ length-replicate {A = Slots BlockId} 33 no_slots;
     numbers = ap (λ (all : List (Option ModuleEntry)). length all) entries_are ∙ length-replicate {A = Option ModuleEntry} 64 None;
     counted = λ block. none block ∙ sym (ap (times block) references-none);
-    held = subst (λ (all : List (Slots BlockId)). (k : ℕ) (d : Slots BlockId) → k < length all → IsHeld pool entries (get_or all k d)) (sym maps_are) (All-replicate (IsHeld pool entries) 33 no_slots (IsHeld-none pool entries));
+    held = subst (λ (all : List (Slots BlockId)). (k : ℕ) (d : Slots BlockId) → k < length all → IsHeld pool entries
+        (get_or all k d)) (sym maps_are) (All-replicate (IsHeld pool entries) 33 no_slots (IsHeld-none pool entries));
     groups = record {
       each = λ number entry is. absurd (no_entry 64 number entry (ap (λ (all : List (Option ModuleEntry)). module_entry_at all number) (sym entries_are) ∙ is));
       same = λ number other entry another is is_too block has has_too. absurd (no_entry 64 number entry (ap (λ (all : List (Option ModuleEntry)). module_entry_at all number) (sym entries_are) ∙ is));

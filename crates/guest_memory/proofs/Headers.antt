@@ -51,11 +51,15 @@ module _ (memory : Memory) (number : ℕ) (some : IsSome (module_entry_at (modul
         ∙ ap Some same
 
 -- a group that begins at a slot fits into the map
-pub slot-fits : (memory : Memory) (process : ℕ) → process < 33 → (number : ℕ) → IsSome (module_entry_at (modules_of memory) number) → (result : Option ℕ) → result ≡ slot_of_group memory process number → IfSome result (λ slot. slot + group_len memory number ≤ 8)
+pub slot-fits : (memory : Memory) (process : ℕ) → process < 33 → (number : ℕ)
+    → IsSome (module_entry_at (modules_of memory) number) → (result : Option ℕ) → result ≡ slot_of_group memory
+    process number → IfSome result (λ slot. slot + group_len memory number ≤ 8)
 slot-fits memory process within number some None _ = tt
 slot-fits memory process within number some (Some slot) is_slot =
     let pool = memory.pool in
     let maps = memory.maps.items in
     let dir = memory.dir in
-    let begins = begins_at pool maps dir memory.sound process within number (entry memory number some) (is memory number some) slot (sym (slot_of_entry pool maps dir memory.sound process within number some) ∙ sym is_slot) in
+    let begins = begins_at pool maps dir memory.sound process within number (entry memory number some)
+    (is memory number some) slot (sym (slot_of_entry pool maps dir memory.sound process within number some) ∙ sym
+    is_slot) in
     omega (arith, len_is memory number some, (held_at pool maps dir memory.sound process within).map.group_fits slot _ begins.length_is)

@@ -17,7 +17,8 @@ use Rattle.guest_memory.specs.Pieces.{IsPiece}
 line_at-unnamed : (cells : Cells) (at most : ℕ) → user_cell cells at ≡ None → line_at cells at (suc most) ≡ None
 line_at-unnamed cells at most is = rw is refl
 
-line_at-named : (cells : Cells) (at most byte : ℕ) → user_cell cells at ≡ Some byte → line_at cells at (suc most) ≡ (if byte == 13 then Some (13 ∷ []) else option_map (λ line. byte ∷ line) (line_at cells (at + 1) most))
+line_at-named : (cells : Cells) (at most byte : ℕ) → user_cell cells at ≡ Some byte → line_at cells at (suc most) ≡
+    (if byte == 13 then Some (13 ∷ []) else option_map (λ line. byte ∷ line) (line_at cells (at + 1) most))
 line_at-named cells at most byte is = rw is refl
 
 -- bytes before others, and others before these
@@ -31,7 +32,8 @@ user_cell-held cells at byte bytes fits holds =
     cond-true (nat_lt at 65536) (cells at) None (lt-ltb at 65536 (omega arith))
     ∙ subst (λ (n : ℕ). cells n ≡ Some byte) (let e : at + 0 ≡ at = omega arith in e) (holds 0 (omega arith))
 
-user_cell-in : (cells : Cells) (at : ℕ) (bytes : List ℕ) (place : ℕ) → at + length bytes ≤ 65536 → place < length bytes → Holds cells at bytes → user_cell cells (at + place) ≡ Some (get_or bytes place 0)
+user_cell-in : (cells : Cells) (at : ℕ) (bytes : List ℕ) (place : ℕ) → at + length bytes ≤ 65536
+    → place < length bytes → Holds cells at bytes → user_cell cells (at + place) ≡ Some (get_or bytes place 0)
 user_cell-in cells at bytes place fits within holds =
     cond-true (nat_lt (at + place) 65536) (cells (at + place)) None (lt-ltb (at + place) 65536 (omega arith))
     ∙ holds place within ∙ slice_get-get_or bytes place 0 within
@@ -41,7 +43,8 @@ held-behind cells at byte bytes holds k within =
     subst (λ (n : ℕ). cells n ≡ slice_get bytes k) (let e : at + suc k ≡ (at + 1) + k = omega arith in e) (holds (suc k) (omega arith))
 
 -- a line that begins with so many bytes that are no carriage return
-line-through : (cells : Cells) (at most count : ℕ) (piece : List ℕ) → Holds cells at piece → at + length piece ≤ 65536 → count ≤ length piece → count ≤ most → ((k : ℕ) → k < count → get_or piece k 0 ≢ 13)
+line-through : (cells : Cells) (at most count : ℕ) (piece : List ℕ) → Holds cells at piece → at + length piece ≤ 65536
+    → count ≤ length piece → count ≤ most → ((k : ℕ) → k < count → get_or piece k 0 ≢ 13)
     → line_at cells at most ≡ option_map (λ rest. take count piece ++ rest) (line_at cells (at + count) (most - count))
 line-through cells at most zero piece holds fits inside few none =
     let e : at + 0 ≡ at = omega arith in
@@ -55,8 +58,12 @@ line-through cells at most (suc count) [] holds fits inside few none = absurd (o
 line-through cells at zero (suc count) (byte ∷ piece) holds fits inside few none = absurd (omega arith)
 line-through cells at (suc most) (suc count) (byte ∷ piece) holds fits inside few none =
     let other : (byte == 13) ≡ false = ne_eqb byte 13 (none 0 (omega arith)) in
-    let here : line_at cells at (suc most) ≡ option_map (λ line. byte ∷ line) (line_at cells (at + 1) most) = line_at-named cells at most byte (user_cell-held cells at byte piece fits holds) ∙ rw other refl in
-    let rest : line_at cells (at + 1) most ≡ option_map (λ line. take count piece ++ line) (line_at cells ((at + 1) + count) (most - count)) = line-through cells (at + 1) most count piece (held-behind cells at byte piece holds) (omega arith) (omega arith) (omega arith) (λ k within. none (suc k) (omega arith)) in
+    let here : line_at cells at (suc most) ≡ option_map (λ line. byte ∷ line) (line_at cells (at + 1) most) =
+    line_at-named cells at most byte (user_cell-held cells at byte piece fits holds) ∙ rw other refl in
+    let rest : line_at cells (at + 1) most ≡ option_map (λ line. take count piece ++ line)
+    (line_at cells ((at + 1) + count) (most - count)) = line-through cells (at + 1) most count piece
+    (held-behind cells at byte piece holds) (omega arith) (omega arith) (omega arith)
+    (λ k within. none (suc k) (omega arith)) in
     let e : (at + 1) + count ≡ at + suc count = omega arith in
     let f : most - count ≡ suc most - suc count = omega arith in
     here ∙ ap (option_map (λ line. byte ∷ line)) rest ∙ longer (byte ∷ []) (take count piece) (line_at cells ((at + 1) + count) (most - count))
@@ -95,7 +102,9 @@ put-room first count into new within same =
 none-passes : (p : ℕ → Bool) (xs : List ℕ) → position p xs ≡ None → (k : ℕ) → k < length xs → p (get_or xs k 0) ≡ false
 none-passes p xs none k within =
     elim (cases_lt (position_or_len p xs) (length xs)) [
-      | inl first ↦ absurd (none-some (position_or_len p xs) (sym none ∙ cond-true (nat_lt (position_or_len p xs) (length xs)) (Some (position_or_len p xs)) None (lt-ltb (position_or_len p xs) (length xs) first)))
+      | inl first ↦ absurd (none-some (position_or_len p xs)
+          (sym none ∙ cond-true (nat_lt (position_or_len p xs) (length xs)) (Some (position_or_len p xs)) None
+          (lt-ltb (position_or_len p xs) (length xs) first)))
       | inr past ↦ fails_before_first p xs k 0 (omega arith)
     ]
 
@@ -109,22 +118,30 @@ module _ (cells : Cells) (at most count : ℕ) (into : List ℕ) (left : count <
 
   module _ (bytes : List ℕ) (piece : IsPiece cells (at + count) (most - count) bytes) (now : List ℕ) where
     -- a carriage return ends the line
-    pub line-ends : (place : ℕ) → position (λ byte. byte == 13) bytes ≡ Some place → take (count + (place + 1)) now ≡ take count into ++ take (place + 1) bytes → line_at cells at most ≡ Some (take (count + (place + 1)) now)
+    pub line-ends : (place : ℕ) → position (λ byte. byte == 13) bytes ≡ Some place → take (count + (place + 1)) now ≡
+        take count into ++ take (place + 1) bytes → line_at cells at most ≡ Some (take (count + (place + 1)) now)
     line-ends place found is =
         let first = position-Some (λ byte. byte == 13) bytes place 0 found in
-        let through = line-through cells (at + count) (most - count) place bytes piece.holds piece.fits (omega (arith, first.0)) (omega (arith, first.0, piece.few)) (λ k within. eqb-false (get_or bytes k 0) 13 (first.2 k within)) in
+        let through = line-through cells (at + count) (most - count) place bytes piece.holds piece.fits
+        (omega (arith, first.0)) (omega (arith, first.0, piece.few)) (λ k within. eqb-false (get_or bytes k 0) 13
+        (first.2 k within)) in
         let still : (most - count) - place ≡ suc (most - (count + (place + 1))) = omega (arith, first.0, piece.few) in
         let here : line_at cells ((at + count) + place) (suc (most - (count + (place + 1)))) ≡ Some (13 ∷ []) =
-        line_at-named cells ((at + count) + place) (most - (count + (place + 1))) (get_or bytes place 0) (user_cell-in cells (at + count) bytes place piece.fits first.0 piece.holds) ∙ rw first.1 refl in
+        line_at-named cells ((at + count) + place) (most - (count + (place + 1))) (get_or bytes place 0)
+        (user_cell-in cells (at + count) bytes place piece.fits first.0 piece.holds) ∙ rw first.1 refl in
         let return : get_or bytes place 0 ≡ 13 = eqb-true (get_or bytes place 0) 13 first.1 in
         so_far
-        ∙ ap (option_map (λ rest. take count into ++ rest)) (through ∙ ap (λ n. option_map (λ rest. take place bytes ++ rest) (line_at cells ((at + count) + place) n)) still ∙ ap (option_map (λ rest. take place bytes ++ rest)) here)
+        ∙ ap (option_map (λ rest. take count into ++ rest))
+        (through ∙ ap (λ n. option_map (λ rest. take place bytes ++ rest) (line_at cells ((at + count) + place)
+        n)) still ∙ ap (option_map (λ rest. take place bytes ++ rest)) here)
         ∙ ap Some (ap (λ b. take count into ++ (take place bytes ++ b ∷ [])) (sym return) ∙ ap (λ front. take count into ++ front) (sym (take_more bytes place 0 first.0)) ∙ sym is)
 
     -- other bytes go onto it
     pub line-more : position (λ byte. byte == 13) bytes ≡ None → take (count + length bytes) now ≡ take count into ++ take (length bytes) bytes → IsReadTo cells at most (count + length bytes) now
     line-more none is =
-        let through = line-through cells (at + count) (most - count) (length bytes) bytes piece.holds piece.fits (omega arith) piece.few (λ k within. eqb-false (get_or bytes k 0) 13 (none-passes (λ byte. byte == 13) bytes none k within)) in
+        let through = line-through cells (at + count) (most - count) (length bytes) bytes piece.holds piece.fits
+        (omega arith) piece.few (λ k within. eqb-false (get_or bytes k 0) 13 (none-passes (λ byte. byte == 13)
+        bytes none k within)) in
         let e : (at + count) + length bytes ≡ at + (count + length bytes) = omega arith in
         let f : (most - count) - length bytes ≡ most - (count + length bytes) = omega arith in
         let rest = line_at cells ((at + count) + length bytes) ((most - count) - length bytes) in
@@ -142,14 +159,18 @@ module _ (cells : Cells) (at most count : ℕ) (into : List ℕ) (left : count <
         (omega (arith, len_is, within), omega (arith, len_is))
 
     -- the line ends with them
-    pub line-found : (found : Option ℕ) → position (λ byte. byte == 13) bytes ≡ found → (len : ℕ) → len ≡ option_map_or (λ place. place + 1) found (length bytes) → take (count + len) now ≡ take count into ++ take len bytes → is_some found ≡ true → line_at cells at most ≡ Some (take (count + len) now)
+    pub line-found : (found : Option ℕ) → position (λ byte. byte == 13) bytes ≡ found → (len : ℕ)
+        → len ≡ option_map_or (λ place. place + 1) found (length bytes) → take (count + len) now ≡ take count into ++
+        take len bytes → is_some found ≡ true → line_at cells at most ≡ Some (take (count + len) now)
     line-found None is len len_is written some = absurd (false≢true some)
     line-found (Some place) is len len_is written some =
         subst (λ (n : ℕ). line_at cells at most ≡ Some (take (count + n) now)) (sym len_is)
         (line-ends place is (subst (λ (n : ℕ). take (count + n) now ≡ take count into ++ take n bytes) len_is written))
 
     -- the line goes on behind them
-    pub line-open : (found : Option ℕ) → position (λ byte. byte == 13) bytes ≡ found → (len : ℕ) → len ≡ option_map_or (λ place. place + 1) found (length bytes) → take (count + len) now ≡ take count into ++ take len bytes → is_some found ≡ false → IsReadTo cells at most (count + len) now
+    pub line-open : (found : Option ℕ) → position (λ byte. byte == 13) bytes ≡ found → (len : ℕ) → len ≡ option_map_or
+        (λ place. place + 1) found (length bytes) → take (count + len) now ≡ take count into ++ take len bytes
+        → is_some found ≡ false → IsReadTo cells at most (count + len) now
     line-open (Some place) is len len_is written none = absurd (false≢true (sym none))
     line-open None is len len_is written none =
         subst (λ (n : ℕ). IsReadTo cells at most (count + n) now) (sym len_is)

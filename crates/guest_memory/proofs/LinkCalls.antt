@@ -59,7 +59,10 @@ module _ (pool : Blocks) (maps : List (Slots BlockId)) (entries : List (Option M
 
   -- ---- a link less
 
-  module _ (later : List (Option ModuleEntry)) (answer : Option Group) (list : option_map (after_unlink entries number) (module_entry_at entries number) ≡ Some later) (group : option_map (leaving_group entries number) (module_entry_at entries number) ≡ Some (option_map group_block_numbers answer)) where
+  module _ (later : List (Option ModuleEntry)) (answer : Option Group)
+      (list : option_map (after_unlink entries number) (module_entry_at entries number) ≡ Some later)
+      (group : option_map (leaving_group entries number) (module_entry_at entries number) ≡ Some
+      (option_map group_block_numbers answer)) where
     after_is : later ≡ after_unlink entries number entry
     after_is = sym (same_Some (after_unlink entries number entry) later (sym (ap (option_map (after_unlink entries number)) is) ∙ list))
 
@@ -76,7 +79,9 @@ module _ (pool : Blocks) (maps : List (Slots BlockId)) (entries : List (Option M
 
     pub sound-unlink_stays : answer ≡ None → IsSound pool maps later
     sound-unlink_stays none =
-        subst (IsSound pool maps) (sym (after_is ∙ cond-false (is_leaving entries number entry) (modules_without_group (with_unlinked entries number entry) entry.group) (with_unlinked entries number entry) (stays none)))
+        subst (IsSound pool maps) (sym (after_is ∙ cond-false (is_leaving entries number entry)
+        (modules_without_group (with_unlinked entries number entry) entry.group) (with_unlinked entries number
+        entry) (stays none)))
         (IsSound-less pool maps entries sound number entry is)
 
     pub tied-unlink_stays : answer ≡ None → (m : MemoryState) → RepresentMemory pool maps entries m → RepresentMemory pool maps later (unlinked m number)
@@ -91,7 +96,8 @@ module _ (pool : Blocks) (maps : List (Slots BlockId)) (entries : List (Option M
       goes : (is_leaving entries number entry ≡ true) × (entry.group ≡ group_block_numbers gone)
       goes = by_test (is_leaving entries number entry) refl (leaving_is ∙ ap (option_map group_block_numbers) answer_is)
         where
-          by_test : (test : Bool) → is_leaving entries number entry ≡ test → (if test then Some entry.group else None) ≡ Some (group_block_numbers gone) → (test ≡ true) × (entry.group ≡ group_block_numbers gone)
+          by_test : (test : Bool) → is_leaving entries number entry ≡ test → (if test then Some entry.group else None)
+              ≡ Some (group_block_numbers gone) → (test ≡ true) × (entry.group ≡ group_block_numbers gone)
           by_test true at this = (refl, same_Some entry.group (group_block_numbers gone) this)
           by_test false at this = absurd (none-some (group_block_numbers gone) this)
 
@@ -103,25 +109,35 @@ module _ (pool : Blocks) (maps : List (Slots BlockId)) (entries : List (Option M
 
       module _ (after : Blocks) (given : after ≡ pool_after_giving pool (group_blocks gone)) where
         counts : (block : ℕ) → reference_count after block ≡ reference_count pool block - times block entry.group
-        counts block = ap (λ (p : Blocks). reference_count p block) given ∙ count_of-given_all pool (group_blocks gone) block ∙ ap (λ (g : List ℕ). reference_count pool block - times block g) (sym goes.1)
+        counts block = ap (λ (p : Blocks). reference_count p block) given ∙ count_of-given_all pool
+            (group_blocks gone) block ∙ ap (λ (g : List ℕ). reference_count pool block - times block g) (sym goes.1)
 
         pub sound-unlink_leaves : (IsPool pool → IsPool after) → IsSound after maps later
         sound-unlink_leaves shape =
-            subst (IsSound after maps) (sym (after_is ∙ cond-true (is_leaving entries number entry) (modules_without_group (with_unlinked entries number entry) entry.group) (with_unlinked entries number entry) goes.0))
-            (IsSound-left pool maps (with_unlinked entries number entry) (IsSound-less pool maps entries sound number entry is) number (entry_unlinked entry) (at_less pool maps entries sound number entry is) after counts (shape sound.shape))
+            subst (IsSound after maps) (sym (after_is ∙ cond-true (is_leaving entries number entry)
+            (modules_without_group (with_unlinked entries number entry) entry.group) (with_unlinked entries number
+            entry) goes.0))
+            (IsSound-left pool maps (with_unlinked entries number entry) (IsSound-less pool maps entries sound number
+            entry is) number (entry_unlinked entry) (at_less pool maps entries sound number entry is) after counts
+            (shape sound.shape))
 
         pub tied-unlink_leaves : (m : MemoryState) → RepresentMemory pool maps entries m → RepresentMemory after maps later (unlinked m number)
         tied-unlink_leaves m tied =
-            subst (λ (list : List (Option ModuleEntry)). RepresentMemory after maps list (unlinked m number)) (sym after_is) (represent-unlinked pool maps entries sound number entry is after (group_blocks gone) given m tied)
+            subst (λ (list : List (Option ModuleEntry)). RepresentMemory after maps list (unlinked m number))
+            (sym after_is) (represent-unlinked pool maps entries sound number entry is after (group_blocks gone)
+            given m tied)
 
         pub leaves_so : (m : MemoryState) → RepresentMemory pool maps entries m → true ≡ is_group_leaving m number
         leaves_so m tied = sym (is_group_leaving-tied pool maps entries sound number entry is m tied ∙ goes.0)
 
 -- the next block that is given back is live
-pub next_given : (pool now : Blocks) (ids : List BlockId) (k : ℕ) (d : BlockId) → k < length ids → All (λ id. IsLive pool id.0) ids → AllPairs (λ a b. a ≢ b) ids → now ≡ pool_after_giving pool (take k ids) → IsLive now (get_or ids k d).0
+pub next_given : (pool now : Blocks) (ids : List BlockId) (k : ℕ) (d : BlockId) → k < length ids
+    → All (λ id. IsLive pool id.0) ids → AllPairs (λ a b. a ≢ b) ids → now ≡ pool_after_giving pool (take k ids)
+    → IsLive now (get_or ids k d).0
 next_given pool now ids k d within live different given =
     let block = get_or ids k d in
     let others : All (λ (id : BlockId). id.0 ≢ block.0) (take k ids) = λ j e inside same.
     let below : j < k = omega (arith, length-take k ids) in
-    absurd (different j k d below within (sym (get_or-take k ids j d below) ∙ same_id (get_or (take k ids) j d) block (ap (λ (id : BlockId). id.0) (get_or_default (take k ids) j d e inside) ∙ same))) in
+    absurd (different j k d below within (sym (get_or-take k ids j d below) ∙ same_id (get_or (take k ids) j d) block
+    (ap (λ (id : BlockId). id.0) (get_or_default (take k ids) j d e inside) ∙ same))) in
     omega (arith, ap (λ (p : Blocks). reference_count p block.0) given, given_others pool (take k ids) block.0 others, live k d within)

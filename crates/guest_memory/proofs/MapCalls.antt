@@ -18,7 +18,9 @@ use Rattle.memory_laws.proofs.Keeping.{map_of, held_at, names_live}
 use Rattle.memory_laws.proofs.Runs.{is_free_run-iff}
 use Rattle.memory_laws.proofs.DataArea.{IsSound-cleared, represent-cleared, IsSound-cut, represent-cut, grown-full, grown-no_ram, grown-ok, with_growth, IsSound-grown, represent-grown}
 
-module _ (pool : Blocks) (maps : List (Slots BlockId)) (entries : List (Option ModuleEntry)) (sound : IsSound pool maps entries) (process : ℕ) (within : process < 33) (old : Slots BlockId) (at : old ≡ get_or maps process old) where
+module _ (pool : Blocks) (maps : List (Slots BlockId)) (entries : List (Option ModuleEntry))
+    (sound : IsSound pool maps entries) (process : ℕ) (within : process < 33) (old : Slots BlockId)
+    (at : old ≡ get_or maps process old) where
   -- the map that was borrowed is that of the process
   pub is_map_of : old ≡ map_of pool maps entries sound process
   is_map_of = at ∙ get_or_default maps process old no_slots (omega (arith, sound.processes))
@@ -31,19 +33,26 @@ module _ (pool : Blocks) (maps : List (Slots BlockId)) (entries : List (Option M
 
   -- ---- clear
 
-  pub sound-clear : (new : Slots BlockId) (after : Blocks) → new ≡ no_slots → after ≡ pool_after_giving pool (blocks_in old.places) → IsMap new → (IsPool pool → IsPool after) → IsSound after (set maps process new) entries
+  pub sound-clear : (new : Slots BlockId) (after : Blocks) → new ≡ no_slots → after ≡ pool_after_giving pool
+      (blocks_in old.places) → IsMap new → (IsPool pool → IsPool after) → IsSound after (set maps process new) entries
   sound-clear new after empty given shape pool_is =
       subst (λ (s : Slots BlockId). IsSound after (set maps process s) entries) (sym empty)
-      (IsSound-cleared pool maps entries sound process within after (given ∙ ap (λ (s : Slots BlockId). pool_after_giving pool (blocks_in s.places)) is_map_of) (pool_is sound.shape) (subst IsMap empty shape))
+      (IsSound-cleared pool maps entries sound process within after
+      (given ∙ ap (λ (s : Slots BlockId). pool_after_giving pool (blocks_in s.places)) is_map_of)
+      (pool_is sound.shape) (subst IsMap empty shape))
 
-  pub tied-clear : (new : Slots BlockId) (after : Blocks) → new ≡ no_slots → after ≡ pool_after_giving pool (blocks_in old.places) → (m : MemoryState) → RepresentMemory pool maps entries m → RepresentMemory after (set maps process new) entries (cleared m process)
+  pub tied-clear : (new : Slots BlockId) (after : Blocks) → new ≡ no_slots → after ≡ pool_after_giving pool
+      (blocks_in old.places) → (m : MemoryState) → RepresentMemory pool maps entries m → RepresentMemory after
+      (set maps process new) entries (cleared m process)
   tied-clear new after empty given m tied =
       subst (λ (s : Slots BlockId). RepresentMemory after (set maps process s) entries (cleared m process)) (sym empty)
       (represent-cleared pool maps entries sound process within after (given ∙ ap (λ (s : Slots BlockId). pool_after_giving pool (blocks_in s.places)) is_map_of) m tied)
 
   -- ---- cut
 
-  module _ (count : ℕ) (new : Slots BlockId) (after : Blocks) (whole : old.low ≤ count → (new ≡ old) × (after ≡ pool)) (cut_is : count < old.low → new ≡ cut_low_to old count) (given : count < old.low → after ≡ pool_after_giving pool (blocks_between old count old.low)) where
+  module _ (count : ℕ) (new : Slots BlockId) (after : Blocks) (whole : old.low ≤ count → (new ≡ old) × (after ≡ pool))
+      (cut_is : count < old.low → new ≡ cut_low_to old count) (given : count < old.low → after ≡ pool_after_giving
+      pool (blocks_between old count old.low)) where
     given_low : count < old.low → after ≡ pool_after_giving pool (blocks_between (map_of pool maps entries sound process) count (map_of pool maps entries sound process).low)
     given_low shorter = given shorter ∙ ap (λ (s : Slots BlockId). pool_after_giving pool (blocks_between s count s.low)) is_map_of
 
@@ -59,7 +68,9 @@ module _ (pool : Blocks) (maps : List (Slots BlockId)) (entries : List (Option M
           | inl shorter ↦
               let is = cut_low shorter in
               subst (λ (s : Slots BlockId). IsSound after (set maps process s) entries) (sym is)
-              (IsSound-cut pool maps entries sound process within count after (omega (arith, low_is)) (given_low shorter) (pool_is sound.shape) (subst IsMap is shape) (subst (λ (s : Slots BlockId). NamesLiveBlocks s after) is live_after))
+              (IsSound-cut pool maps entries sound process within count after (omega (arith, low_is))
+              (given_low shorter) (pool_is sound.shape) (subst IsMap is shape)
+              (subst (λ (s : Slots BlockId). NamesLiveBlocks s after) is live_after))
           | inr long ↦
               let kept = whole long in
               subst (λ (p : Blocks). IsSound p (set maps process new) entries) (sym kept.1)
@@ -70,19 +81,29 @@ module _ (pool : Blocks) (maps : List (Slots BlockId)) (entries : List (Option M
     tied-cut m tied =
         elim (cases_lt count old.low) [
           | inl shorter ↦
-              let is : map_cut (map_of pool maps entries sound process) count ≡ new = cond-true (nat_lt count (map_of pool maps entries sound process).low) _ _ (lt-ltb count (map_of pool maps entries sound process).low (omega (arith, low_is))) ∙ sym (cut_low shorter) in
+              let is : map_cut (map_of pool maps entries sound process) count ≡ new = cond-true
+              (nat_lt count (map_of pool maps entries sound process).low) _ _
+              (lt-ltb count (map_of pool maps entries sound process).low (omega (arith, low_is))) ∙ sym
+              (cut_low shorter) in
               subst (λ (s : Slots BlockId). RepresentMemory after (set maps process s) entries (cut m process count)) is
               (represent-cut pool maps entries sound process within count after (blocks_between old count old.low) (given shorter) m tied)
           | inr long ↦
               let kept = whole long in
-              let is : map_cut (map_of pool maps entries sound process) count ≡ new = cond-false (nat_lt count (map_of pool maps entries sound process).low) _ _ (le-ltb count (map_of pool maps entries sound process).low (omega (arith, low_is))) ∙ sym is_map_of ∙ sym kept.0 in
+              let is : map_cut (map_of pool maps entries sound process) count ≡ new = cond-false
+              (nat_lt count (map_of pool maps entries sound process).low) _ _
+              (le-ltb count (map_of pool maps entries sound process).low (omega (arith, low_is))) ∙ sym is_map_of
+              ∙ sym kept.0 in
               subst (λ (s : Slots BlockId). RepresentMemory after (set maps process s) entries (cut m process count)) is
               (represent-cut pool maps entries sound process within count after [] kept.1 m tied)
         ]
 
   -- ---- grow
 
-  module _ (count : ℕ) (result : Result (Unit {0}) MapFault) (new : Slots BlockId) (after : Blocks) (no_slot : (result ≡ Err NoSlot) ↔ (IsFreeRun old old.low count → ⊥)) (no_block : (result ≡ Err NoBlock) ↔ (IsFreeRun old old.low count × (free_block_count pool < count))) (refused : OnErr result ((new ≡ old) × (after ≡ pool))) (gains : OnOk result (GainsLow count old pool new after)) where
+  module _ (count : ℕ) (result : Result (Unit {0}) MapFault) (new : Slots BlockId) (after : Blocks)
+      (no_slot : (result ≡ Err NoSlot) ↔ (IsFreeRun old old.low count → ⊥)) (no_block : (result ≡ Err NoBlock) ↔
+      (IsFreeRun old old.low count × (free_block_count pool < count)))
+      (refused : OnErr result ((new ≡ old) × (after ≡ pool)))
+      (gains : OnOk result (GainsLow count old pool new after)) where
     abbrev slots : Slots BlockId
     slots = map_of pool maps entries sound process
 
@@ -107,7 +128,9 @@ module _ (pool : Blocks) (maps : List (Slots BlockId)) (entries : List (Option M
     pub sound-grow : IsMap new → IsSound after (set maps process new) entries
     sound-grow shape = by_result result refl refused gains
       where
-        by_result : (answer : Result (Unit {0}) MapFault) → result ≡ answer → OnErr answer ((new ≡ old) × (after ≡ pool)) → OnOk answer (GainsLow count old pool new after) → IsSound after (set maps process new) entries
+        by_result : (answer : Result (Unit {0}) MapFault) → result ≡ answer
+            → OnErr answer ((new ≡ old) × (after ≡ pool)) → OnOk answer (GainsLow count old pool new after)
+            → IsSound after (set maps process new) entries
         by_result (Ok done) is refused gains =
             IsSound-grown pool maps entries sound process within count new after (run_ok (λ no. cc)) (gained_of gains) shape
         by_result (Err fault) is kept gains =
@@ -121,15 +144,23 @@ module _ (pool : Blocks) (maps : List (Slots BlockId)) (entries : List (Option M
         (subst (λ (all : List (Slots BlockId)). RepresentMemory pool all entries m) (sym (ap (set maps process) kept.0 ∙ unchanged)) tied)
 
     pub grow-full : result ≡ Err NoSlot → (m : MemoryState) → RepresentMemory pool maps entries m → (grown m process count ≡ Err MemFull) × RepresentMemory after (set maps process new) entries m
-    grow-full is m tied =
-        (grown-full pool maps entries sound process within count (λ run. no_slot.0 is (run_back run)) m tied, kept-tied (subst (λ (r : Result (Unit {0}) MapFault). OnErr r ((new ≡ old) × (after ≡ pool))) is refused) m tied)
+    grow-full is m tied = (
+      grown-full pool maps entries sound process within count (λ run. no_slot.0 is (run_back run)) m tied,
+      kept-tied (subst (λ (r : Result (Unit {0}) MapFault). OnErr r ((new ≡ old) × (after ≡ pool))) is refused)
+          m tied,
+    )
 
     pub grow-no_ram : result ≡ Err NoBlock → (m : MemoryState) → RepresentMemory pool maps entries m → (grown m process count ≡ Err NoRam) × RepresentMemory after (set maps process new) entries m
     grow-no_ram is m tied =
-        let why = no_block.0 is in
-        (grown-no_ram pool maps entries sound process within count (run_of why.0) why.1 m tied, kept-tied (subst (λ (r : Result (Unit {0}) MapFault). OnErr r ((new ≡ old) × (after ≡ pool))) is refused) m tied)
+        let why = no_block.0 is in (
+          grown-no_ram pool maps entries sound process within count (run_of why.0) why.1 m tied,
+          kept-tied
+              (subst (λ (r : Result (Unit {0}) MapFault). OnErr r ((new ≡ old) × (after ≡ pool))) is refused) m tied,
+        )
 
-    pub grow-ok : result ≡ Ok tt → (m : MemoryState) → RepresentMemory pool maps entries m → (grown m process count ≡ Ok (with_growth pool maps entries sound process within m count)) × RepresentMemory after (set maps process new) entries (with_growth pool maps entries sound process within m count)
+    pub grow-ok : result ≡ Ok tt → (m : MemoryState) → RepresentMemory pool maps entries m
+        → (grown m process count ≡ Ok (with_growth pool maps entries sound process within m count)) × RepresentMemory
+        after (set maps process new) entries (with_growth pool maps entries sound process within m count)
     grow-ok is m tied =
         let run = run_ok (λ no. cc) in
         let enough : count ≤ free_block_count pool = elim (cases_lt (free_block_count pool) count) [
@@ -137,5 +168,7 @@ module _ (pool : Blocks) (maps : List (Slots BlockId)) (entries : List (Option M
           | inr enough ↦ enough
         ] in (
           grown-ok pool maps entries sound process within count run enough m tied,
-          represent-grown pool maps entries sound process within count new after run (gained_of (subst (λ (r : Result (Unit {0}) MapFault). OnOk r (GainsLow count old pool new after)) is gains)) m tied,
+          represent-grown pool maps entries sound process within count new after run
+              (gained_of (subst (λ (r : Result (Unit {0}) MapFault). OnOk r (GainsLow count old pool new after)) is
+              gains)) m tied,
         )

@@ -24,7 +24,8 @@ from_call : (r : Regs) (code : Option ℕ) (effect : Effect) {A : Type 0} → ca
 from_call r None effect is = cc
 from_call r (Some code) effect is = cc
 
-from_operation : (cells : ℕ → Option ℕ) (r : Regs) (i : Instr) (mode : Mode) (operation : Operation) (effect : Effect) → outcome_of cells r i mode operation ≡ Done effect → all_named cells effect.writes ≡ true
+from_operation : (cells : ℕ → Option ℕ) (r : Regs) (i : Instr) (mode : Mode) (operation : Operation) (effect : Effect)
+    → outcome_of cells r i mode operation ≡ Done effect → all_named cells effect.writes ≡ true
 unfolding outcome_of
 from_operation cells r i mode Swi2 effect is = from_call r (cells r.pc) effect is
 from_operation cells r i mode Swi effect is = cc

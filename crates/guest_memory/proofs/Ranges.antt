@@ -28,7 +28,9 @@ module _ (memory : Memory) (process : ℕ) (within : process < 33) (old : Slots 
   slot_named (Some id) is = refl
 
   -- a range whose slots are named fits
-  pub fits-of_slots : (address len : ℕ) → 0 < len → address + len ≤ 65536 → ((slot : ℕ) → address / 8192 ≤ slot → slot ≤ (address + (len - 1)) / 8192 → IsSome (block_at old slot)) → FitsIn (cells_of memory process) address len
+  pub fits-of_slots : (address len : ℕ) → 0 < len → address + len ≤ 65536 → ((slot : ℕ) → address / 8192 ≤ slot
+      → slot ≤ (address + (len - 1)) / 8192 → IsSome (block_at old slot)) → FitsIn (cells_of memory process) address
+      len
   fits-of_slots address len some whole named = (
     whole,
     λ k inside.
@@ -43,10 +45,13 @@ module _ (memory : Memory) (process : ℕ) (within : process < 33) (old : Slots 
       (slots_of_named old memory.pool address len some (λ k inside. subst IsSome (sym (ap (λ (cells : ℕ → Option ℕ). cells (address + k)) same)) (fits.1 k inside)) slot low high)
 
   -- the bytes of a block from an address on are a piece of what the process sees
-  pub piece-seen : (address most : ℕ) (id : BlockId) (bytes : List ℕ) → block_at old (address / 8192) ≡ Some id → address < 65536 → 0 < most → bytes ≡ take most (drop (address % 8192) (block_bytes memory.pool id.0)) → IsPiece (cells_of memory process) address most bytes
+  pub piece-seen : (address most : ℕ) (id : BlockId) (bytes : List ℕ) → block_at old (address / 8192) ≡ Some id
+      → address < 65536 → 0 < most → bytes ≡ take most (drop (address % 8192) (block_bytes memory.pool id.0))
+      → IsPiece (cells_of memory process) address most bytes
   piece-seen address most id bytes place small some is = record {
     holds = λ k inside.
-        let here : block_at old ((address + k) / 8192) ≡ Some id = subst (λ (slot : ℕ). block_at old slot ≡ Some id) (let e : address / 8192 ≡ (address + k) / 8192 = omega (arith, count, inside) in e) place in
+        let here : block_at old ((address + k) / 8192) ≡ Some id = subst (λ (slot : ℕ). block_at old slot ≡ Some id)
+        (let e : address / 8192 ≡ (address + k) / 8192 = omega (arith, count, inside) in e) place in
         let byte : get_or block ((address + k) % 8192) 0 ≡ get_or bytes k 0 =
         ap (λ (n : ℕ). get_or block n 0) (let e : (address + k) % 8192 ≡ address % 8192 + k = omega (arith, count, inside) in e)
         ∙ sym (get_or-drop (address % 8192) block k 0)

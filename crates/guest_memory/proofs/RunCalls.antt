@@ -38,7 +38,8 @@ write_cells-then : (cells : Cells) (first rest : List (ℕ × ℕ)) → write_ce
 write_cells-then cells [] rest = refl
 write_cells-then cells (w ∷ ws) rest = write_cells-then (put_cell cells w.0 w.1) ws rest
 
-with_writes-then : (objects : List (List ℕ)) (places : List (Option ℕ)) (first rest : List (ℕ × ℕ)) → with_writes objects places (first ++ rest) ≡ with_writes (with_writes objects places first) places rest
+with_writes-then : (objects : List (List ℕ)) (places : List (Option ℕ)) (first rest : List (ℕ × ℕ))
+    → with_writes objects places (first ++ rest) ≡ with_writes (with_writes objects places first) places rest
 with_writes-then objects places [] rest = refl
 with_writes-then objects places (w ∷ ws) rest = with_writes-then (with_cell objects places w.0 w.1) places ws rest
 
@@ -129,7 +130,9 @@ module _ (process : ℕ) where
       let now : MemoryState = written m process step.0 in
       let sees : cells_seen now process ≡ mid = tied.1 ∙ ap (λ (c : Cells). write_cells c step.0) seen ∙ sym step.2 in
       let after = many k mid now next last held sees tied.0 rest in
-      let same : written now process after.writes ≡ written m process (step.0 ++ after.writes) = ap (λ (objects : List (List ℕ)). record m { objects = objects }) (sym (with_writes-then m.objects (map_at m process).places step.0 after.writes)) in
+      let same : written now process after.writes ≡ written m process (step.0 ++ after.writes) = ap
+      (λ (objects : List (List ℕ)). record m { objects = objects })
+      (sym (with_writes-then m.objects (map_at m process).places step.0 after.writes)) in
       record {
         writes = step.0 ++ after.writes;
         named = all_named-then cells step.0 after.writes step.1 (all_named_before cells step.0 after.writes step.1 (ap (λ (c : Cells). all_named c after.writes) (sym step.2) ∙ after.named));
@@ -161,7 +164,10 @@ module _ (process : ℕ) where
 
 -- ---- the whole memory
 
-module _ (pool after : Blocks) (maps : List (Slots BlockId)) (entries : List (Option ModuleEntry)) (sound : IsSound pool maps entries) (process : ℕ) (within : process < 33) (old seen now : Slots BlockId) (at : old ≡ get_or maps process old) (seen_is : seen ≡ old) (now_is : now ≡ seen) (before : Blocks) (before_is : before ≡ pool) (beyond : SameBeyond seen before after) where
+module _ (pool after : Blocks) (maps : List (Slots BlockId)) (entries : List (Option ModuleEntry))
+    (sound : IsSound pool maps entries) (process : ℕ) (within : process < 33) (old seen now : Slots BlockId)
+    (at : old ≡ get_or maps process old) (seen_is : seen ≡ old) (now_is : now ≡ seen) (before : Blocks)
+    (before_is : before ≡ pool) (beyond : SameBeyond seen before after) where
   abbrev slots : Slots BlockId
   slots = map_of pool maps entries sound process
 

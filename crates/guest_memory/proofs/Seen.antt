@@ -33,12 +33,16 @@ cells_of-seen memory process within m tied =
     sym (cells-tied memory.pool memory.pool memory.maps.items memory.dir memory.sound process within (SameBeyond-self (get_or memory.maps.items process no_slots) memory.pool) m tied)
 
 -- the map that was borrowed shows what the process sees
-pub borrowed-cells : (memory : Memory) (process : ℕ) → process < 33 → (old : Slots BlockId) → old ≡ get_or memory.maps.items process old → (slots : Slots BlockId) → slots ≡ old → (pool : Blocks) → pool ≡ memory.pool → map_cells slots pool ≡ cells_of memory process
+pub borrowed-cells : (memory : Memory) (process : ℕ) → process < 33 → (old : Slots BlockId)
+    → old ≡ get_or memory.maps.items process old → (slots : Slots BlockId) → slots ≡ old → (pool : Blocks)
+    → pool ≡ memory.pool → map_cells slots pool ≡ cells_of memory process
 borrowed-cells memory process within old at slots is pool same =
     let whole : slots ≡ get_or memory.maps.items process no_slots = is ∙ is_map_of memory.pool memory.maps.items memory.dir memory.sound process within old at in
     λ i. map_cells (whole i) (same i)
 
-module _ (memory : Memory) (process : ℕ) (within : process < 33) (old : Slots BlockId) (at : old ≡ get_or memory.maps.items process old) (address : ℕ) (id : BlockId) (place : block_at old (address / 8192) ≡ Some id) where
+module _ (memory : Memory) (process : ℕ) (within : process < 33) (old : Slots BlockId)
+    (at : old ≡ get_or memory.maps.items process old) (address : ℕ) (id : BlockId)
+    (place : block_at old (address / 8192) ≡ Some id) where
   -- the block of an address is live
   pub seen-live : IsLive memory.pool id.0
   seen-live = live memory.pool memory.maps.items memory.dir memory.sound process within old at (address / 8192) id place
@@ -67,8 +71,11 @@ module _ (memory : Memory) (m : MemoryState) (tied : Represents memory m) where
   pub names-seen : (process : ℕ) → process < 33 → NamesObjects m.objects (map_at m process).places
   names-seen process within =
       subst (λ (s : MemoryState). NamesObjects s.objects (map_at s process).places) (sym tied.is)
-      (subst (λ (s : Slots ℕ). NamesObjects tied.objects s.places) (sym (map_at-memory_of tied.number memory.pool memory.maps.items memory.dir tied.objects process (omega (arith, memory.sound.processes))))
-      (IsMap-renamed tied.number (map_of memory.pool memory.maps.items memory.dir memory.sound process) memory.pool tied.objects tied.represent (names_live memory.pool memory.maps.items memory.dir memory.sound process)
+      (subst (λ (s : Slots ℕ). NamesObjects tied.objects s.places)
+      (sym (map_at-memory_of tied.number memory.pool memory.maps.items memory.dir tied.objects process
+      (omega (arith, memory.sound.processes))))
+      (IsMap-renamed tied.number (map_of memory.pool memory.maps.items memory.dir memory.sound process) memory.pool
+      tied.objects tied.represent (names_live memory.pool memory.maps.items memory.dir memory.sound process)
       (held_at memory.pool memory.maps.items memory.dir memory.sound process within).map))
 
   -- an entry is that of the machine, by the numbers of objects
@@ -85,7 +92,9 @@ module _ (memory : Memory) (m : MemoryState) (tied : Represents memory m) where
       ap (λ (place : Option ModuleEntry). length (option_map_or (λ (entry : ModuleEntry). entry.group) place [])) (entry-seen number)
       ∙ by_place (module_entry_at (modules_of memory) number)
     where
-      by_place : (place : Option ModuleEntry) → length (option_map_or (λ (entry : ModuleEntry). entry.group) (option_map (renamed_entry tied.number) place) []) ≡ option_map_or (λ (entry : ModuleEntry). length entry.group) place 0
+      by_place : (place : Option ModuleEntry) → length (option_map_or (λ (entry : ModuleEntry). entry.group)
+          (option_map (renamed_entry tied.number) place) []) ≡ option_map_or (λ (entry : ModuleEntry). length
+          entry.group) place 0
       by_place None = refl
       by_place (Some entry) = length-map entry.group tied.number
 
@@ -106,7 +115,9 @@ module _ (memory : Memory) (process : ℕ) (within : process < 33) (old : Slots 
   found-run None none highest = sym (highest_free_run-none old eight len none)
   found-run (Some first) none highest = sym (highest_free_run-is old eight len first highest)
 
-  pub run-found : (result : Option ℕ) → IfNone result ((first : ℕ) → IsFreeRun old first len → ⊥) → IfSome result (IsHighestFreeRun old len) → (m : MemoryState) → Represents memory m → result ≡ highest_free_run (map_at m process) len
+  pub run-found : (result : Option ℕ) → IfNone result ((first : ℕ) → IsFreeRun old first len → ⊥)
+      → IfSome result (IsHighestFreeRun old len) → (m : MemoryState) → Represents memory m → result ≡ highest_free_run
+      (map_at m process) len
   run-found result none highest m tied = found-run result none highest ∙ sym (run-seen m tied)
 
   pub run-fits : (result : Option ℕ) → IfSome result (IsHighestFreeRun old len) → IfSome result (λ slot. slot + len ≤ 8)
@@ -114,16 +125,23 @@ module _ (memory : Memory) (process : ℕ) (within : process < 33) (old : Slots 
   run-fits (Some first) highest = highest.0.0
 
 -- the group of an entered module
-module _ (memory : Memory) (process : ℕ) (within : process < 33) (number : ℕ) (some : IsSome (module_entry_at (modules_of memory) number)) (group : Group) (group_is : option_map (λ (entry : ModuleEntry). entry.group) (module_entry_at (modules_of memory) number) ≡ Some (group_block_numbers group)) (seven : length group.blocks ≡ 7) where
+module _ (memory : Memory) (process : ℕ) (within : process < 33) (number : ℕ)
+    (some : IsSome (module_entry_at (modules_of memory) number)) (group : Group)
+    (group_is : option_map (λ (entry : ModuleEntry). entry.group) (module_entry_at (modules_of memory) number) ≡ Some
+    (group_block_numbers group)) (seven : length group.blocks ≡ 7) where
   pub free-len : 1 ≤ group.len
   free-len = some-len memory.pool memory.maps.items memory.dir memory.sound process within number some group seven group_is
 
   pub group-long : group_len memory number ≡ group.len
   group-long = by_place (module_entry_at (modules_of memory) number) group_is
     where
-      by_place : (place : Option ModuleEntry) → option_map (λ (entry : ModuleEntry). entry.group) place ≡ Some (group_block_numbers group) → option_map_or (λ (entry : ModuleEntry). length entry.group) place 0 ≡ group.len
+      by_place : (place : Option ModuleEntry) → option_map (λ (entry : ModuleEntry). entry.group) place ≡ Some
+          (group_block_numbers group) → option_map_or (λ (entry : ModuleEntry). length entry.group) place 0 ≡
+          group.len
       by_place None is = absurd (none-some (group_block_numbers group) is)
-      by_place (Some entry) is = ap (λ (g : List ℕ). length g) (same_Some entry.group (group_block_numbers group) is) ∙ length-map (take group.len group.blocks) (λ (id : BlockId). id.0) ∙ length-take-le group.len group.blocks (omega (arith, group.in_range))
+      by_place (Some entry) is = ap (λ (g : List ℕ). length g) (same_Some entry.group (group_block_numbers group) is)
+          ∙ length-map (take group.len group.blocks) (λ (id : BlockId). id.0) ∙ length-take-le group.len group.blocks
+          (omega (arith, group.in_range))
 
   pub group-as-long : (m : MemoryState) → Represents memory m → length (group_at m number) ≡ group.len
   group-as-long m tied = group-seen memory m tied number ∙ group-long

@@ -33,7 +33,9 @@ use Rattle.guest_memory.proofs.LinkCalls.{found_entry}
 use Rattle.guest_memory.proofs.MapCalls.{is_map_of, live, sound-clear, tied-clear, sound-grow, grow-ok}
 use Rattle.guest_memory.proofs.GroupCalls.{many, same, some-len, map-may, sound-map_group, map-some}
 
-module _ (pool : Blocks) (maps : List (Slots BlockId)) (entries : List (Option ModuleEntry)) (sound : IsSound pool maps entries) (process : ℕ) (within : process < 33) (number : ℕ) (some : IsSome (module_entry_at entries number)) where
+module _ (pool : Blocks) (maps : List (Slots BlockId)) (entries : List (Option ModuleEntry))
+    (sound : IsSound pool maps entries) (process : ℕ) (within : process < 33) (number : ℕ)
+    (some : IsSome (module_entry_at entries number)) where
   abbrev entry : ModuleEntry
   entry = (found_entry entries number some).entry
 
@@ -67,20 +69,29 @@ module _ (pool : Blocks) (maps : List (Slots BlockId)) (entries : List (Option M
         ∙ cond-true (has_most_links (renamed_entry tied.number entry) || nat_lt 8 (count + length (renamed_entry tied.number entry).group)) (Err MemFull) _
         (elim why [
           | inl links ↦ or_left (has_most_links entry) (nat_lt 8 (count + length (renamed_entry tied.number entry).group)) (le-leb 65535 entry.links links)
-          | inr slots ↦ or_right (has_most_links entry) (nat_lt 8 (count + length (renamed_entry tied.number entry).group)) (lt-ltb 8 (count + length (renamed_entry tied.number entry).group) (omega (arith, group_length)))
+          | inr slots ↦ or_right (has_most_links entry)
+              (nat_lt 8 (count + length (renamed_entry tied.number entry).group))
+              (lt-ltb 8 (count + length (renamed_entry tied.number entry).group) (omega (arith, group_length)))
         ])
 
-    pub fits_not : (count : ℕ) → entry.links < 65535 → count + length entry.group ≤ 8 → (has_most_links (renamed_entry tied.number entry) || nat_lt 8 (count + length (renamed_entry tied.number entry).group)) ≡ false
+    pub fits_not : (count : ℕ) → entry.links < 65535 → count + length entry.group ≤ 8
+        → (has_most_links (renamed_entry tied.number entry) || nat_lt 8
+        (count + length (renamed_entry tied.number entry).group)) ≡ false
     fits_not count links slots =
-        or_from (has_most_links entry) (nat_lt 8 (count + length (renamed_entry tied.number entry).group)) (lt-leb 65535 entry.links links) (le-ltb 8 (count + length (renamed_entry tied.number entry).group) (omega (arith, group_length)))
+        or_from (has_most_links entry) (nat_lt 8 (count + length (renamed_entry tied.number entry).group))
+        (lt-leb 65535 entry.links links) (le-ltb 8 (count + length (renamed_entry tied.number entry).group)
+        (omega (arith, group_length)))
 
-    pub started-no_ram : (count : ℕ) → entry.links < 65535 → count + length entry.group ≤ 8 → free_block_count pool + (map_of pool maps entries sound process).low < count → started m process number count ≡ Err NoRam
+    pub started-no_ram : (count : ℕ) → entry.links < 65535 → count + length entry.group ≤ 8 → free_block_count pool +
+        (map_of pool maps entries sound process).low < count → started m process number count ≡ Err NoRam
     started-no_ram count links slots few =
         started_is count
         ∙ cond-false (has_most_links (renamed_entry tied.number entry) || nat_lt 8 (count + length (renamed_entry tied.number entry).group)) (Err MemFull) _ (fits_not count links slots)
         ∙ cond-true (nat_lt (free_blocks m + (map_at m process).low) count) (Err NoRam) _ (lt-ltb (free_blocks m + (map_at m process).low) count (omega (arith, free_is, low_is)))
 
-    pub started-ok : (count : ℕ) → entry.links < 65535 → count + length entry.group ≤ 8 → count ≤ free_block_count pool + (map_of pool maps entries sound process).low → started m process number count ≡ Ok (with_first_slots m process (renamed_entry tied.number entry).group count)
+    pub started-ok : (count : ℕ) → entry.links < 65535 → count + length entry.group ≤ 8 → count ≤ free_block_count
+        pool + (map_of pool maps entries sound process).low → started m process number count ≡ Ok
+        (with_first_slots m process (renamed_entry tied.number entry).group count)
     started-ok count links slots enough =
         started_is count
         ∙ cond-false (has_most_links (renamed_entry tied.number entry) || nat_lt 8 (count + length (renamed_entry tied.number entry).group)) (Err MemFull) _ (fits_not count links slots)
@@ -88,8 +99,12 @@ module _ (pool : Blocks) (maps : List (Slots BlockId)) (entries : List (Option M
 
   -- ---- the map is filled anew
 
-  module _ (group : Group) (seven : length group.blocks ≡ 7) (group_is : option_map (λ (entry : ModuleEntry). entry.group) (module_entry_at entries number) ≡ Some (group_block_numbers group)) (count : ℕ) (fits : count + group.len ≤ 8) (enough : count ≤ free_block_count pool + (map_of pool maps entries sound process).low) (old : Slots BlockId) (at : old ≡ get_or maps process old)
-      (one : Slots BlockId) (pool_one : Blocks) (empty : one ≡ no_slots) (given : pool_one ≡ pool_after_giving pool (blocks_in old.places)) (shape_one : IsMap one) (pool_is_one : IsPool pool → IsPool pool_one) where
+  module _ (group : Group) (seven : length group.blocks ≡ 7)
+      (group_is : option_map (λ (entry : ModuleEntry). entry.group) (module_entry_at entries number) ≡ Some
+      (group_block_numbers group)) (count : ℕ) (fits : count + group.len ≤ 8) (enough : count ≤ free_block_count pool
+      + (map_of pool maps entries sound process).low) (old : Slots BlockId) (at : old ≡ get_or maps process old)
+      (one : Slots BlockId) (pool_one : Blocks) (empty : one ≡ no_slots) (given : pool_one ≡ pool_after_giving pool
+      (blocks_in old.places)) (shape_one : IsMap one) (pool_is_one : IsPool pool → IsPool pool_one) where
     sound_one : IsSound pool_one (set maps process one) entries
     sound_one = sound-clear pool maps entries sound process within old at one pool_one empty given shape_one pool_is_one
 
@@ -110,7 +125,11 @@ module _ (pool : Blocks) (maps : List (Slots BlockId)) (entries : List (Option M
     run_one : IsFreeRun one one.low count
     run_one = subst (λ (s : Slots BlockId). IsFreeRun s s.low count) (sym empty) (free_at_first count (omega arith))
 
-    module _ (result_two : Result (Unit {0}) MapFault) (two : Slots BlockId) (pool_two : Blocks) (no_slot : (result_two ≡ Err NoSlot) ↔ (IsFreeRun one one.low count → ⊥)) (no_block : (result_two ≡ Err NoBlock) ↔ (IsFreeRun one one.low count × (free_block_count pool_one < count))) (refused : OnErr result_two ((two ≡ one) × (pool_two ≡ pool_one))) (gains : OnOk result_two (GainsLow count one pool_one two pool_two)) (shape_two : IsMap two) where
+    module _ (result_two : Result (Unit {0}) MapFault) (two : Slots BlockId) (pool_two : Blocks)
+        (no_slot : (result_two ≡ Err NoSlot) ↔ (IsFreeRun one one.low count → ⊥))
+        (no_block : (result_two ≡ Err NoBlock) ↔ (IsFreeRun one one.low count × (free_block_count pool_one < count)))
+        (refused : OnErr result_two ((two ≡ one) × (pool_two ≡ pool_one)))
+        (gains : OnOk result_two (GainsLow count one pool_one two pool_two)) (shape_two : IsMap two) where
       grown_ok : result_two ≡ Ok tt
       grown_ok = by_result result_two refl
         where
@@ -159,17 +178,23 @@ module _ (pool : Blocks) (maps : List (Slots BlockId)) (entries : List (Option M
       pub start-may : MayMap group two pool_two
       start-may = map-may pool_two (set (set maps process one) process two) entries sound_two process within number some group seven group_is nowhere two at_two
 
-      module _ (result : Result ℕ MapFault) (new : Slots BlockId) (after : Blocks) (no_run : (result ≡ Err NoSlot) ↔ ((first : ℕ) → IsFreeRun two first group.len → ⊥)) (no_other : result ≢ Err NoBlock) (kept : OnErr result ((new ≡ two) × (after ≡ pool_two))) (mapped : IfOk result (GainsGroup group two pool_two new after)) where
+      module _ (result : Result ℕ MapFault) (new : Slots BlockId) (after : Blocks) (no_run : (result ≡ Err NoSlot) ↔
+          ((first : ℕ) → IsFreeRun two first group.len → ⊥)) (no_other : result ≢ Err NoBlock)
+          (kept : OnErr result ((new ≡ two) × (after ≡ pool_two)))
+          (mapped : IfOk result (GainsGroup group two pool_two new after)) where
         pub sound-start : NamesLiveBlocks new after → IsMap new → (IsPool pool_two → IsPool after) → IsSound after (set maps process new) entries
         sound-start live_new shape pool_is =
             subst (λ (all : List (Slots BlockId)). IsSound after all entries) (set-set (set maps process one) process two new ∙ set-set maps process one new)
-            (sound-map_group pool_two (set (set maps process one) process two) entries sound_two process within number some group seven group_is nowhere two at_two result new after no_run no_other kept mapped live_new shape pool_is)
+            (sound-map_group pool_two (set (set maps process one) process two) entries sound_two process within number
+            some group seven group_is nowhere two at_two result new after no_run no_other kept mapped live_new
+            shape pool_is)
 
         len_some : 1 ≤ group.len
         len_some = some-len pool maps entries sound process within number some group seven group_is
 
         last : IsHighestFreeRun two group.len (8 - group.len)
-        last = subst (λ (s : Slots BlockId). IsHighestFreeRun s group.len (8 - group.len)) (sym two_is) (last_run gained.blocks (omega (arith, gained.all)) group.len len_some (omega (arith, gained.all)))
+        last = subst (λ (s : Slots BlockId). IsHighestFreeRun s group.len (8 - group.len)) (sym two_is)
+            (last_run gained.blocks (omega (arith, gained.all)) group.len len_some (omega (arith, gained.all)))
 
         mapped_ok : result ≡ Ok (8 - group.len)
         mapped_ok = by_result result refl mapped
@@ -182,27 +207,38 @@ module _ (pool : Blocks) (maps : List (Slots BlockId)) (entries : List (Option M
         -- the data area has as many blocks as are wanted
         pub start-low : (get_or (set maps process new) process no_slots).low ≡ count
         start-low =
-            let grouped_is : new ≡ with_group two (8 - group.len) (group_blocks group) = (subst (λ (answer : Result ℕ MapFault). IfOk answer (GainsGroup group two pool_two new after)) mapped_ok mapped).grouped in
+            let grouped_is : new ≡ with_group two (8 - group.len) (group_blocks group) =
+            (subst (λ (answer : Result ℕ MapFault). IfOk answer (GainsGroup group two pool_two new after))
+            mapped_ok mapped).grouped in
             let low_new : (get_or (set maps process new) process no_slots).low ≡ two.low = ap (λ (s : Slots BlockId). s.low) (get_or-set_same maps process new no_slots in_maps ∙ grouped_is) in
             let low_two : two.low ≡ 0 + length gained.blocks = ap (λ (s : Slots BlockId). s.low) two_is in
             omega (arith, low_new, low_two, gained.all)
 
-        pub tied-start : (m : MemoryState) (tied : RepresentMemory pool maps entries m) → RepresentMemory after (set maps process new) entries (with_first_slots m process (renamed_entry tied.number entry).group count)
+        pub tied-start : (m : MemoryState) (tied : RepresentMemory pool maps entries m) → RepresentMemory after
+            (set maps process new) entries (with_first_slots m process (renamed_entry tied.number entry).group count)
         tied-start m tied =
             let tied_one = tied-clear pool maps entries sound process within old at one pool_one empty given m tied in
             let m_one = cleared m process in
-            let tied_two = (grow-ok pool_one (set maps process one) entries sound_one process within one at_one count result_two two pool_two no_slot no_block refused gains grown_ok m_one tied_one).1 in
+            let tied_two = (grow-ok pool_one (set maps process one) entries sound_one process within one at_one count
+            result_two two pool_two no_slot no_block refused gains grown_ok m_one tied_one).1 in
             let m_two = with_growth pool_one (set maps process one) entries sound_one process within m_one count in
-            let tied_three = (map-some pool_two (set (set maps process one) process two) entries sound_two process within number some group seven group_is nowhere two at_two result new after no_run no_other kept mapped (8 - group.len) mapped_ok m_two tied_two).1 in
+            let tied_three = (map-some pool_two (set (set maps process one) process two) entries sound_two process
+            within number some group seven group_is nowhere two at_two result new after no_run no_other kept
+            mapped (8 - group.len) mapped_ok m_two tied_two).1 in
             let m_maps : process < length m.maps = omega (arith, ap (λ (s : MemoryState). length s.maps) tied.is, length-map maps (renamed_map tied.number), in_maps) in
             let numbers : List ℕ = range_with_len (length m.objects) count in
             let low : Slots ℕ = with_low no_slots numbers in
             let group_m : List ℕ = (renamed_entry tied.number entry).group in
             let at_m_one : map_at m_one process ≡ no_slots = get_or-set_same m.maps process no_slots no_slots m_maps in
             let group_two : group_at m_two number ≡ group_m = ap (λ (o : Option ModuleEntry). option_map_or (λ e. e.group) o []) (entry_is m tied) in
-            let maps_two : m_two.maps ≡ set m.maps process low = set-set m.maps process no_slots (with_low (map_at m_one process) numbers) ∙ ap (λ (s : Slots ℕ). set m.maps process (with_low s numbers)) at_m_one in
+            let maps_two : m_two.maps ≡ set m.maps process low = set-set m.maps process no_slots
+            (with_low (map_at m_one process) numbers) ∙ ap (λ (s : Slots ℕ). set m.maps process
+            (with_low s numbers)) at_m_one in
             let at_m_two : map_at m_two process ≡ low = ap (λ (all : List (Slots ℕ)). get_or all process no_slots) maps_two ∙ get_or-set_same m.maps process low no_slots m_maps in
-            let len_is : group.len ≡ length group_m = sym (many pool maps entries sound process within number some group seven group_is) ∙ sym (length-map (group_blocks group) (λ (id : BlockId). id.0)) ∙ ap (λ (g : List ℕ). length g) (sym (same pool maps entries sound process within number some group seven group_is)) ∙ sym (length-map entry.group tied.number) in
+            let len_is : group.len ≡ length group_m = sym (many pool maps entries sound process within number some
+            group seven group_is) ∙ sym (length-map (group_blocks group) (λ (id : BlockId). id.0)) ∙ ap
+            (λ (g : List ℕ). length g) (sym (same pool maps entries sound process within number some group seven
+            group_is)) ∙ sym (length-map entry.group tied.number) in
             let maps_three : set m_two.maps process (with_group (map_at m_two process) (8 - group.len) (group_at m_two number)) ≡ set m.maps process (with_group low (8 - length group_m) group_m) =
             (λ i. set (maps_two i) process (with_group (at_m_two i) (8 - len_is i) (group_two i))) ∙ set-set m.maps process low (with_group low (8 - length group_m) group_m) in
             let state_is : with_map m_two process (with_group (map_at m_two process) (8 - group.len) (group_at m_two number)) ≡ with_first_slots m process group_m count =
@@ -213,10 +249,14 @@ module _ (pool : Blocks) (maps : List (Slots BlockId)) (entries : List (Option M
               modules = m.modules;
             }) in
             subst (RepresentMemory after (set maps process new) entries) state_is
-            (subst (λ (all : List (Slots BlockId)). RepresentMemory after all entries (with_map m_two process (with_group (map_at m_two process) (8 - group.len) (group_at m_two number)))) (set-set (set maps process one) process two new ∙ set-set maps process one new) tied_three)
+            (subst (λ (all : List (Slots BlockId)). RepresentMemory after all entries
+            (with_map m_two process (with_group (map_at m_two process) (8 - group.len) (group_at m_two number))))
+            (set-set (set maps process one) process two new ∙ set-set maps process one new) tied_three)
 
 -- the links of the entry that was found
-pub links_of : (entries : List (Option ModuleEntry)) (number : ℕ) (some : IsSome (module_entry_at entries number)) (links : ℕ) → option_map (λ (entry : ModuleEntry). entry.links) (module_entry_at entries number) ≡ Some links → (found_entry entries number some).entry.links ≡ links
+pub links_of : (entries : List (Option ModuleEntry)) (number : ℕ) (some : IsSome (module_entry_at entries number))
+    (links : ℕ) → option_map (λ (entry : ModuleEntry). entry.links) (module_entry_at entries number) ≡ Some links
+    → (found_entry entries number some).entry.links ≡ links
 links_of entries number some links is_links =
     let found = found_entry entries number some in
     same_Some found.entry.links links (sym (ap (option_map (λ (entry : ModuleEntry). entry.links)) found.is) ∙ is_links)

@@ -181,5 +181,6 @@ step-end file =
     let none : drop (length file) file ≡ [] = drop_of_length-le file (omega arith) in
     let still : next_place file (length file) ≡ length file = ap (λ l. length file + position_or_len (λ byte. not (byte == 0)) l) none ∙ omega arith in
     ap (step_at file) still
-    ∙ cond-true (length file == length file) End (option_map_or (λ fault. Fault (length file) fault) (module_fault (drop (length file) file)) (Module (info_at (length file) (drop (length file) file))))
+    ∙ cond-true (length file == length file) End (option_map_or (λ fault. Fault (length file) fault)
+    (module_fault (drop (length file) file)) (Module (info_at (length file) (drop (length file) file))))
     (eq-eqb (length file) (length file) refl)

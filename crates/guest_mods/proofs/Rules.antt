@@ -157,7 +157,16 @@ module _ (disk : ℕ → List ℕ) (file : List ℕ) (parts : HasParts disk file
   pub reached-file : IsReachedOn on 5
   reached-file =
       named {d = 3} {i = 2} root
-      (subst (λ bytes. EntryNames bytes 2 5) (sym root-bytes) (record { after = omega arith; entry = record { within = omega (arith, length-root_entries); used = third-used }; descriptor = third-entry.descriptor }))
+      (subst (λ bytes. EntryNames bytes 2 5) (sym root-bytes)
+      (record {
+        after = omega arith;
+        entry = record {
+          within = omega (arith, length-root_entries);
+          used =
+              third-used;
+        };
+        descriptor = third-entry.descriptor;
+      }))
       (record { after = omega arith; below = omega arith })
 
   -- what holds of both holds of each that is reached
@@ -209,8 +218,10 @@ module _ (disk : ℕ → List ℕ) (file : List ℕ) (parts : HasParts disk file
   used-is c low =
       let place : c / 1 ≡ c = omega arith in
       ⊎_elim
-      (λ first. inl (ap (has_cluster boot_geometry 3 (file_at disk 3)) (sym place) ∙ cluster_from_owns boot_geometry 3 (file_at disk 3) c (owned-from 3 (file_at disk 3) 0 5 c root-owned (omega arith) first)))
-      (λ later. inr (ap (has_cluster boot_geometry 5 (file_at disk 5)) (sym place) ∙ cluster_from_owns boot_geometry 5 (file_at disk 5) c (owned-from 5 (file_at disk 5) 5 (suc count) c file-owned later (omega arith))))
+      (λ first. inl (ap (has_cluster boot_geometry 3 (file_at disk 3)) (sym place) ∙ cluster_from_owns boot_geometry 3
+      (file_at disk 3) c (owned-from 3 (file_at disk 3) 0 5 c root-owned (omega arith) first)))
+      (λ later. inr (ap (has_cluster boot_geometry 5 (file_at disk 5)) (sym place) ∙ cluster_from_owns boot_geometry 5
+      (file_at disk 5) c (owned-from 5 (file_at disk 5) 5 (suc count) c file-owned later (omega arith))))
       (cases_lt c 5)
 
   -- ---- the rules

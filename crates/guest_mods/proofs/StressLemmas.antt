@@ -25,7 +25,8 @@ few-lengths load is =
     omega arith
 
 -- the parts of Worker's code, put one behind the other
-pub worker_code-put : (load : Load) (table numbers whole code : List ℕ) → table ≡ WORKER → numbers ≡ table ++ load.passes ∷ load.records ∷ [] → whole ≡ numbers ++ record_lengths load → code ≡ whole → code ≡ worker_code load
+pub worker_code-put : (load : Load) (table numbers whole code : List ℕ) → table ≡ WORKER → numbers ≡ table ++
+    load.passes ∷ load.records ∷ [] → whole ≡ numbers ++ record_lengths load → code ≡ whole → code ≡ worker_code load
 unfolding worker_code
 worker_code-put load table numbers whole code one two three four =
     four ∙ three ∙ ap (λ l. l ++ record_lengths load) (two ∙ ap (λ l. l ++ load.passes ∷ load.records ∷ []) one)

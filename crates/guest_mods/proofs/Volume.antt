@@ -92,7 +92,9 @@ module _ (file : List ℕ) (some : 1 ≤ length file) (short : length file ≤ 5
       ⊎_elim
       (λ low. last-fails (is_whole boot_geometry c) (is_marked (sector image) c) (list_any (λ n. has_cluster boot_geometry n (file_at (sector image) n) c) numbers)
       (⊎_elim (λ one. or_left (has_cluster boot_geometry 3 (file_at (sector image) 3) c) (has_cluster boot_geometry 5 (file_at (sector image) 5) c || false) one)
-      (λ other. or_right (has_cluster boot_geometry 3 (file_at (sector image) 3) c) (has_cluster boot_geometry 5 (file_at (sector image) 5) c || false) (or_left (has_cluster boot_geometry 5 (file_at (sector image) 5) c) false other))
+      (λ other. or_right (has_cluster boot_geometry 3 (file_at (sector image) 3) c) (has_cluster boot_geometry 5
+      (file_at (sector image) 5) c || false) (or_left (has_cluster boot_geometry 5 (file_at (sector image) 5) c)
+      false other))
       (used-is (sector image) file parts c low)))
       (λ high. ⊎_elim
       (λ within. second-fails (is_whole boot_geometry c) (is_marked (sector image) c) (list_any (λ n. has_cluster boot_geometry n (file_at (sector image) n) c) numbers)

@@ -26,7 +26,9 @@ volumes_in effect = effect.files.volumes
 
 module _ (call : PathCall) (asker : Asker) (files : Files) (terms : ℕ) where
   -- where no drive fails
-  deed-keeps : (reached : Option ℕ) (deed : Deed) (it : FileEffect) (before after : List TerminalState) → Splits call asker files terms reached deed → DoesDeed deed asker files it before after → Keep files.volumes it.files.volumes
+  deed-keeps : (reached : Option ℕ) (deed : Deed) (it : FileEffect) (before after : List TerminalState)
+      → Splits call asker files terms reached deed → DoesDeed deed asker files it before after → Keep files.volumes
+      it.files.volumes
   deed-keeps reached (leaves_so effect) it before after left (is, same) =
       keep-same files.volumes it.files.volumes (ap volumes_in is ∙ left.volumes)
   deed-keeps reached (as_io step) it before after splits (io, does, is) =
@@ -50,13 +52,16 @@ module _ (call : PathCall) (asker : Asker) (files : Files) (terms : ℕ) where
 
     broken-keeps : IsBroken step asker files effect → Keep files.volumes effect.files.volumes
     broken-keeps broken =
-        keep-changed files.volumes broken.drive broken.old broken.left broken.is (fault-keeps (deed_of step files) broken.old broken.left broken.may_be) effect.files.volumes (ap volumes_in broken.effect_is)
+        keep-changed files.volumes broken.drive broken.old broken.left broken.is (fault-keeps (deed_of step files)
+        broken.old broken.left broken.may_be) effect.files.volumes (ap volumes_in broken.effect_is)
 
     does-keeps : StepSplits call asker files terms step → FileDoes step asker files effect before after → Keep files.volumes effect.files.volumes
     does-keeps splits (inl well) = well-keeps splits well
     does-keeps splits (inr (broken, same)) = broken-keeps broken
 
-path-keeps : (call : PathCall) (inner : Inner) (files : Files) (now : TimePacket) (p : ℕ) (result : CallResult) (new : Files) (before after : List TerminalState) → FileAttempts call inner files now p result new before after → Keep files.volumes new.volumes
+path-keeps : (call : PathCall) (inner : Inner) (files : Files) (now : TimePacket) (p : ℕ) (result : CallResult)
+    (new : Files) (before after : List TerminalState) → FileAttempts call inner files now p result new before after
+    → Keep files.volumes new.volumes
 path-keeps call inner files now p result new before after it =
     let asker : Asker = asker_of inner p now in
     subst (λ (new : Files). Keep files.volumes new.volumes) (sym it.state)

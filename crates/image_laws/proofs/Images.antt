@@ -41,7 +41,9 @@ module _ (old new : List ℕ) (v w : DiskVolume) (was : Vol old v) (is : Vol new
   pub written-back : IsWrittenBack old new w
   written-back = record { as_long = as-long; first_kept = first-same; rest_kept = rest-same; volume = is }
 
-pub images-keep-ends : (boot : Boot) (slices written : List ℕ) (s t : State) (states : List State) → Starts boot s → Run slices s states written t → (n : ℕ) (old new : List ℕ) (w : DiskVolume) → slice_get boot.images n ≡ Some old → volume_at t.files n ≡ Some w → Vol new w → IsWrittenBack old new w
+pub images-keep-ends : (boot : Boot) (slices written : List ℕ) (s t : State) (states : List State) → Starts boot s
+    → Run slices s states written t → (n : ℕ) (old new : List ℕ) (w : DiskVolume) → slice_get boot.images n ≡ Some old
+    → volume_at t.files n ≡ Some w → Vol new w → IsWrittenBack old new w
 images-keep-ends boot slices written s t states starts run n old new w at there is =
     let (v, first, was) = start-has-images boot s starts n old at in
     let (u, last, kept) = (run-keeps-ends slices written s t states run).kept n v first in

@@ -86,7 +86,9 @@ first-keep left s [] t (some, is) = keeps-same s t (ap volumes_in is)
 first-keep left s (m ∷ ms) t (some, event, steps) =
     keeps-then s m t (event-keeps-ends s m Ran event) (first-keep (left - cost s) m ms t steps)
 
-chosen-keep : (n : ℕ) (s : State) (states : List State) (end : SliceEnd) (t : State) (who : Option ℕ) → MatchOption who ((end ≡ Idle) × (states ≡ []) × (t ≡ s)) (λ p. (end ≡ SliceRan) × Steps n s states t) → VolumesKeepEnds s t
+chosen-keep : (n : ℕ) (s : State) (states : List State) (end : SliceEnd) (t : State) (who : Option ℕ)
+    → MatchOption who ((end ≡ Idle) × (states ≡ []) × (t ≡ s)) (λ p. (end ≡ SliceRan) × Steps n s states t)
+    → VolumesKeepEnds s t
 chosen-keep n s states end t None (idle, none, is) = keeps-same s t (ap volumes_in is)
 chosen-keep n s states end t (Some p) (ran, steps) = steps-keep n s states t steps
 
@@ -110,7 +112,11 @@ run-keeps-ends [] written s t states (none, nothing, is) = keeps-same s t (ap vo
 run-keeps-ends (n ∷ ns) written s t states run =
     by_living (has_living s) (λ rest m later after. run-keeps-ends ns rest m t later after) run
   where
-    by_living : (living : Bool) → ((rest : List ℕ) (m : State) (later : List State) → Run ns m later rest t → VolumesKeepEnds m t) → MatchBool living ((end : SliceEnd) × (m : State) × (first later : List State) × (rest : List ℕ) × Slice n s first end m × (states ≡ first ++ later) × (written ≡ console_bytes m.terms ++ rest) × Run ns (record m { terms = terminals_emptied m.terms }) later rest t) ((states ≡ []) × (written ≡ []) × (t ≡ s)) → VolumesKeepEnds s t
+    by_living : (living : Bool) → ((rest : List ℕ) (m : State) (later : List State) → Run ns m later rest t
+        → VolumesKeepEnds m t) → MatchBool living ((end : SliceEnd) × (m : State) × (first later : List State) ×
+        (rest : List ℕ) × Slice n s first end m × (states ≡ first ++ later) × (written ≡ console_bytes m.terms ++
+        rest) × Run ns (record m { terms = terminals_emptied m.terms }) later rest t) ((states ≡ []) × (written ≡ [])
+        × (t ≡ s)) → VolumesKeepEnds s t
     by_living false others (none, nothing, is) = keeps-same s t (ap volumes_in is)
     by_living true others (end, m, first, later, rest, slice, all, bytes, after) =
         let now : State = record m { terms = terminals_emptied m.terms } in

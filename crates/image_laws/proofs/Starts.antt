@@ -16,7 +16,9 @@ no_volumes count = replicate count None
 abbrev first_volumes : List DiskVolume → ℕ → List (Option DiskVolume)
 first_volumes volumes more = map (λ v. Some v) volumes ++ no_volumes more
 
-volume-of : (images : List (List ℕ)) (volumes : List DiskVolume) (more : ℕ) → AllZip Vol images volumes → (n : ℕ) (image : List ℕ) → slice_get images n ≡ Some image → (v : DiskVolume) × (slice_index_or (first_volumes volumes more) n None ≡ Some v) × Vol image v
+volume-of : (images : List (List ℕ)) (volumes : List DiskVolume) (more : ℕ) → AllZip Vol images volumes
+    → (n : ℕ) (image : List ℕ) → slice_get images n ≡ Some image → (v : DiskVolume) ×
+    (slice_index_or (first_volumes volumes more) n None ≡ Some v) × Vol image v
 volume-of [] volumes more all n image at = absurd (none-some image at)
 volume-of (first ∷ images) [] more all n image at = absurd all
 volume-of (first ∷ images) (v ∷ volumes) more all zero image at =
@@ -28,7 +30,8 @@ none-of zero n = refl
 none-of (suc more) zero = refl
 none-of (suc more) (suc n) = none-of more n
 
-none-behind : (images : List (List ℕ)) (volumes : List DiskVolume) (more : ℕ) → AllZip Vol images volumes → (n : ℕ) → slice_get images n ≡ None → slice_index_or (first_volumes volumes more) n None ≡ None
+none-behind : (images : List (List ℕ)) (volumes : List DiskVolume) (more : ℕ) → AllZip Vol images volumes → (n : ℕ)
+    → slice_get images n ≡ None → slice_index_or (first_volumes volumes more) n None ≡ None
 none-behind [] [] more all n none = none-of more n
 none-behind [] (v ∷ volumes) more all n none = absurd all
 none-behind (first ∷ images) [] more all n none = absurd all

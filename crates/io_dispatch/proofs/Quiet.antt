@@ -38,7 +38,9 @@ no-memory m p (Result.waits after) processes comes = let e : NoMemory ≡ Wait =
 no-memory m p (Result.ends status) processes comes = let e : NoMemory ≡ Ended = comes.0 in cc
 
 -- such a call does not want memory
-pub has-memory : (call : IoCall) (m : Inner) (io : Io) (drives p : ℕ) (end : CallEnd) (processes : ProcState) (new : Io) (before after : List TerminalState) → Attempts call m io drives p end processes new before after → end ≡ NoMemory → ⊥
+pub has-memory : (call : IoCall) (m : Inner) (io : Io) (drives p : ℕ) (end : CallEnd) (processes : ProcState)
+    (new : Io) (before after : List TerminalState) → Attempts call m io drives p end processes new before after
+    → end ≡ NoMemory → ⊥
 has-memory call m io drives p end processes new before after attempts is =
     no-memory m p attempts.result processes (subst (λ (end : CallEnd). Comes m p attempts.result end processes) is attempts.comes)
 

@@ -58,7 +58,9 @@ module _ (inner : Inner) (io : Io) (p code : ℕ) (call : IoCall) (kept_all : Ar
       by_kept (Some kept) is = (kept-call kept is).1
 
 -- a read that is allowed stays so
-stays-if : (call : IoCall) (cells : Cells) (regs : Regs) (io : Io) (p : ℕ) → (IsAllowed call cells regs io p → StaysRead cells regs io p) → IfSome (kept_at io p) (λ kept. IsAllowed call cells regs io p) → StaysIfKept cells regs io p
+stays-if : (call : IoCall) (cells : Cells) (regs : Regs) (io : Io) (p : ℕ) → (IsAllowed call cells regs io p
+    → StaysRead cells regs io p) → IfSome (kept_at io p) (λ kept. IsAllowed call cells regs io p) → StaysIfKept cells
+    regs io p
 stays-if call cells regs io p reads = by_kept (kept_at io p)
   where
     by_kept : (place : Option Kept) → IfSome place (λ kept. IsAllowed call cells regs io p) → IfSome place (λ kept. StaysRead cells regs io p)
@@ -83,7 +85,9 @@ stays-of Call.GetStt cells regs io p allowed = tt
 stays-of Call.SetStt cells regs io p allowed = tt
 stays-of Call.PErr cells regs io p allowed = tt
 
-pub may-attempt : (processes : ProcState) (inner : Inner) (io : Io) (terms p code : ℕ) (call : IoCall) → p < 33 → Represents processes inner → AreKept inner io → AreOnTerminals terms io.paths → act_of inner p ≡ attempts code → io_call_of code ≡ Some call → MayAttempt call processes io p terms
+pub may-attempt : (processes : ProcState) (inner : Inner) (io : Io) (terms p code : ℕ) (call : IoCall) → p < 33
+    → Represents processes inner → AreKept inner io → AreOnTerminals terms io.paths → act_of inner p ≡ attempts code
+    → io_call_of code ≡ Some call → MayAttempt call processes io p terms
 may-attempt processes inner io terms p code call process tied kept on next coded =
     let regs : regs_at inner p ≡ (record_at processes.table p).regs = ap (λ (inner : Inner). regs_at inner p) tied.is in
     let cells : cells_of processes.memory p ≡ cells_at inner p = cells_of-seen processes.memory p process inner.memory tied.memory in

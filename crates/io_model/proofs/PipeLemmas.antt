@@ -4,7 +4,8 @@ use Rattle.std.specs.List.{flat_map}
 use Rattle.io_model.specs.Pipe.{Movement, In, Out, came_in, went_out, Moves, Flows}
 
 -- one movement before others
-moves-flow : (movement : Movement) (held between now come gone : List ℕ) → Moves movement held between → between ++ come ≡ gone ++ now → held ++ (came_in movement ++ come) ≡ (went_out movement ++ gone) ++ now
+moves-flow : (movement : Movement) (held between now come gone : List ℕ) → Moves movement held between
+    → between ++ come ≡ gone ++ now → held ++ (came_in movement ++ come) ≡ (went_out movement ++ gone) ++ now
 moves-flow (In bytes) held between now come gone e h = sym (append_assoc held bytes come) ∙ ap (λ (b : List ℕ). b ++ come) (sym e) ∙ h
 moves-flow (Out bytes) held between now come gone e h =
     ap (λ (b : List ℕ). b ++ come) e ∙ append_assoc bytes between come ∙ ap (λ (b : List ℕ). bytes ++ b) h ∙ sym (append_assoc bytes gone now)

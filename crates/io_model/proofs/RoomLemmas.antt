@@ -44,7 +44,9 @@ module _ (most : ℕ) (line : Editing) (room : length line.bytes < most) where
 
   typed_key-room : (key : ℕ) → Leaves most (typed_key most line key)
   typed_key-room key =
-      either most (nat_lt (length line.bytes) (most - 1)) _ (refused_key line) (λ below. let fits : length line.bytes < most - 1 = ltb-true _ _ below in let longer : length (line.bytes ++ key ∷ []) < most = omega (arith, length-append line.bytes (key ∷ [])) in record { more = longer; within = omega arith }) as_it_was
+      either most (nat_lt (length line.bytes) (most - 1)) _ (refused_key line) (λ below. let fits : length line.bytes
+      < most - 1 = ltb-true _ _ below in let longer : length (line.bytes ++ key ∷ []) < most = omega
+      (arith, length-append line.bytes (key ∷ [])) in record { more = longer; within = omega arith }) as_it_was
 
   moved-more : (key : ℕ) (last : Bool) → (last ≡ false → length line.bytes + 1 ≢ most) → HasRoom most (if last then Some Line else None) (record line { bytes = line.bytes ++ key ∷ [] })
   moved-more key true other = record { more = tt; within = omega (arith, length-append line.bytes (key ∷ [])) }
@@ -59,7 +61,10 @@ module _ (most : ℕ) (line : Editing) (room : length line.bytes < most) where
   pub edited_room : (key : ℕ) → Leaves most (edited most line key)
   unfolding edited
   edited_room key =
-      either most (key == 8) _ _ (λ _. backspaced-room) (either most (key == 24) _ _ (λ _. deleted-room) (either most (key == 4) _ _ (λ _. as_it_was) (either most (key == 1) _ _ (λ _. duplicated-room) (either most (key == 13) _ _ (λ _. returned-room) (either most (key == 27) _ _ (λ _. escaped-room) (typed_key-room key))))))
+      either most (key == 8) _ _ (λ _. backspaced-room) (either most (key == 24) _ _ (λ _. deleted-room)
+      (either most (key == 4) _ _ (λ _. as_it_was) (either most (key == 1) _ _ (λ _. duplicated-room)
+      (either most (key == 13) _ _ (λ _. returned-room) (either most (key == 27) _ _ (λ _. escaped-room)
+      (typed_key-room key))))))
 
   pub copied_room : (key : ℕ) → Leaves most (copied most line key)
   unfolding copied

@@ -50,7 +50,8 @@ same-targets paths s t old new is same = elim (cases_eq t s) [
 ]
 
 -- the state where a path has another descriptor of the same
-pub is-io_with_desc : (io : Io) (paths : PathTable) (s : ℕ) (old new : Desc) → paths ≡ with_desc io.paths s (Some new) → ArePaths paths → desc_of io.paths s ≡ Some old → new.target ≡ old.target → IsIo io → IsIo (with_paths io paths)
+pub is-io_with_desc : (io : Io) (paths : PathTable) (s : ℕ) (old new : Desc) → paths ≡ with_desc io.paths s (Some new)
+    → ArePaths paths → desc_of io.paths s ≡ Some old → new.target ≡ old.target → IsIo io → IsIo (with_paths io paths)
 is-io_with_desc io paths s old new are shape is same sound =
     let targets : (t : ℕ) → target_at (with_desc io.paths s (Some new)) t ≡ target_at io.paths t = λ t. same-targets io.paths s t old new is same in
     is-io_with_paths io paths (with_desc io.paths s (Some new)) are shape

@@ -106,7 +106,9 @@ free-place {X} places k (Some j) e at =
 free-slot : (paths : PathTable) (p n : ℕ) → free_number paths p ≡ Some n → slot_of paths p n ≡ None
 free-slot paths p n e = none-from (slot_of paths p n) (position-Some is_none (numbers_of paths p) n None e).1
 
-begun-by : (paths : PathTable) (p : ℕ) (desc : Desc) (q s : ℕ) (number path : Option ℕ) → free_number paths p ≡ number → free_path paths ≡ path → ArePaths paths → holds_path paths q s ≡ true → IsHeldStill paths (option_map_or (λ n. option_map_or (with_path paths p desc n) path paths) number paths) q s
+begun-by : (paths : PathTable) (p : ℕ) (desc : Desc) (q s : ℕ) (number path : Option ℕ) → free_number paths p ≡ number
+    → free_path paths ≡ path → ArePaths paths → holds_path paths q s ≡ true → IsHeldStill paths
+    (option_map_or (λ n. option_map_or (with_path paths p desc n) path paths) number paths) q s
 begun-by paths p desc q s None path a b are holds = (holds, refl)
 begun-by paths p desc q s (Some n) None a b are holds = (holds, refl)
 begun-by paths p desc q s (Some n) (Some k) a b are holds = (
@@ -126,7 +128,8 @@ begun-still paths p desc q s are holds = begun-by paths p desc q s (free_number 
 
 -- ---- a number is doubled
 
-doubled-by : (paths : PathTable) (p n q s : ℕ) (number : Option ℕ) → free_number paths p ≡ number → holds_path paths q s ≡ true → IsHeldStill paths (option_map_or (λ free. with_slot paths p free (slot_of paths p n)) number paths) q s
+doubled-by : (paths : PathTable) (p n q s : ℕ) (number : Option ℕ) → free_number paths p ≡ number → holds_path paths q
+    s ≡ true → IsHeldStill paths (option_map_or (λ free. with_slot paths p free (slot_of paths p n)) number paths) q s
 doubled-by paths p n q s None a holds = (holds, refl)
 doubled-by paths p n q s (Some k) a holds = (holds-more paths p k q s (slot_of paths p n) (free-slot paths p k a) holds, refl)
 
@@ -135,7 +138,9 @@ doubled-still paths p n q s holds = doubled-by paths p n q s (free_number paths 
 
 -- ---- a number is closed
 
-closed-by : (paths slotless : PathTable) (k q s : ℕ) (held : Bool) → is_held slotless k ≡ held → holds_path slotless q s ≡ true → target_at slotless s ≡ target_at paths s → IsHeldStill paths (if held then slotless else with_desc slotless k None) q s
+closed-by : (paths slotless : PathTable) (k q s : ℕ) (held : Bool) → is_held slotless k ≡ held → holds_path slotless q
+    s ≡ true → target_at slotless s ≡ target_at paths s → IsHeldStill paths (if held then slotless else with_desc
+    slotless k None) q s
 closed-by paths slotless k q s true e holds same = (holds, same)
 closed-by paths slotless k q s false e holds same = (
   holds,
@@ -148,7 +153,9 @@ closed-by paths slotless k q s false e holds same = (
 -- of another process
 pub closed-still : (paths : PathTable) (p n q s : ℕ) → q ≢ p → holds_path paths q s ≡ true → IsHeldStill paths (paths_after_close paths p n) q s
 closed-still paths p n q s differ holds =
-    closed-by paths (with_slot paths p n None) (path_at paths p n) q s (is_held (with_slot paths p n None) (path_at paths p n)) refl (ap (list_any (is_image s)) (numbers-other paths p q (set (numbers_of paths p) n None) differ) ∙ holds) refl
+    closed-by paths (with_slot paths p n None) (path_at paths p n) q s (is_held (with_slot paths p n None)
+    (path_at paths p n)) refl (ap (list_any (is_image s))
+    (numbers-other paths p q (set (numbers_of paths p) n None) differ) ∙ holds) refl
 
 -- ---- a process inherits
 

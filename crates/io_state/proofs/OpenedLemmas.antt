@@ -19,7 +19,9 @@ use Rattle.io_state.specs.Again.{IsAgain, IsKept, path_number}
 use Rattle.io_state.specs.Sound.{IsIo, MayWait, target_at, read_kind, read_kind_of}
 use Rattle.io_state.specs.Terminals.{MayRead}
 
-opened-desc : (io : Io) (path : SysPath) (opened : OpenPath) (desc : Option Desc) → desc_of io.paths path.0 ≡ desc → option_map (λ (desc : Desc). record { path = path; desc = desc }) desc ≡ Some opened → (path ≡ opened.path) × (desc_of io.paths path.0 ≡ Some opened.desc)
+opened-desc : (io : Io) (path : SysPath) (opened : OpenPath) (desc : Option Desc) → desc_of io.paths path.0 ≡ desc
+    → option_map (λ (desc : Desc). record { path = path; desc = desc }) desc ≡ Some opened → (path ≡ opened.path) ×
+    (desc_of io.paths path.0 ≡ Some opened.desc)
 opened-desc io path opened None is e = absurd (none-some opened e)
 opened-desc io path opened (Some desc) is e =
     let same : record { path = path; desc = desc } ≡ opened = some-same (record { path = path; desc = desc }) opened e in
@@ -29,7 +31,10 @@ opened-desc io path opened (Some desc) is e =
 pub opened-slot : (io : Io) (p n : ℕ) (opened : OpenPath) → open_path io p n ≡ Some opened → (slot_of io.paths p n ≡ Some opened.path) × (desc_of io.paths opened.path.0 ≡ Some opened.desc)
 opened-slot io p n opened e = by (slot_of io.paths p n) refl e
   where
-    by : (path : Option SysPath) → slot_of io.paths p n ≡ path → option_and_then (λ (s : SysPath). option_map (λ (desc : Desc). record { path = s; desc = desc }) (desc_of io.paths s.0)) path ≡ Some opened → (slot_of io.paths p n ≡ Some opened.path) × (desc_of io.paths opened.path.0 ≡ Some opened.desc)
+    by : (path : Option SysPath) → slot_of io.paths p n ≡ path
+        → option_and_then (λ (s : SysPath). option_map (λ (desc : Desc). record { path = s; desc = desc })
+        (desc_of io.paths s.0)) path ≡ Some opened → (slot_of io.paths p n ≡ Some opened.path) ×
+        (desc_of io.paths opened.path.0 ≡ Some opened.desc)
     by None is e = absurd (none-some opened e)
     by (Some path) is e =
         let found = opened-desc io path opened (desc_of io.paths path.0) refl e in
@@ -41,7 +46,9 @@ opened-target io p n opened e =
     ap (option_map (λ (desc : Desc). desc.target)) (opened-slot io p n opened e).1
 
 -- a process may wait in a call on a path that it has open
-pub may-wait : (io : Io) (p n : ℕ) (opened : OpenPath) (code moved count : ℕ) → open_path io p n ≡ Some opened → IsSome (direction_of code) → moved < count → ((m : ℕ) → opened.desc.target ≡ Term m → direction_of code ≡ Some Way.Reading) → MayWait io.paths p (record { code = code; path = opened.path; moved = moved; count = count })
+pub may-wait : (io : Io) (p n : ℕ) (opened : OpenPath) (code moved count : ℕ) → open_path io p n ≡ Some opened
+    → IsSome (direction_of code) → moved < count → ((m : ℕ) → opened.desc.target ≡ Term m → direction_of code ≡ Some
+    Way.Reading) → MayWait io.paths p (record { code = code; path = opened.path; moved = moved; count = count })
 may-wait io p n opened code moved count e moves left reads = record {
   moves = moves;
   left = left;
@@ -53,7 +60,10 @@ something : {X : Type 0} (o : Option X) (x : X) → o ≡ Some x → IsSome o
 something {X} o x e = subst (λ (o : Option X). IsSome o) (sym e) refl
 
 -- a process may read a terminal that it has open, by the call as an attempt finds it
-pub may-read : (io : Io) (p m number : ℕ) (kind : ReadKind) (call : IoCall) (regs : Regs) (opened : OpenPath) (code count : ℕ) → IsIo io → IsAgain call regs io p → path_number call regs ≡ number → open_path io p number ≡ Some opened → opened.desc.target ≡ Term m → io_call_of code ≡ Some call → read_kind_of call ≡ Some kind → 0 < count → MayRead io p m kind (unwrap_or (kept_at io p) (first_call code opened count))
+pub may-read : (io : Io) (p m number : ℕ) (kind : ReadKind) (call : IoCall) (regs : Regs) (opened : OpenPath)
+    (code count : ℕ) → IsIo io → IsAgain call regs io p → path_number call regs ≡ number → open_path io p number ≡
+    Some opened → opened.desc.target ≡ Term m → io_call_of code ≡ Some call → read_kind_of call ≡ Some kind
+    → 0 < count → MayRead io p m kind (unwrap_or (kept_at io p) (first_call code opened count))
 may-read io p m number kind call regs opened code count is again same named on coded reads some = by (kept_at io p) refl again
   where
     kind_is : read_kind code ≡ Some kind

@@ -67,23 +67,37 @@ pub are-closed : (io : Io) (p n : ℕ) → AreTargets io → AreTargets (with_pa
 are-closed io p n are =
     are-fewer io (paths_after_close io.paths p n) (λ t x e. fewer-by (with_slot io.paths p n None) (path_at io.paths p n) t x (is_held (with_slot io.paths p n None) (path_at io.paths p n)) e) are
 
-gone-by : (paths slotless : PathTable) (s : ℕ) (desc : Desc) (held : Bool) → (if held then None else desc_of paths s) ≡ Some desc → ((if held then slotless else with_desc slotless s None) ≡ with_desc slotless s None) × (target_at paths s ≡ Some desc.target)
+gone-by : (paths slotless : PathTable) (s : ℕ) (desc : Desc) (held : Bool) → (if held then None else desc_of paths s)
+    ≡ Some desc → ((if held then slotless else with_desc slotless s None) ≡ with_desc slotless s None) ×
+    (target_at paths s ≡ Some desc.target)
 gone-by paths slotless s desc true e = absurd (none-some desc e)
 gone-by paths slotless s desc false e = (refl, ap (option_map (λ (d : Desc). d.target)) e)
 
 -- the path that went
-pub gone-path : (paths : PathTable) (p n : ℕ) (desc : Desc) → closed_desc paths p n ≡ Some desc → (paths_after_close paths p n ≡ with_desc (with_slot paths p n None) (path_at paths p n) None) × (target_at paths (path_at paths p n) ≡ Some desc.target)
+pub gone-path : (paths : PathTable) (p n : ℕ) (desc : Desc) → closed_desc paths p n ≡ Some desc
+    → (paths_after_close paths p n ≡ with_desc (with_slot paths p n None) (path_at paths p n) None) ×
+    (target_at paths (path_at paths p n) ≡ Some desc.target)
 gone-path paths p n desc e =
     gone-by paths (with_slot paths p n None) (path_at paths p n) desc (is_held (with_slot paths p n None) (path_at paths p n)) e
 
 -- after a number was closed with which a pipe goes
-pub are-closed_pipe : (io : Io) (p n pipe : ℕ) (desc : Desc) → closed_desc io.paths p n ≡ Some desc → desc.target ≡ Pipe pipe → AreTargets io → AreTargets (with_pipes (with_paths io (paths_after_close io.paths p n)) (without_pipe io.pipes pipe))
+pub are-closed_pipe : (io : Io) (p n pipe : ℕ) (desc : Desc) → closed_desc io.paths p n ≡ Some desc
+    → desc.target ≡ Pipe pipe → AreTargets io
+    → AreTargets (with_pipes (with_paths io (paths_after_close io.paths p n)) (without_pipe io.pipes pipe))
 are-closed_pipe io p n pipe desc e on are =
     let gone = gone-path io.paths p n desc e in
-    subst (λ (paths : PathTable). AreTargets (with_pipes (with_paths io paths) (without_pipe io.pipes pipe))) (sym (gone.0)) (are-without_pipe (with_paths io (with_slot io.paths p n None)) (path_at io.paths p n) pipe (gone.1 ∙ ap (λ (x : Target). Some x) on) (record { pipes = are.pipes; one_path = are.one_path; terminals = are.terminals }))
+    subst (λ (paths : PathTable). AreTargets (with_pipes (with_paths io paths) (without_pipe io.pipes pipe)))
+    (sym (gone.0)) (are-without_pipe (with_paths io (with_slot io.paths p n None)) (path_at io.paths p n) pipe
+    (gone.1 ∙ ap (λ (x : Target). Some x) on) (record {
+      pipes = are.pipes;
+      one_path = are.one_path;
+      terminals =
+          are.terminals;
+    }))
 
 -- a path that is on no pipe goes alone
-pub closed-plain : (io : Io) (p n : ℕ) (desc : Desc) → closed_desc io.paths p n ≡ Some desc → ((pipe : ℕ) → desc.target ≡ Pipe pipe → ⊥) → with_paths io (paths_after_close io.paths p n) ≡ after_close io p n
+pub closed-plain : (io : Io) (p n : ℕ) (desc : Desc) → closed_desc io.paths p n ≡ Some desc
+    → ((pipe : ℕ) → desc.target ≡ Pipe pipe → ⊥) → with_paths io (paths_after_close io.paths p n) ≡ after_close io p n
 closed-plain io p n desc e plain =
     sym (ap (λ (gone : Option Desc). without_path (with_paths io (paths_after_close io.paths p n)) gone) e ∙ by desc.target plain)
   where
@@ -112,7 +126,9 @@ first-target t x e = elim (cases_eq t 1) [
     ]
 
 -- the state at the start
-pub is-first : (paths : PathTable) (terminals : List Terminal) (pipes : List (Option (List ℕ))) (calls : List (Option Kept)) → paths ≡ first_paths → ArePaths paths → terminals ≡ replicate 4 new_terminal → calls ≡ replicate 33 None → IsIo (record { paths = paths; terminals = terminals; pipes = pipes; calls = calls })
+pub is-first : (paths : PathTable) (terminals : List Terminal) (pipes : List (Option (List ℕ)))
+    (calls : List (Option Kept)) → paths ≡ first_paths → ArePaths paths → terminals ≡ replicate 4 new_terminal
+    → calls ≡ replicate 33 None → IsIo (record { paths = paths; terminals = terminals; pipes = pipes; calls = calls })
 is-first paths terminals pipes calls first are new none = record {
   paths = are;
   terminals = ap (length {A = Terminal}) new ∙ length-replicate 4 new_terminal;
@@ -147,8 +163,15 @@ is-first paths terminals pipes calls first are new none = record {
 opened-target : (paths : PathTable) (s t : ℕ) (desc : Desc) (x : Target) → target_at (with_desc paths s (Some desc)) t ≡ Some x → ((t ≡ s) × (desc.target ≡ x)) ⊎ (target_at paths t ≡ Some x)
 opened-target paths s t desc x e = elim (cases_eq t s) [
   | inl same ↦ elim (cases_lt s (length paths.descs)) [
-    | inl within ↦ inl (same, (let there : Some desc.target ≡ Some x = sym (ap (option_map (λ (d : Desc). d.target)) (ap (λ (k : ℕ). get_or (set paths.descs s (Some desc)) k None) same ∙ get_or-set_same paths.descs s (Some desc) None within)) ∙ e in cc))
-    | inr past ↦ absurd (none-some x (sym (ap (option_map (λ (d : Desc). d.target)) (get_or_past (set paths.descs s (Some desc)) t None (omega (arith, same, length-set paths.descs s (Some desc))))) ∙ e))
+    | inl within ↦ inl (
+      same,
+      (let there : Some desc.target ≡ Some x = sym (ap (option_map (λ (d : Desc). d.target))
+          (ap (λ (k : ℕ). get_or (set paths.descs s (Some desc)) k None) same ∙ get_or-set_same paths.descs s
+          (Some desc) None within)) ∙ e in cc),
+    )
+    | inr past ↦ absurd (none-some x
+        (sym (ap (option_map (λ (d : Desc). d.target)) (get_or_past (set paths.descs s (Some desc)) t None
+        (omega (arith, same, length-set paths.descs s (Some desc))))) ∙ e))
   ]
   | inr differ ↦ inr (sym (ap (option_map (λ (d : Desc). d.target)) (get_or-set_other paths.descs s t (Some desc) None differ)) ∙ e)
 ]
@@ -181,7 +204,9 @@ are-opened io s desc may are = record {
   ];
 }
 
-begun-by : (io : Io) (p : ℕ) (desc : Desc) (number path : Option ℕ) → MayOpen io desc → AreTargets io → AreTargets (with_paths io (option_map_or (λ n. option_map_or (with_path io.paths p desc n) path io.paths) number io.paths))
+begun-by : (io : Io) (p : ℕ) (desc : Desc) (number path : Option ℕ) → MayOpen io desc → AreTargets io
+    → AreTargets (with_paths io (option_map_or (λ n. option_map_or (with_path io.paths p desc n) path io.paths) number
+    io.paths))
 begun-by io p desc None path may are = are
 begun-by io p desc (Some n) None may are = are
 begun-by io p desc (Some n) (Some s) may are =
@@ -286,4 +311,7 @@ pub are-opened_on : (io : Io) (p mode k : ℕ) → free_pipe io.pipes ≡ Some k
 are-opened_on io p mode k e are =
     let free = free-pipe io.pipes k e in
     let begun : with_pipe io.pipes k [] ≡ pipes_after_begin io.pipes = ap (λ (o : Option ℕ). option_map_or (λ number. with_pipe io.pipes number []) o io.pipes) (sym e) in
-    subst (λ (pipes : List (Option (List ℕ))). AreTargets (with_paths (with_pipes io pipes) (paths_after_begin io.paths p (new_desc (Pipe k) mode)))) begun (are-begun (with_pipes io (with_pipe io.pipes k [])) p (new_desc (Pipe k) mode) (may-open_pipe io k mode free (free-within io.pipes k e) are) (are-with_pipe io k free are))
+    subst (λ (pipes : List (Option (List ℕ))). AreTargets (with_paths (with_pipes io pipes)
+    (paths_after_begin io.paths p (new_desc (Pipe k) mode)))) begun
+    (are-begun (with_pipes io (with_pipe io.pipes k [])) p (new_desc (Pipe k) mode) (may-open_pipe io k mode free
+    (free-within io.pipes k e) are) (are-with_pipe io k free are))

@@ -74,7 +74,9 @@ line_length-within bytes = by_place (return_place bytes) refl
 pub read-answer-same : (held : List ℕ) (alone : Bool) (most : ℕ) → 0 < most → read_answer held alone (min most (max (length held) 1)) ≡ read_answer held alone most
 read-answer-same held alone most some = by_empty (length held == 0) refl
   where
-    by_empty : (empty : Bool) → (length held == 0) ≡ empty → (if empty then answer_unmoved alone End else Done (min (min most (max (length held) 1)) (length held))) ≡ (if empty then answer_unmoved alone End else Done (min most (length held)))
+    by_empty : (empty : Bool) → (length held == 0) ≡ empty → (if empty then answer_unmoved alone End else Done
+        (min (min most (max (length held) 1)) (length held))) ≡ (if empty then answer_unmoved alone End else Done
+        (min most (length held)))
     by_empty true is = refl
     by_empty false is =
         let there = eqb-false (length held) 0 is in
@@ -84,7 +86,9 @@ read-answer-same held alone most some = by_empty (length held == 0) refl
 pub line-answer-same : (held : List ℕ) (alone : Bool) (most : ℕ) → 0 < most → read_line_answer held alone (min most (max (length held) 1)) ≡ read_line_answer held alone most
 line-answer-same held alone most some = by_empty (length held == 0) refl
   where
-    by_empty : (empty : Bool) → (length held == 0) ≡ empty → (if empty then answer_unmoved alone End else Done (min (min most (max (length held) 1)) (line_length held))) ≡ (if empty then answer_unmoved alone End else Done (min most (line_length held)))
+    by_empty : (empty : Bool) → (length held == 0) ≡ empty → (if empty then answer_unmoved alone End else Done
+        (min (min most (max (length held) 1)) (line_length held))) ≡ (if empty then answer_unmoved alone End else Done
+        (min most (line_length held)))
     by_empty true is = refl
     by_empty false is =
         let short = line_length-within held in
@@ -99,7 +103,9 @@ read-few held alone most = by_empty (length held == 0)
     by_alone true = (omega arith, omega arith)
     by_alone false = (omega arith, omega arith)
 
-    by_empty : (empty : Bool) → (moved_count (if empty then answer_unmoved alone End else Done (min most (length held))) ≤ most) × (moved_count (if empty then answer_unmoved alone End else Done (min most (length held))) ≤ length held)
+    by_empty : (empty : Bool)
+        → (moved_count (if empty then answer_unmoved alone End else Done (min most (length held))) ≤ most) ×
+        (moved_count (if empty then answer_unmoved alone End else Done (min most (length held))) ≤ length held)
     by_empty true = by_alone alone
     by_empty false = (omega arith, omega arith)
 
@@ -113,7 +119,9 @@ line-few held alone most = by_empty (length held == 0)
     by_alone true = (omega arith, omega arith)
     by_alone false = (omega arith, omega arith)
 
-    by_empty : (empty : Bool) → (moved_count (if empty then answer_unmoved alone End else Done (min most (line_length held))) ≤ most) × (moved_count (if empty then answer_unmoved alone End else Done (min most (line_length held))) ≤ length held)
+    by_empty : (empty : Bool)
+        → (moved_count (if empty then answer_unmoved alone End else Done (min most (line_length held))) ≤ most) ×
+        (moved_count (if empty then answer_unmoved alone End else Done (min most (line_length held))) ≤ length held)
     by_empty true = by_alone alone
     by_empty false = (omega arith, omega (arith, short))
 
@@ -130,7 +138,9 @@ write-few held alone count = by_full (pipe_room held == 0)
     by_full false = omega arith
 
 -- what stands at the front of a buffer, a part of which was read into
-pub front-moved : (answer : PipeAns) (held old into : List ℕ) (room : ℕ) → moved_count answer ≤ length held → moved_count answer ≤ room → room ≤ length into → old ≡ take room into → take (moved_count answer) (buffer_after_read answer held old ++ drop room into) ≡ bytes_moved answer held
+pub front-moved : (answer : PipeAns) (held old into : List ℕ) (room : ℕ) → moved_count answer ≤ length held
+    → moved_count answer ≤ room → room ≤ length into → old ≡ take room into → take (moved_count answer)
+    (buffer_after_read answer held old ++ drop room into) ≡ bytes_moved answer held
 front-moved answer held old into room inside few within is =
     let count = moved_count answer in
     let moved : length (bytes_moved answer held) ≡ count = length-take-le count held inside in

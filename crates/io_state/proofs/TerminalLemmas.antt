@@ -23,7 +23,12 @@ use Rattle.io_state.specs.Terminals.{MayRead, kept_after}
 use Rattle.terminal_mgr.specs.Term.{read_of}
 
 -- a terminal changed, and its driver with it
-pub terminal-changed : {Driver : Type 0} (screen : Driver → TerminalState) (change : Terminal → Terminal → TerminalState → TerminalState → Type 0) (terms now : List Terminal) (drivers : List Driver) (n : ℕ) (t u : Terminal) (old new : Driver) → terms ≡ now → n < length terms → n < length drivers → t ≡ get_or terms n t → old ≡ get_or drivers n old → change t u (screen old) (screen new) → ChangesOneTerminal (change (get_or now n new_terminal) (get_or (set terms n u) n new_terminal)) n (map screen drivers) (map screen (slice_set drivers n new))
+pub terminal-changed : {Driver : Type 0} (screen : Driver → TerminalState) (change : Terminal → Terminal
+    → TerminalState → TerminalState → Type 0) (terms now : List Terminal) (drivers : List Driver) (n : ℕ)
+    (t u : Terminal) (old new : Driver) → terms ≡ now → n < length terms → n < length drivers → t ≡ get_or terms n t
+    → old ≡ get_or drivers n old → change t u (screen old) (screen new) → ChangesOneTerminal
+    (change (get_or now n new_terminal) (get_or (set terms n u) n new_terminal)) n (map screen drivers)
+    (map screen (slice_set drivers n new))
 terminal-changed screen change terms now drivers n t u old new same inside there here held changed =
     ChangesOne-set screen (change (get_or now n new_terminal) (get_or (set terms n u) n new_terminal)) drivers n old new there held
     (subst (λ (x : Terminal). change (get_or now n new_terminal) x (screen old) (screen new)) (sym (get_or-set_same terms n u new_terminal inside))
@@ -31,7 +36,9 @@ terminal-changed screen change terms now drivers n t u old new same inside there
     (subst (λ (x : Terminal). change x u (screen old) (screen new)) (get_or_read terms n t inside here new_terminal) changed)))
 
 -- the state where a terminal and what is kept of a call changed
-pub is-io_changed : (io : Io) (p n : ℕ) (t : Terminal) (terminals : List Terminal) (kept now : Option Kept) → terminals ≡ set io.terminals n t → now ≡ kept → AreWaits (with_call (with_terminal io n t) p kept) → IsIo io → IsIo (record { paths = io.paths; terminals = terminals; pipes = io.pipes; calls = set io.calls p now })
+pub is-io_changed : (io : Io) (p n : ℕ) (t : Terminal) (terminals : List Terminal) (kept now : Option Kept)
+    → terminals ≡ set io.terminals n t → now ≡ kept → AreWaits (with_call (with_terminal io n t) p kept) → IsIo io
+    → IsIo (record { paths = io.paths; terminals = terminals; pipes = io.pipes; calls = set io.calls p now })
 is-io_changed io p n t terminals kept now changed same waits is =
     subst (λ (ts : List Terminal). IsIo (record { paths = io.paths; terminals = ts; pipes = io.pipes; calls = set io.calls p now })) (sym changed)
     (subst (λ (k : Option Kept). IsIo (with_call (with_terminal io n t) p k)) (sym same) (record {
@@ -43,7 +50,9 @@ is-io_changed io p n t terminals kept now changed same waits is =
     }))
 
 -- the state where a terminal changed
-pub is-io_with_terminal : (io : Io) (n : ℕ) (t : Terminal) (terminals : List Terminal) → terminals ≡ set io.terminals n t → (t.reading ≡ None) ⊎ (t.reading ≡ (terminal_at io n).reading) → IsIo io → IsIo (record { paths = io.paths; terminals = terminals; pipes = io.pipes; calls = io.calls })
+pub is-io_with_terminal : (io : Io) (n : ℕ) (t : Terminal) (terminals : List Terminal) → terminals ≡ set io.terminals
+    n t → (t.reading ≡ None) ⊎ (t.reading ≡ (terminal_at io n).reading) → IsIo io
+    → IsIo (record { paths = io.paths; terminals = terminals; pipes = io.pipes; calls = io.calls })
 is-io_with_terminal io n t terminals changed leaves is =
     subst (λ (ts : List Terminal). IsIo (record { paths = io.paths; terminals = ts; pipes = io.pipes; calls = io.calls })) (sym changed) (record {
       paths = is.paths;
@@ -54,23 +63,47 @@ is-io_with_terminal io n t terminals changed leaves is =
     })
 
 -- after an attempt of a read
-pub is-io_read : (io : Io) (p n most : ℕ) (kind : ReadKind) (call : Kept) (answer : Progress) (terminals : List Terminal) (kept : Option Kept) (before after : TerminalState) → IsIo io → MayRead io p n kind call → most ≡ most_of call → terminals ≡ set io.terminals n (get_or terminals n new_terminal) → Reads (read_of (pid p) kind most) answer (terminal_at io n) (get_or terminals n new_terminal) before after → kept ≡ kept_after answer call → IsIo (record { paths = io.paths; terminals = terminals; pipes = io.pipes; calls = set io.calls p kept })
+pub is-io_read : (io : Io) (p n most : ℕ) (kind : ReadKind) (call : Kept) (answer : Progress)
+    (terminals : List Terminal) (kept : Option Kept) (before after : TerminalState) → IsIo io → MayRead io p n kind
+    call → most ≡ most_of call → terminals ≡ set io.terminals n (get_or terminals n new_terminal)
+    → Reads (read_of (pid p) kind most) answer (terminal_at io n) (get_or terminals n new_terminal) before after
+    → kept ≡ kept_after answer call → IsIo (record {
+      paths = io.paths;
+      terminals = terminals;
+      pipes = io.pipes;
+      calls = set io.calls p kept;
+    })
 is-io_read io p n most kind call answer terminals kept before after is may same changed reads now =
     let t : Terminal = get_or terminals n new_terminal in
     let process : p < length io.calls = omega (arith, holder-within io.paths p call.path.0 is.paths may.may.held, is.calls) in
     let terminal : n < length io.terminals = omega (arith, is.targets.terminals call.path.0 n may.on, is.terminals) in
-    let leaves = read-leaves (read_of (pid p) kind (most_of call)) answer (terminal_at io n) t before after (subst (λ (m : ℕ). Reads (read_of (pid p) kind m) answer (terminal_at io n) t before after) same reads) in
+    let leaves = read-leaves (read_of (pid p) kind (most_of call)) answer (terminal_at io n) t before after
+    (subst (λ (m : ℕ). Reads (read_of (pid p) kind m) answer (terminal_at io n) t before after) same reads) in
     is-io_changed io p n t terminals (kept_after answer call) kept changed now (waits-after_read io p n kind call t answer process terminal may leaves is.waits) is
 
 -- after an attempt of a write
-pub is-io_written : (io : Io) (p n : ℕ) (terminals : List Terminal) → IsIo io → p < 33 → IfSome (kept_at io p) (IsNoRead io) → terminals ≡ set io.terminals n (get_or terminals n new_terminal) → ((get_or terminals n new_terminal).reading ≡ None) ⊎ ((get_or terminals n new_terminal).reading ≡ (terminal_at io n).reading) → IsIo (record { paths = io.paths; terminals = terminals; pipes = io.pipes; calls = set io.calls p None })
+pub is-io_written : (io : Io) (p n : ℕ) (terminals : List Terminal) → IsIo io → p < 33 → IfSome (kept_at io p)
+    (IsNoRead io) → terminals ≡ set io.terminals n (get_or terminals n new_terminal)
+    → ((get_or terminals n new_terminal).reading ≡ None) ⊎ ((get_or terminals n new_terminal).reading ≡
+    (terminal_at io n).reading) → IsIo (record {
+      paths = io.paths;
+      terminals = terminals;
+      pipes = io.pipes;
+      calls =
+          set io.calls p None;
+    })
 is-io_written io p n terminals is process free changed leaves =
-    is-io_changed io p n (get_or terminals n new_terminal) terminals None None changed refl (waits-after_write io p n (get_or terminals n new_terminal) (omega (arith, process, is.calls)) free leaves is.waits) is
+    is-io_changed io p n (get_or terminals n new_terminal) terminals None None changed refl
+    (waits-after_write io p n (get_or terminals n new_terminal) (omega (arith, process, is.calls)) free leaves
+    is.waits) is
 
 -- after the call of a process was broken off that waits on this terminal
-pub is-io_released : (io : Io) (p n : ℕ) (terminals : List Terminal) → terminals ≡ set io.terminals n (released (pid p) (terminal_at io n)) → wait_target io p ≡ Some (Term n) → p < 33 → n < 4 → IsIo io → IsIo (record { paths = io.paths; terminals = terminals; pipes = io.pipes; calls = set io.calls p None })
+pub is-io_released : (io : Io) (p n : ℕ) (terminals : List Terminal) → terminals ≡ set io.terminals n
+    (released (pid p) (terminal_at io n)) → wait_target io p ≡ Some (Term n) → p < 33 → n < 4 → IsIo io
+    → IsIo (record { paths = io.paths; terminals = terminals; pipes = io.pipes; calls = set io.calls p None })
 is-io_released io p n terminals changed on process there is =
-    is-io_changed io p n (released (pid p) (terminal_at io n)) terminals None None changed refl (waits-released io p n (omega (arith, process, is.calls)) (omega (arith, there, is.terminals)) on is.waits) is
+    is-io_changed io p n (released (pid p) (terminal_at io n)) terminals None None changed refl
+    (waits-released io p n (omega (arith, process, is.calls)) (omega (arith, there, is.terminals)) on is.waits) is
 
 -- after the call of a process was dropped that waits on no terminal
 pub is-io_dropped : (io : Io) (p : ℕ) → ((n : ℕ) → wait_target io p ≡ Some (Term n) → ⊥) → p < 33 → IsIo io → IsIo (with_call io p None)
@@ -83,7 +116,14 @@ is-io_dropped io p off process is = record {
 }
 
 -- after a process was forgotten
-pub is-io_forgotten : (io : Io) (p : ℕ) (terminals : List Terminal) → terminals ≡ map (forgotten (pid p)) io.terminals → p < 33 → IsIo io → IsIo (record { paths = io.paths; terminals = terminals; pipes = io.pipes; calls = set io.calls p None })
+pub is-io_forgotten : (io : Io) (p : ℕ) (terminals : List Terminal) → terminals ≡ map (forgotten (pid p)) io.terminals
+    → p < 33 → IsIo io → IsIo (record {
+      paths = io.paths;
+      terminals = terminals;
+      pipes = io.pipes;
+      calls = set
+          io.calls p None;
+    })
 is-io_forgotten io p terminals changed process is =
     subst (λ (ts : List Terminal). IsIo (record { paths = io.paths; terminals = ts; pipes = io.pipes; calls = set io.calls p None })) (sym changed) (record {
       paths = is.paths;

@@ -42,7 +42,9 @@ some-same x y e = cc
 -- ---- paths and pipes
 
 -- each call that waits has its path still
-pub waits-with_paths : (io : Io) (paths : PathTable) → ((p : ℕ) (call : Kept) → kept_at io p ≡ Some call → holds_path io.paths p call.path.0 ≡ true → IsHeldStill io.paths paths p call.path.0) → AreWaits io → AreWaits (with_paths io paths)
+pub waits-with_paths : (io : Io) (paths : PathTable) → ((p : ℕ) (call : Kept) → kept_at io p ≡ Some call
+    → holds_path io.paths p call.path.0 ≡ true → IsHeldStill io.paths paths p call.path.0) → AreWaits io
+    → AreWaits (with_paths io paths)
 waits-with_paths io paths still are = record {
   calls = λ p call kept.
       let was = are.calls p call kept in
@@ -122,7 +124,10 @@ waits-read_gone io n t none are =
 
 -- ---- another call of a process is kept
 
-pub waits-with_call : (io : Io) (p : ℕ) (call : Option Kept) → p < length io.calls → ((now : Kept) → call ≡ Some now → MayWait io.paths p now) → ((n : ℕ) (reading : Reading) → (terminal_at io n).reading ≡ Some reading → reading.process.0 ≡ p → IsWaitedFor io.paths (with_kept io.calls p call) n reading) → AreWaits io → AreWaits (with_call io p call)
+pub waits-with_call : (io : Io) (p : ℕ) (call : Option Kept) → p < length io.calls → ((now : Kept) → call ≡ Some now
+    → MayWait io.paths p now) → ((n : ℕ) (reading : Reading) → (terminal_at io n).reading ≡ Some reading
+    → reading.process.0 ≡ p → IsWaitedFor io.paths (with_kept io.calls p call) n reading) → AreWaits io
+    → AreWaits (with_call io p call)
 waits-with_call io p call within may reads are = record {
   calls = λ q now kept. elim (cases_eq q p) [
     | inl same ↦
@@ -148,7 +153,8 @@ abbrev pub IsNoReader : Io → ℕ → Type 0
 IsNoReader io p = (n : ℕ) (reading : Reading) → (terminal_at io n).reading ≡ Some reading → reading.process.0 ≡ p → ⊥
 
 -- of a process without an unfinished read any call may be kept in which it may wait
-pub waits-kept : (io : Io) (p : ℕ) (call : Option Kept) → p < length io.calls → ((now : Kept) → call ≡ Some now → MayWait io.paths p now) → IsNoReader io p → AreWaits io → AreWaits (with_call io p call)
+pub waits-kept : (io : Io) (p : ℕ) (call : Option Kept) → p < length io.calls → ((now : Kept) → call ≡ Some now
+    → MayWait io.paths p now) → IsNoReader io p → AreWaits io → AreWaits (with_call io p call)
 waits-kept io p call within may none are =
     waits-with_call io p call within may (λ n reading is same. absurd (none n reading is same)) are
 
@@ -175,7 +181,8 @@ if-some {X} None x P holds e = absurd (none-some x e)
 if-some {X} (Some y) x P holds e = subst (λ (z : X). P z) (some-same y x e) holds
 
 -- the call that is kept of the process of an unfinished read
-kept-of : (io : Io) (p n : ℕ) (reading : Reading) → AreWaits io → (terminal_at io n).reading ≡ Some reading → reading.process.0 ≡ p → (call : Kept) × (kept_at io p ≡ Some call) × IsReadOf io.paths n reading call
+kept-of : (io : Io) (p n : ℕ) (reading : Reading) → AreWaits io → (terminal_at io n).reading ≡ Some reading
+    → reading.process.0 ≡ p → (call : Kept) × (kept_at io p ≡ Some call) × IsReadOf io.paths n reading call
 kept-of io p n reading are is same =
     let was = are.reads n reading is in
     (was.call, ap (λ (k : ℕ). kept_at io k) (sym same) ∙ was.kept, was.read)
@@ -194,17 +201,24 @@ pub data Leaves (request : Reading) (answer : Progress) (old new : Terminal) : T
   begun : answer ≡ progress.Wait → new.reading ≡ Some request → Leaves request answer old new
   waits : answer ≡ progress.Wait → new.reading ≡ old.reading → Leaves request answer old new
 
-typed-leaves : (end : Option LineEnd) (it : Typing) (request : Reading) (answer : Progress) (old new : Terminal) → answer ≡ (attempt_by end it request).answer → new ≡ (attempt_by end it request).terminal → Leaves request answer old new
+typed-leaves : (end : Option LineEnd) (it : Typing) (request : Reading) (answer : Progress) (old new : Terminal)
+    → answer ≡ (attempt_by end it request).answer → new ≡ (attempt_by end it request).terminal → Leaves request answer
+    old new
 typed-leaves None it request answer old new a b = begun a (ap (λ (x : Terminal). x.reading) b)
 typed-leaves (Some EndOfFile) it request answer old new a b = over (ap (λ (x : Terminal). x.reading) b)
 typed-leaves (Some Line) it request answer old new a b = over (ap (λ (x : Terminal). x.reading) b)
 
-attempt-leaves : (taken : Bool) (request : Reading) (answer : Progress) (old new : Terminal) → answer ≡ (if taken then kept_waiting request old else typed_attempt request old).answer → new ≡ (if taken then kept_waiting request old else typed_attempt request old).terminal → Leaves request answer old new
+attempt-leaves : (taken : Bool) (request : Reading) (answer : Progress) (old new : Terminal)
+    → answer ≡ (if taken then kept_waiting request old else typed_attempt request old).answer
+    → new ≡ (if taken then kept_waiting request old else typed_attempt request old).terminal → Leaves request answer
+    old new
 attempt-leaves true request answer old new a b = waits a (ap (λ (x : Terminal). x.reading) b)
 attempt-leaves false request answer old new a b =
     typed-leaves (typed request old.line old.ahead).end (typed request old.line old.ahead) request answer old new a b
 
-outcome-leaves : (refused : Bool) (request : Reading) (answer : Progress) (old new : Terminal) (before now : TerminalState) → MatchBool refused (BreaksOff request old new before now) (Attempted (read_attempt request old) answer new before now) → Leaves request answer old new
+outcome-leaves : (refused : Bool) (request : Reading) (answer : Progress) (old new : Terminal)
+    (before now : TerminalState) → MatchBool refused (BreaksOff request old new before now)
+    (Attempted (read_attempt request old) answer new before now) → Leaves request answer old new
 outcome-leaves true request answer old new before now outcome = over (ap (λ (x : Terminal). x.reading) outcome.terminal)
 outcome-leaves false request answer old new before now outcome =
     attempt-leaves (is_taken request.process old) request answer old new outcome.answer_is outcome.terminal
@@ -214,7 +228,9 @@ read-leaves request answer old new before now reads =
     outcome-leaves (is_refused answer) request answer old new before now reads.outcome
 
 -- the unfinished read of such a process is that of the call, and on that terminal
-reader-is : (io : Io) (p n m : ℕ) (kind : ReadKind) (call : Kept) (reading : Reading) → MayRead io p n kind call → AreWaits io → (terminal_at io m).reading ≡ Some reading → reading.process.0 ≡ p → (m ≡ n) × IsReadOf io.paths m reading call
+reader-is : (io : Io) (p n m : ℕ) (kind : ReadKind) (call : Kept) (reading : Reading) → MayRead io p n kind call
+    → AreWaits io → (terminal_at io m).reading ≡ Some reading → reading.process.0 ≡ p → (m ≡ n) × IsReadOf io.paths m
+    reading call
 reader-is io p n m kind call reading may are is same =
     let was = kept-of io p m reading are is same in
     let here : was.0 ≡ call = if-some (kept_at io p) was.0 (λ (kept : Kept). kept ≡ call) may.same was.1 in
@@ -247,7 +263,9 @@ kept-may io p n kind call progress.Fault may now e = absurd (none-some now e)
 kept-may io p n kind call progress.NoMemory may now e = absurd (none-some now e)
 
 -- the read is over
-over-waits : (io : Io) (p n : ℕ) (kind : ReadKind) (call : Kept) (kept : Option Kept) (t : Terminal) → p < length io.calls → n < length io.terminals → MayRead io p n kind call → ((now : Kept) → kept ≡ Some now → MayWait io.paths p now) → t.reading ≡ None → AreWaits io → AreWaits (with_call (with_terminal io n t) p kept)
+over-waits : (io : Io) (p n : ℕ) (kind : ReadKind) (call : Kept) (kept : Option Kept) (t : Terminal)
+    → p < length io.calls → n < length io.terminals → MayRead io p n kind call → ((now : Kept) → kept ≡ Some now
+    → MayWait io.paths p now) → t.reading ≡ None → AreWaits io → AreWaits (with_call (with_terminal io n t) p kept)
 over-waits io p n kind call kept t process terminal may allowed none are =
     let gone = waits-read_gone io n t none are in
     let may' : MayRead (with_terminal io n t) p n kind call =
@@ -257,7 +275,9 @@ over-waits io p n kind call kept t process terminal may allowed none are =
     none-some reading (sym none ∙ sym (ap (λ (x : Terminal). x.reading) (terminal-same io n m t here terminal)) ∙ is)) gone
 
 -- the read waits
-waiting-waits : (io : Io) (p n : ℕ) (kind : ReadKind) (call : Kept) (t : Terminal) → p < length io.calls → MayRead io p n kind call → (t.reading ≡ Some (read_of (pid p) kind (most_of call))) ⊎ (t.reading ≡ (terminal_at io n).reading) → AreWaits io → AreWaits (with_call (with_terminal io n t) p (Some call))
+waiting-waits : (io : Io) (p n : ℕ) (kind : ReadKind) (call : Kept) (t : Terminal) → p < length io.calls
+    → MayRead io p n kind call → (t.reading ≡ Some (read_of (pid p) kind (most_of call))) ⊎
+    (t.reading ≡ (terminal_at io n).reading) → AreWaits io → AreWaits (with_call (with_terminal io n t) p (Some call))
 waiting-waits io p n kind call t process may leaves are =
     waits-with_terminal (with_call io p (Some call)) n t (λ reading is. elim leaves [
       | inl new ↦
@@ -279,7 +299,10 @@ waiting-waits io p n kind call t process may leaves are =
         }) are
 
 -- after an attempt of a read
-pub waits-after_read : (io : Io) (p n : ℕ) (kind : ReadKind) (call : Kept) (t : Terminal) (answer : Progress) → p < length io.calls → n < length io.terminals → MayRead io p n kind call → Leaves (read_of (pid p) kind (most_of call)) answer (terminal_at io n) t → AreWaits io → AreWaits (with_call (with_terminal io n t) p (kept_after answer call))
+pub waits-after_read : (io : Io) (p n : ℕ) (kind : ReadKind) (call : Kept) (t : Terminal) (answer : Progress)
+    → p < length io.calls → n < length io.terminals → MayRead io p n kind call
+    → Leaves (read_of (pid p) kind (most_of call)) answer (terminal_at io n) t → AreWaits io
+    → AreWaits (with_call (with_terminal io n t) p (kept_after answer call))
 waits-after_read io p n kind call t answer process terminal may (over none) are =
     over-waits io p n kind call (kept_after answer call) t process terminal may (kept-may io p n kind call answer may) none are
 waits-after_read io p n kind call t answer process terminal may (begun wait is) are =
@@ -290,10 +313,13 @@ waits-after_read io p n kind call t answer process terminal may (waits wait is) 
 -- ---- an attempt of a write
 
 -- what a write leaves of the unfinished read
-pub write-leaves : (process : Pid) (bytes : List ℕ) (count : ℕ) (answer : Progress) (old new : Terminal) (before now : TerminalState) → Writes process bytes count answer old new before now → (new.reading ≡ None) ⊎ (new.reading ≡ old.reading)
+pub write-leaves : (process : Pid) (bytes : List ℕ) (count : ℕ) (answer : Progress) (old new : Terminal)
+    (before now : TerminalState) → Writes process bytes count answer old new before now → (new.reading ≡ None) ⊎
+    (new.reading ≡ old.reading)
 write-leaves process bytes count answer old new before now writes = by (is_refused answer) writes.outcome
   where
-    by : (refused : Bool) → MatchBool refused (IsCutShort process bytes old new before now) (IsWritten process bytes count answer old new before now) → (new.reading ≡ None) ⊎ (new.reading ≡ old.reading)
+    by : (refused : Bool) → MatchBool refused (IsCutShort process bytes old new before now)
+        (IsWritten process bytes count answer old new before now) → (new.reading ≡ None) ⊎ (new.reading ≡ old.reading)
     by true outcome = inl (ap (λ (x : Terminal). x.reading) outcome.terminal)
     by false outcome = inr (ap (λ (x : Terminal). x.reading) outcome.terminal)
 
@@ -305,7 +331,9 @@ waits-left io n t leaves are = elim leaves [
 ]
 
 -- where no call of the process is kept then
-pub waits-after_write : (io : Io) (p n : ℕ) (t : Terminal) → p < length io.calls → IfSome (kept_at io p) (IsNoRead io) → (t.reading ≡ None) ⊎ (t.reading ≡ (terminal_at io n).reading) → AreWaits io → AreWaits (with_call (with_terminal io n t) p None)
+pub waits-after_write : (io : Io) (p n : ℕ) (t : Terminal) → p < length io.calls → IfSome (kept_at io p) (IsNoRead io)
+    → (t.reading ≡ None) ⊎ (t.reading ≡ (terminal_at io n).reading) → AreWaits io
+    → AreWaits (with_call (with_terminal io n t) p None)
 waits-after_write io p n t process free leaves are =
     let left = waits-left io n t leaves are in
     waits-kept (with_terminal io n t) p None process (λ now e. absurd (none-some now e)) (no-reader (with_terminal io n t) p free left) left
@@ -324,16 +352,21 @@ typed-count None it request = refl
 typed-count (Some EndOfFile) it request = refl
 typed-count (Some Line) it request = refl
 
-attempt-count : (taken : Bool) (request : Reading) (old : Terminal) → length (if taken then kept_waiting request old else typed_attempt request old).stored ≡ count_of (if taken then kept_waiting request old else typed_attempt request old).answer
+attempt-count : (taken : Bool) (request : Reading) (old : Terminal) → length (if taken then kept_waiting request old
+    else typed_attempt request old).stored ≡ count_of (if taken then kept_waiting request old else typed_attempt
+    request old).answer
 attempt-count true request old = refl
 attempt-count false request old =
     typed-count (typed request old.line old.ahead).end (typed request old.line old.ahead) request
 
 -- an attempt of a read answers how many bytes it stores
-pub stored-count : (request : Reading) (answer : Progress) (old new : Terminal) (before now : TerminalState) → Reads request answer old new before now → length (stored_bytes answer request old) ≡ count_of answer
+pub stored-count : (request : Reading) (answer : Progress) (old new : Terminal) (before now : TerminalState)
+    → Reads request answer old new before now → length (stored_bytes answer request old) ≡ count_of answer
 stored-count request answer old new before now reads = by (is_refused answer) refl reads.outcome
   where
-    by : (refused : Bool) → is_refused answer ≡ refused → MatchBool refused (BreaksOff request old new before now) (Attempted (read_attempt request old) answer new before now) → length (if refused then [] else (read_attempt request old).stored) ≡ count_of answer
+    by : (refused : Bool) → is_refused answer ≡ refused → MatchBool refused (BreaksOff request old new before now)
+        (Attempted (read_attempt request old) answer new before now)
+        → length (if refused then [] else (read_attempt request old).stored) ≡ count_of answer
     by true e outcome = refused-count answer e
     by false e outcome = attempt-count (is_taken request.process old) request old ∙ ap count_of (sym outcome.answer_is)
 
@@ -361,7 +394,9 @@ waits-dropped io p process none are =
     waits-kept io p None process (λ now e. absurd (none-some now e)) none are
 
 -- the unfinished read of a process, after it was released
-released-by : (p : ℕ) (t : Terminal) (reading : Option Reading) → t.reading ≡ reading → (now : Reading) → (if option_map_or (is_process (pid p)) (option_map (λ (it : Reading). it.process) reading) false then without_reading t else t).reading ≡ Some now → (now.process.0 ≡ p → ⊥) × (t.reading ≡ Some now)
+released-by : (p : ℕ) (t : Terminal) (reading : Option Reading) → t.reading ≡ reading → (now : Reading)
+    → (if option_map_or (is_process (pid p)) (option_map (λ (it : Reading). it.process) reading) false then
+    without_reading t else t).reading ≡ Some now → (now.process.0 ≡ p → ⊥) × (t.reading ≡ Some now)
 released-by p t None e now is = absurd (none-some now (sym e ∙ is))
 released-by p t (Some it) e now is = by (p == it.process.0) refl is
   where
@@ -384,7 +419,8 @@ forgotten-reads p t now is = by (option_map_or (is_process (pid p)) t.user false
     by false is = released-reads p t now is
 
 -- who waits on this terminal
-pub waits-released : (io : Io) (p n : ℕ) → p < length io.calls → n < length io.terminals → wait_target io p ≡ Some (Term n) → AreWaits io → AreWaits (with_call (with_terminal io n (released (pid p) (terminal_at io n))) p None)
+pub waits-released : (io : Io) (p n : ℕ) → p < length io.calls → n < length io.terminals → wait_target io p ≡ Some
+    (Term n) → AreWaits io → AreWaits (with_call (with_terminal io n (released (pid p) (terminal_at io n))) p None)
 waits-released io p n process within on are =
     let t : Terminal = released (pid p) (terminal_at io n) in
     let left = waits-with_terminal io n t (λ reading is. are.reads n reading (released-reads p (terminal_at io n) reading is).1) are in
@@ -399,7 +435,8 @@ forgotten-at io p n now is = elim (cases_lt n (length io.terminals)) [
   | inl within ↦
       forgotten-reads p (terminal_at io n) now (sym (ap (λ (t : Terminal). t.reading) (get_or-map (forgotten (pid p)) io.terminals n new_terminal new_terminal within)) ∙ is)
   | inr past ↦
-      absurd (none-some now (sym (ap (λ (t : Terminal). t.reading) (get_or_past (map (forgotten (pid p)) io.terminals) n new_terminal (omega (arith, past, length-map io.terminals (forgotten (pid p)))))) ∙ is))
+      absurd (none-some now (sym (ap (λ (t : Terminal). t.reading) (get_or_past (map (forgotten (pid p)) io.terminals)
+      n new_terminal (omega (arith, past, length-map io.terminals (forgotten (pid p)))))) ∙ is))
 ]
 
 pub waits-forgotten : (io : Io) (p : ℕ) → p < length io.calls → AreWaits io → AreWaits (with_call (without_user io p) p None)

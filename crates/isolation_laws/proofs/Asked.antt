@@ -31,10 +31,14 @@ asks code = by_load (code == F_LOAD) refl
     by_time None is = by_path (path_call_of code) refl
     by_time (Some call) is = is
 
-    by_call : (call : Option ProcCall) → call_of code ≡ call → Asks code (option_map_or on_processes call (option_map_or on_time (time_call_of code) (option_map_or on_paths (path_call_of code) no_call)))
+    by_call : (call : Option ProcCall) → call_of code ≡ call
+        → Asks code (option_map_or on_processes call (option_map_or on_time (time_call_of code)
+        (option_map_or on_paths (path_call_of code) no_call)))
     by_call None is = by_time (time_call_of code) refl
     by_call (Some call) is = is
 
-    by_load : (load : Bool) → (code == F_LOAD) ≡ load → Asks code (if load then loads else option_map_or on_processes (call_of code) (option_map_or on_time (time_call_of code) (option_map_or on_paths (path_call_of code) no_call)))
+    by_load : (load : Bool) → (code == F_LOAD) ≡ load → Asks code (if load then loads else option_map_or on_processes
+        (call_of code) (option_map_or on_time (time_call_of code) (option_map_or on_paths (path_call_of code)
+        no_call)))
     by_load true is = eqb-true code F_LOAD is
     by_load false is = by_call (call_of code) refl

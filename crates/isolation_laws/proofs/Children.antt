@@ -38,7 +38,9 @@ module _ (m : Inner) (p : ℕ) (lives : IsLiving m.records p) where
   goes-name (Ok file) result (Err number, loads, is) = subst (NamesChild m p) (sym is) tt
   goes-name (Ok file) result (Ok loaded, loads, is) =
       subst (NamesChild m p) (sym is)
-      (of-refuses m p (not (loaded.first.entry.info.kind == program_kind)) E_NEMOD (forks (with_memory m loaded.memory) p (loaded_program m p file loaded.first)) (forks-name (with_memory m loaded.memory) p lives (loaded_program m p file loaded.first)))
+      (of-refuses m p (not (loaded.first.entry.info.kind == program_kind)) E_NEMOD
+      (forks (with_memory m loaded.memory) p (loaded_program m p file loaded.first))
+      (forks-name (with_memory m loaded.memory) p lives (loaded_program m p file loaded.first)))
 
   pub fork-attempt-names : (asker : Asker) (old : Files) (terms : ℕ) (result : CallResult) (new : Files) → ForkAttempts m asker old terms p result new → NamesChild m p result
   fork-attempt-names asker old terms result new it = by_named (named_program m p) it

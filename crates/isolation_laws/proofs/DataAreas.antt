@@ -68,7 +68,9 @@ module _ (first : ℕ) where
           λ k other at. by_place it k other (sym (ap (λ (bytes : List ℕ). slice_get bytes k) (sym same)) ∙ at) (cases_eq k (length held % 8192)),
         )
       where
-        by_place : HoldsFrom held (8192 * (number - first)) found → (k other : ℕ) → slice_get (put_in found) k ≡ Some other → (k ≡ length held % 8192) ⊎ (k ≢ length held % 8192) → other ≡ get_or more (8192 * (number - first) + k) 0
+        by_place : HoldsFrom held (8192 * (number - first)) found → (k other : ℕ) → slice_get (put_in found) k ≡ Some
+            other → (k ≡ length held % 8192) ⊎ (k ≢ length held % 8192) → other ≡ get_or more
+            (8192 * (number - first) + k) 0
         by_place it k other at (inl is) = by_within (cases_lt k (length found))
           where
             by_within : (k < length found) ⊎ (length found ≤ k) → other ≡ get_or more (8192 * (number - first) + k) 0
@@ -82,7 +84,14 @@ module _ (first : ℕ) where
                 absurd (none-some other (sym none ∙ at))
         by_place it k other at (inr differ) =
             it.1 k other (sym (slice_get-set_other found (length held % 8192) k byte differ) ∙ at)
-            ∙ sym (at-other held byte (8192 * (number - first) + k) (λ same. differ (omega (arith, same, get-within found k other (sym (slice_get-set_other found (length held % 8192) k byte differ) ∙ at), it.0))))
+            ∙ sym (at-other held byte (8192 * (number - first) + k)
+            (λ same. differ (omega (
+              arith,
+              same,
+              get-within found k other
+                  (sym (slice_get-set_other found (length held % 8192) k byte differ) ∙ at),
+              it.0,
+            ))))
 
     put-held : (places : List (Option ℕ)) → slot_of places (length held / 8192) ≡ Some number → HoldInOrder more first (with_cell objects places (length held) byte)
     put-held places slot =
@@ -106,14 +115,18 @@ module _ (first : ℕ) where
 
   -- ---- and others behind it
 
-  stores-held : (count : ℕ) (places : List (Option ℕ)) → ((slot : ℕ) → slot < count → slot_of places slot ≡ Some (first + slot)) → (bytes held : List ℕ) (objects : List (List ℕ)) → length held + length bytes ≤ 8192 * count → HoldInOrder held first objects → HoldInOrder (held ++ bytes) first (with_writes objects places (writes_from (length held) bytes))
+  stores-held : (count : ℕ) (places : List (Option ℕ)) → ((slot : ℕ) → slot < count → slot_of places slot ≡ Some
+      (first + slot)) → (bytes held : List ℕ) (objects : List (List ℕ)) → length held + length bytes ≤ 8192 * count
+      → HoldInOrder held first objects → HoldInOrder (held ++ bytes) first (with_writes objects places
+      (writes_from (length held) bytes))
   stores-held count places slots [] held objects within all =
       subst (λ (held : List ℕ). HoldInOrder held first objects) (sym (append-nil held)) all
   stores-held count places slots (byte ∷ bytes) held objects within all =
       let next : HoldInOrder (held ++ byte ∷ []) first (with_cell objects places (length held) byte) = put-held held byte objects all places (slots (length held / 8192) (omega (arith, within))) in
       let more : length (held ++ byte ∷ []) ≡ length held + 1 = length-append held (byte ∷ []) in
       subst (λ (at : ℕ). HoldInOrder (held ++ byte ∷ bytes) first (with_writes (with_cell objects places (length held) byte) places (writes_from at bytes))) more
-      (subst (λ (all : List ℕ). HoldInOrder all first (with_writes (with_cell objects places (length held) byte) places (writes_from (length (held ++ byte ∷ [])) bytes))) (append_assoc held (byte ∷ []) bytes)
+      (subst (λ (all : List ℕ). HoldInOrder all first (with_writes (with_cell objects places (length held) byte)
+      places (writes_from (length (held ++ byte ∷ [])) bytes))) (append_assoc held (byte ∷ []) bytes)
       (stores-held count places slots bytes (held ++ byte ∷ []) (with_cell objects places (length held) byte) (omega (arith, within, more)) next))
 
 -- ---- the objects of a data area
@@ -148,13 +161,18 @@ module _ (m : MemoryState) (count : ℕ) (group : List ℕ) (fits : count + leng
       let long : length (new_numbers m count) ≡ count = length-range_with_len (length m.objects) count in
       let filled : length (filled_places (new_numbers m count)) ≡ count = simp length-map long in
       let eight : 8 - length group ≤ length low.places = simp (length-append, length-drop, length-replicate, filled) (omega arith) in
-      let at : slice_get (new_numbers m count) slot ≡ Some (length m.objects + slot) = slice_get-get_or (new_numbers m count) slot 0 (omega (arith, below, long)) ∙ ap Some (get_or-range_with_len (length m.objects) count slot 0 below) in
+      let at : slice_get (new_numbers m count) slot ≡ Some (length m.objects + slot) = slice_get-get_or
+      (new_numbers m count) slot 0 (omega (arith, below, long)) ∙ ap Some
+      (get_or-range_with_len (length m.objects) count slot 0 below) in
       has-slot (first_slots (new_numbers m count) group).places slot (length m.objects + slot)
       (before-put low.places (8 - length group) (filled_places group) slot (omega arith) eight
       ∙ get_or_append_left (filled_places (new_numbers m count)) (drop (0 + length (filled_places (new_numbers m count))) (replicate 8 None)) None slot (rw filled below)
       ∙ filled-at (new_numbers m count) slot (length m.objects + slot) at)
 
-pub area-held : (m n : MemoryState) (c : ℕ) (program : Program) → c < length m.maps → length program.parameters ≤ area_size program → started m c program.entered.number (blocks_of_pages program.pages) ≡ Ok n → HoldInOrder (area_bytes program) (length m.objects) (with_parameters (linked n program.entered.number) c program).objects
+pub area-held : (m n : MemoryState) (c : ℕ) (program : Program) → c < length m.maps → length program.parameters ≤
+    area_size program → started m c program.entered.number (blocks_of_pages program.pages) ≡ Ok n
+    → HoldInOrder (area_bytes program) (length m.objects) (with_parameters (linked n program.entered.number) c
+    program).objects
 area-held m n c program within fits is =
     let count = blocks_of_pages program.pages in
     let begins : Started m c program.entered.number count n = started-is m c program.entered.number count n is in
@@ -162,6 +180,13 @@ area-held m n c program within fits is =
     let places : map_at (with_first_slots m c group count) c ≡ first_slots (new_numbers m count) group = get_or-set_same m.maps c (first_slots (new_numbers m count) group) no_slots within in
     let long : length (zeros (parameters_at program)) ≡ parameters_at program = length-replicate {A = ℕ} (parameters_at program) 0 in
     subst (λ (n : MemoryState). HoldInOrder (area_bytes program) (length m.objects) (with_parameters (linked n program.entered.number) c program).objects) (sym begins.memory)
-    (subst (λ (slots : Slots ℕ). HoldInOrder (area_bytes program) (length m.objects) (with_writes (m.objects ++ replicate count zero_object) slots.places (writes_from (parameters_at program) program.parameters))) (sym places)
-    (subst (λ (at : ℕ). HoldInOrder (area_bytes program) (length m.objects) (with_writes (m.objects ++ replicate count zero_object) (first_slots (new_numbers m count) group).places (writes_from at program.parameters))) long
-    (stores-held (length m.objects) count (first_slots (new_numbers m count) group).places (area-slots m count group begins.fits) program.parameters (zeros (parameters_at program)) (m.objects ++ replicate count zero_object) (omega (arith, long, fits)) (zeros-held m.objects count (parameters_at program)))))
+    (subst (λ (slots : Slots ℕ). HoldInOrder (area_bytes program) (length m.objects)
+    (with_writes (m.objects ++ replicate count zero_object) slots.places (writes_from (parameters_at program)
+    program.parameters))) (sym places)
+    (subst (λ (at : ℕ). HoldInOrder (area_bytes program) (length m.objects)
+    (with_writes (m.objects ++ replicate count zero_object) (first_slots (new_numbers m count) group).places
+    (writes_from at program.parameters))) long
+    (stores-held (length m.objects) count (first_slots (new_numbers m count) group).places
+    (area-slots m count group begins.fits) program.parameters (zeros (parameters_at program))
+    (m.objects ++ replicate count zero_object) (omega (arith, long, fits)) (zeros-held m.objects count
+    (parameters_at program)))))

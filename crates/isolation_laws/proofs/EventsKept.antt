@@ -41,7 +41,10 @@ pub time-left : (m : Inner) (p : ℕ) (step : TimeStep) → AttemptLeft m p (res
 time-left m p (time.refused number) = left-refused m p number
 time-left m p (tells at packet) =
     left-done m p (with_memory m (stored m.memory p at (packet_bytes packet)))
-    (changed-self m p Ran (stored m.memory p at (packet_bytes packet)) m.records m.own (kept-written m.memory p (writes_from at (packet_bytes packet))) (itself-written m.memory p (writes_from at (packet_bytes packet))) (inl refl) (λ q differ. refl) (λ q differ. refl) refl)
+    (changed-self m p Ran (stored m.memory p at (packet_bytes packet)) m.records m.own
+    (kept-written m.memory p (writes_from at (packet_bytes packet)))
+    (itself-written m.memory p (writes_from at (packet_bytes packet))) (inl refl) (λ q differ. refl)
+    (λ q differ. refl) refl)
 time-left m p (sets clock) = left-done m p m (changed-same m p Ran)
 
 -- and no link changes
@@ -66,7 +69,9 @@ module _ (s : State) (p code : ℕ) (next : act_of s.inner p ≡ attempts code) 
   serves-leave (on_processes call) result asked it =
       subst (AttemptLeaves s p rest) (sym it.0) (call-leaves s p rest call lives (code, next, asked))
   serves-leave (on_time call) result asked (clock, it, is) =
-      subst (AttemptLeaves s p rest) (sym it.result_is) (as-left s p rest (result_of s.inner p (time_step call s.inner now p)) (time-left s.inner p (time_step call s.inner now p)) (time-links s.inner p (time_step call s.inner now p)))
+      subst (AttemptLeaves s p rest) (sym it.result_is)
+      (as-left s p rest (result_of s.inner p (time_step call s.inner now p))
+      (time-left s.inner p (time_step call s.inner now p)) (time-links s.inner p (time_step call s.inner now p)))
   serves-leave (on_paths call) result asked (it, same) =
       subst (AttemptLeaves s p rest) (sym it.result_is) (as-left s p rest _ (by-end s.inner p (io_effect it.effect) it.effect.end) (path-links s.inner p (io_effect it.effect) it.effect.end))
   serves-leave no_call result asked (result_is, is) =
@@ -78,11 +83,17 @@ acts-leave : (act : Act) (s : State) (p : ℕ) (end : EventEnd) (t : State) → 
 acts-leave executes s p end t lives next (ends, is) =
     let left = (instruction-left s.inner p (next_instruction s.inner p)).leaves in
     subst (λ (end : EventEnd). LeavesOthers s p end t) (sym ends)
-    (subst (LeavesOthers s p (instruction_end (next_instruction s.inner p))) (sym is) (as-before s p (instruction_end (next_instruction s.inner p)) _ left (other-links s.inner p (instruction_end (next_instruction s.inner p)) _ (λ call on (code, attempts_it, coded). cc) left.links)))
+    (subst (LeavesOthers s p (instruction_end (next_instruction s.inner p))) (sym is)
+    (as-before s p (instruction_end (next_instruction s.inner p)) _ left
+    (other-links s.inner p (instruction_end (next_instruction s.inner p)) _ (λ call on (code, attempts_it, coded).
+    cc) left.links)))
 acts-leave (delivers signal) s p end t lives next (ends, is) =
     let left = (broken-left s.inner p signal (interrupted_count s.files.io p)).leaves in
     subst (λ (end : EventEnd). LeavesOthers s p end t) (sym ends)
-    (subst (LeavesOthers s p (delivery_end (delivered (before_delivery s p) p signal))) (sym is) (as-before s p (delivery_end (delivered (before_delivery s p) p signal)) _ left (other-links s.inner p (delivery_end (delivered (before_delivery s p) p signal)) _ (λ call on (code, attempts_it, coded). cc) left.links)))
+    (subst (LeavesOthers s p (delivery_end (delivered (before_delivery s p) p signal))) (sym is)
+    (as-before s p (delivery_end (delivered (before_delivery s p) p signal)) _ left
+    (other-links s.inner p (delivery_end (delivered (before_delivery s p) p signal)) _
+    (λ call on (code, attempts_it, coded). cc) left.links)))
 acts-leave (attempts code) s p end t lives next (result, rest, (now, is_now, it), ends, is) =
     subst (λ (end : EventEnd). LeavesOthers s p end t) (sym ends)
     (subst (LeavesOthers s p (call_event_end result)) (sym is) (serves-leave s p code next lives now rest (service_of code) result (asks code) it))

@@ -60,7 +60,9 @@ module _ (s : State) (p : ℕ) (file : ProgramFile) (loaded : Loaded) (loads : L
         inl (omega (arith, late, more-objects s.inner.memory file.bytes loaded is-loaded), below)
     shared-comes object (inr shared) = by_entry (module_entry_at s.inner.memory.modules shared.number) refl (entered shared.number)
       where
-        by_entry : (old : Option ModuleEntry) → module_entry_at s.inner.memory.modules shared.number ≡ old → EnteredFrom group old (module_entry_at loaded.memory.modules shared.number) → IsNewOrShared s.inner.memory n.memory object
+        by_entry : (old : Option ModuleEntry) → module_entry_at s.inner.memory.modules shared.number ≡ old
+            → EnteredFrom group old (module_entry_at loaded.memory.modules shared.number)
+            → IsNewOrShared s.inner.memory n.memory object
         by_entry (Some old) at same =
             inr (record { number = shared.number; entry = shared.entry; is = at ∙ sym same ∙ shared.is; stands = shared.stands })
         by_entry None at new =
@@ -154,7 +156,9 @@ module _ (s : State) (p : ℕ) (file : ProgramFile) (loaded : Loaded) (loads : L
   module-leaves : (old : ModuleEntry) → LeavesMemory loaded.memory.modules old → AttemptsCall s.inner p Call.Chain → LeavesMemory s.inner.memory.modules old ⊎ LeavesWithFile s p old
   module-leaves old gone call = by_entry (module_entry_at s.inner.memory.modules gone.number) refl (entered gone.number)
     where
-      by_entry : (there : Option ModuleEntry) → module_entry_at s.inner.memory.modules gone.number ≡ there → EnteredFrom group there (module_entry_at loaded.memory.modules gone.number) → LeavesMemory s.inner.memory.modules old ⊎ LeavesWithFile s p old
+      by_entry : (there : Option ModuleEntry) → module_entry_at s.inner.memory.modules gone.number ≡ there
+          → EnteredFrom group there (module_entry_at loaded.memory.modules gone.number)
+          → LeavesMemory s.inner.memory.modules old ⊎ LeavesWithFile s p old
       by_entry (Some there) at same = inl (record {
         number = gone.number;
         entry = gone.entry;
@@ -177,7 +181,8 @@ module _ (s : State) (p : ℕ) (file : ProgramFile) (loaded : Loaded) (loads : L
             last_link = gone.last_link;
           })
 
-  module-comes : (number : ℕ) (old mid new : Option ModuleEntry) → EnteredFrom group old mid → module_entry_at loaded.memory.modules number ≡ mid → ComesLoaded mid new → ModuleComesOf s p number old new
+  module-comes : (number : ℕ) (old mid new : Option ModuleEntry) → EnteredFrom group old mid
+      → module_entry_at loaded.memory.modules number ≡ mid → ComesLoaded mid new → ModuleComesOf s p number old new
   module-comes number (Some old) mid new same at comes =
       by_new new (subst (λ (mid : Option ModuleEntry). ComesLoaded mid new) same comes)
     where
@@ -240,6 +245,8 @@ module _ (s : State) (p : ℕ) (file : ProgramFile) (loaded : Loaded) (loads : L
           λ q differ. other-comes t.inner grows q (record_of s.inner.records q) (record_of t.inner.records q) (left.others q differ);
       turns = left.turns;
       modules =
-          λ number. module-comes number (module_entry_at s.inner.memory.modules number) (module_entry_at loaded.memory.modules number) (module_entry_at t.inner.memory.modules number) (entered number) refl (left.modules number);
+          λ number. module-comes number (module_entry_at s.inner.memory.modules number)
+          (module_entry_at loaded.memory.modules number) (module_entry_at t.inner.memory.modules number)
+          (entered number) refl (left.modules number);
       links = left.links;
     }

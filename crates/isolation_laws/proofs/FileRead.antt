@@ -26,12 +26,16 @@ module _ (m : Inner) (p : ℕ) (file : ProgramFile) where
   tests-passed : (step : Step ProgramFile) → reading_of (tests_program m p step) ≡ Ok file → HasRead m p file step
   tests-passed step is = by_tests (parameters_of m p) refl (asks_for_program (regs_at m p).a) is
     where
-      by_tests : (given : Option (List ℕ)) → parameters_of m p ≡ given → (asks : Bool) → reading_of (refuses (is_none given) E_BPADDR (refuses (not asks) E_NEMOD step)) ≡ Ok file → HasRead m p file step
+      by_tests : (given : Option (List ℕ)) → parameters_of m p ≡ given → (asks : Bool)
+          → reading_of (refuses (is_none given) E_BPADDR (refuses (not asks) E_NEMOD step)) ≡ Ok file
+          → HasRead m p file step
       by_tests None there asks is = absurd cc
       by_tests (Some parameters) there false is = absurd cc
       by_tests (Some parameters) there true is = record { parameters = parameters; given = there; found = is }
 
-  list-passed : (list : Result PathList NameFault) (next : PathList → Step ProgramFile) → reading_of (reads_list list (tests_program m p) next) ≡ Ok file → HasRead m p file (reads_list list (λ step. step) next)
+  list-passed : (list : Result PathList NameFault) (next : PathList → Step ProgramFile)
+      → reading_of (reads_list list (tests_program m p) next) ≡ Ok file
+      → HasRead m p file (reads_list list (λ step. step) next)
   list-passed (Ok list) next is = tests-passed (next list) is
   list-passed (Err Unreadable) next is = absurd cc
   list-passed (Err NoName) next is = tests-passed (refused E_BPNAM) is
@@ -49,7 +53,9 @@ module _ (s : State) (p : ℕ) (now : TimePacket) (file : ProgramFile) (new : Fi
   pub file-found : ReadsProgram (program_file (asker_of s.inner p now) s.files (length s.terms) (λ step. step)) (Ok file) s.files new → file_at_x s p ≡ Ok file
   file-found it = reading-is (program_file (asker_of s.inner p now) s.files (length s.terms) (λ step. step)) it
 
-  pub program-found : ReadsProgram (program_file (asker_of s.inner p now) s.files (length s.terms) (tests_program s.inner p)) (Ok file) s.files new → HasRead s.inner p file (program_file (asker_of s.inner p now) s.files (length s.terms) (λ step. step))
+  pub program-found : ReadsProgram (program_file (asker_of s.inner p now) s.files (length s.terms)
+      (tests_program s.inner p)) (Ok file) s.files new → HasRead s.inner p file (program_file (asker_of s.inner p now)
+      s.files (length s.terms) (λ step. step))
   program-found it =
       list-passed s.inner p file (list_of (asker_of s.inner p now)) (λ list. program_on_way (asker_of s.inner p now) s.files list (way_of (asker_of s.inner p now) s.files (length s.terms) true list))
       (reading-is (program_file (asker_of s.inner p now) s.files (length s.terms) (tests_program s.inner p)) it)

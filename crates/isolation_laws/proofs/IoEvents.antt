@@ -187,7 +187,9 @@ leaves-same : (s : State) (p : ℕ) (t : State) → t.files.io ≡ s.files.io �
 leaves-same s p t same = leaves-by s p t (subst (IoLeft p s.files.io) (sym same) (io-same p s.files.io))
 
 -- a call on a terminal or a pipe
-module _ (s : State) (p code : ℕ) (call : IoCall) (next : act_of s.inner p ≡ attempts code) (coded : io_call_of code ≡ Some call) (drives : ℕ) (result : CallResult) (t : State) (attempt : IoAttempts call s.inner s.files.io drives p result t.files.io s.terms t.terms) where
+module _ (s : State) (p code : ℕ) (call : IoCall) (next : act_of s.inner p ≡ attempts code)
+    (coded : io_call_of code ≡ Some call) (drives : ℕ) (result : CallResult) (t : State)
+    (attempt : IoAttempts call s.inner s.files.io drives p result t.files.io s.terms t.terms) where
   direction : direction_of_call call ≡ Some Writing → direction_of code ≡ Some Writing
   direction is = ap (option_and_then direction_of_call) coded ∙ is
 
@@ -200,7 +202,11 @@ module _ (s : State) (p code : ℕ) (call : IoCall) (next : act_of s.inner p ≡
   same-terminal : (n : ℕ) → terminal_at t.files.io n ≡ terminal_at attempt.effect.io n
   same-terminal n = ap (λ (io : Io). terminal_at io n) attempt.state
 
-  by-reading : (n q : ℕ) → KeepsReading (terminal_at s.files.io n) (terminal_at attempt.effect.io n) ⊎ (direction_of_call call ≡ Some Writing) × FailsOn n s.terms t.terms × (terminal_at attempt.effect.io n ≡ without_reading (used_by (pid p) (terminal_at s.files.io n))) → KeepsReading (terminal_at s.files.io n) (terminal_at t.files.io n) ⊎ FailsInWrite s p n t × (terminal_at t.files.io n ≡ without_reading (used_by (pid p) (terminal_at s.files.io n)))
+  by-reading : (n q : ℕ) → KeepsReading (terminal_at s.files.io n) (terminal_at attempt.effect.io n) ⊎
+      (direction_of_call call ≡ Some Writing) × FailsOn n s.terms t.terms × (terminal_at attempt.effect.io n ≡
+      without_reading (used_by (pid p) (terminal_at s.files.io n))) → KeepsReading (terminal_at s.files.io n)
+      (terminal_at t.files.io n) ⊎ FailsInWrite s p n t × (terminal_at t.files.io n ≡ without_reading
+      (used_by (pid p) (terminal_at s.files.io n)))
   by-reading n q (inl stays) = inl (subst (KeepsReading (terminal_at s.files.io n)) (sym (same-terminal n)) stays)
   by-reading n q (inr (way, failed, gone)) =
       inr (record { writes = (code, next, direction way); failed = failed }, same-terminal n ∙ gone)
@@ -231,7 +237,9 @@ module _ (s : State) (p : ℕ) (call : AttemptsCall s.inner p Call.Fork) (child 
 
   at-child : (child < length s.files.io.paths.own) ⊎ (length s.files.io.paths.own ≤ child) → NumbersCome child begun
   at-child (inl within) =
-      inr (subst (IsGivenPaths s p child) (sym (get_or-set_same s.files.io.paths.own child (inherited_numbers (numbers_of s.files.io.paths p)) [] within)) (record { call = call; number = free; given = refl }))
+      inr (subst (IsGivenPaths s p child)
+      (sym (get_or-set_same s.files.io.paths.own child (inherited_numbers (numbers_of s.files.io.paths p)) []
+      within)) (record { call = call; number = free; given = refl }))
   at-child (inr past) =
       inl (get_or_past begun.paths.own child [] (rw length-set past) ∙ sym (get_or_past s.files.io.paths.own child [] past))
 
@@ -244,7 +252,8 @@ module _ (s : State) (p : ℕ) (call : AttemptsCall s.inner p Call.Fork) (child 
   started-leaves t is = record {
     numbers = λ q differ. subst (NumbersCome q) (sym is) (by-child q (cases_eq q child));
     paths =
-        λ q n opened differ lives was. stays-open s p t q n opened (ap (λ (io : Io). open_path io q n) is ∙ open-stays s.files.io begun q n opened (begun-left.numbers q (not-child q lives)) (λ path d named there. there) was);
+        λ q n opened differ lives was. stays-open s p t q n opened (ap (λ (io : Io). open_path io q n) is ∙ open-stays
+        s.files.io begun q n opened (begun-left.numbers q (not-child q lives)) (λ path d named there. there) was);
     calls = λ q differ. ap (λ (io : Io). kept_at io q) is;
     readings = λ n q differ reads.
         inl (subst (KeepsReading (terminal_at s.files.io n)) (ap (λ (io : Io). terminal_at io n) (sym is)) refl);
@@ -256,7 +265,8 @@ module _ (s : State) (p code : ℕ) (next : act_of s.inner p ≡ attempts code) 
   abbrev then : State
   then = with_rest s inner rest
 
-  fork-leaves-io : AttemptsCall s.inner p Call.Fork → (files : Files) (result : CallResult) → NamesChild s.inner p result → files.io ≡ s.files.io → rest ≡ with_files s (files_after_fork files p result) → LeavesIo s p then
+  fork-leaves-io : AttemptsCall s.inner p Call.Fork → (files : Files) (result : CallResult) → NamesChild s.inner p
+      result → files.io ≡ s.files.io → rest ≡ with_files s (files_after_fork files p result) → LeavesIo s p then
   fork-leaves-io call files (done t) names same is =
       started-leaves s p call (regs_at t p).a names then
       (ap (λ (rest : Rest). rest.files.io) is ∙ ap (λ (io : Io). io_started io p (regs_at t p).a) same)

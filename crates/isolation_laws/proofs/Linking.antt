@@ -82,7 +82,8 @@ module _ (m : Inner) (p : ℕ) where
   of-refuses true number next links = inl refl
   of-refuses false number next links = links
 
-  of-changes : (change : Result MemoryState MemoryFault) (next : MemoryState → CallResult) → ((memory : MemoryState) → change ≡ Ok memory → ResultLinks (next memory)) → ResultLinks (changes change next)
+  of-changes : (change : Result MemoryState MemoryFault) (next : MemoryState → CallResult)
+      → ((memory : MemoryState) → change ≡ Ok memory → ResultLinks (next memory)) → ResultLinks (changes change next)
   of-changes (Ok memory) next links = links memory refl
   of-changes (Err fault) next links = inl refl
 
@@ -207,7 +208,9 @@ module _ (m : Inner) (p : ℕ) where
     linked-anew =
         linked-modules m.memory memory program.entered.number (started-modules m.memory p program.entered.number (blocks_of_pages program.pages) memory is)
 
-    relinked : (primary : Option ModId) → (option_map_or (λ (id : ModId). without_module_link anew id.0) primary anew).memory.modules ≡ without_link (linked m.memory program.entered.number).modules (option_map (λ (id : ModId). id.0) primary)
+    relinked : (primary : Option ModId) → (option_map_or (λ (id : ModId). without_module_link anew id.0) primary
+        anew).memory.modules ≡ without_link (linked m.memory program.entered.number).modules
+        (option_map (λ (id : ModId). id.0) primary)
     relinked None = linked-anew
     relinked (Some id) = ap (λ (modules : List (Option ModuleEntry)). without_link modules (Some id.0)) linked-anew
 

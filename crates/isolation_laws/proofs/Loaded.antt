@@ -75,19 +75,24 @@ with-entered entries info group number = by_free (free_number entries) refl
               (subst (λ (old : Option ModuleEntry). EnteredFrom group old (module_entry_at (put place) place)) (sym free.1)
               (subst (EnteredFrom group None) (sym (entry-put entries place (new_entry info group false) free.0)) (refl, refl)))
           | inr differ ↦
-              subst (EnteredFrom group (module_entry_at entries number)) (sym (entry-other entries place (new_entry info group false) number differ)) (entered-same group (module_entry_at entries number))
+              subst (EnteredFrom group (module_entry_at entries number))
+              (sym (entry-other entries place (new_entry info group false) number differ))
+              (entered-same group (module_entry_at entries number))
         ]
 
 abbrev AllEntered : List ℕ → List (Option ModuleEntry) → Result (List (Option ModuleEntry)) (ℕ × ℕ) → Type 0
 AllEntered group entries (Ok later) = AreEntered group entries later
 AllEntered group entries (Err refusal) = Unit {0}
 
-all-then : (group : List ℕ) (entries mid : List (Option ModuleEntry)) (outcome : Result (List (Option ModuleEntry)) (ℕ × ℕ)) → AreEntered group entries mid → AllEntered group mid outcome → AllEntered group entries outcome
+all-then : (group : List ℕ) (entries mid : List (Option ModuleEntry)) (outcome : Result (List (Option ModuleEntry))
+    (ℕ × ℕ)) → AreEntered group entries mid → AllEntered group mid outcome → AllEntered group entries outcome
 all-then group entries mid (Ok later) first next =
     λ number. entered-then group (module_entry_at entries number) (module_entry_at mid number) (module_entry_at later number) (first number) (next number)
 all-then group entries mid (Err refusal) first next = tt
 
-all-entered : {file group : List ℕ} {from : ℕ} {entries : List (Option ModuleEntry)} {outcome : Result (List (Option ModuleEntry)) (ℕ × ℕ)} → EntersModules file group false from entries outcome → AllEntered group entries outcome
+all-entered : {file group : List ℕ} {from : ℕ} {entries : List (Option ModuleEntry)}
+    {outcome : Result (List (Option ModuleEntry)) (ℕ × ℕ)} → EntersModules file group false from entries outcome
+    → AllEntered group entries outcome
 all-entered {group = group} {entries = entries} (at_end is) =
     λ number. entered-same group (module_entry_at entries number)
 all-entered (broken is) = tt
@@ -100,7 +105,9 @@ abbrev HasModule : List ℕ → List (Option ModuleEntry) → Result (List (Opti
 HasModule file entries (Ok later) = (later ≡ entries) ⊎ (0 < length file)
 HasModule file entries (Err refusal) = Unit {0}
 
-has-module : {file group : List ℕ} {from : ℕ} {entries : List (Option ModuleEntry)} {outcome : Result (List (Option ModuleEntry)) (ℕ × ℕ)} → EntersModules file group false from entries outcome → HasModule file entries outcome
+has-module : {file group : List ℕ} {from : ℕ} {entries : List (Option ModuleEntry)}
+    {outcome : Result (List (Option ModuleEntry)) (ℕ × ℕ)} → EntersModules file group false from entries outcome
+    → HasModule file entries outcome
 has-module (at_end is) = inl refl
 has-module (broken is) = tt
 has-module (refused is e) = tt
@@ -120,17 +127,24 @@ pub record IsLoaded (m : MemoryState) (file : List ℕ) (loaded : Loaded) : Type
   pub first : module_entry_at entries loaded.first.number ≡ Some loaded.first.entry
   pub some : 0 < file_blocks file
 
-first-is : (entries : List (Option ModuleEntry)) (first : Entered) (place : Option ℕ) → option_and_then (entered_at entries) place ≡ Some first → (module_entry_at entries first.number ≡ Some first.entry) × (place ≡ Some first.number)
+first-is : (entries : List (Option ModuleEntry)) (first : Entered) (place : Option ℕ)
+    → option_and_then (entered_at entries) place ≡ Some first
+    → (module_entry_at entries first.number ≡ Some first.entry) × (place ≡ Some first.number)
 first-is entries first None is = absurd (none-some first is)
 first-is entries first (Some place) is = by_entry (module_entry_at entries place) refl is
   where
-    by_entry : (entry : Option ModuleEntry) → module_entry_at entries place ≡ entry → option_map (λ (entry : ModuleEntry). let r : Entered = record { number = place; entry = entry } in r) entry ≡ Some first → (module_entry_at entries first.number ≡ Some first.entry) × (Some place ≡ Some first.number)
+    by_entry : (entry : Option ModuleEntry) → module_entry_at entries place ≡ entry
+        → option_map (λ (entry : ModuleEntry). let r : Entered = record { number = place; entry = entry } in r) entry
+        ≡ Some first → (module_entry_at entries first.number ≡ Some first.entry) × (Some place ≡ Some first.number)
     by_entry None at is = absurd (none-some first is)
     by_entry (Some entry) at is =
-        subst (λ (first : Entered). (module_entry_at entries first.number ≡ Some first.entry) × (Some place ≡ Some first.number)) (same_Some (record { number = place; entry = entry }) first is) (at, refl)
+        subst (λ (first : Entered). (module_entry_at entries first.number ≡ Some first.entry) ×
+        (Some place ≡ Some first.number)) (same_Some (record { number = place; entry = entry }) first is)
+        (at, refl)
 
 -- there are blocks of a file that has a first module
-some-blocks : (m : MemoryState) (file : List ℕ) (entries : List (Option ModuleEntry)) (first : Entered) → (entries ≡ m.modules) ⊎ (0 < length file) → first_entered m entries ≡ Some first → 0 < file_blocks file
+some-blocks : (m : MemoryState) (file : List ℕ) (entries : List (Option ModuleEntry)) (first : Entered)
+    → (entries ≡ m.modules) ⊎ (0 < length file) → first_entered m entries ≡ Some first → 0 < file_blocks file
 some-blocks m file entries first (inl same) at =
     let (there, number) = first-is entries first (free_number m.modules) at in
     let none : module_entry_at m.modules first.number ≡ None = (free-entry m.modules first.number number).1 in
@@ -140,7 +154,11 @@ some-blocks m file entries first (inr long) at = omega (arith, long)
 pub loaded-is : (m : MemoryState) (file : List ℕ) (loaded : Loaded) → Loads m file (Ok loaded) → IsLoaded m file loaded
 loaded-is m file loaded it = by_entries it.entries (all-entered it.modules) (has-module it.modules) it.is
   where
-    by_first : (entries : List (Option ModuleEntry)) → AreEntered (new_numbers m (file_blocks file)) m.modules entries → (entries ≡ m.modules) ⊎ (0 < length file) → (first : Option Entered) → first_entered m entries ≡ first → (wants : Bool) → Ok loaded ≡ option_map_or {U = Result Loaded ℕ} (λ (first : Entered). if wants then Err E_NORAM else Ok (record { first = first; memory = with_file_entered m file entries })) first (Err E_BMID) → IsLoaded m file loaded
+    by_first : (entries : List (Option ModuleEntry)) → AreEntered (new_numbers m (file_blocks file)) m.modules entries
+        → (entries ≡ m.modules) ⊎ (0 < length file) → (first : Option Entered) → first_entered m entries ≡ first
+        → (wants : Bool) → Ok loaded ≡ option_map_or {U = Result Loaded ℕ} (λ (first : Entered). if wants then Err
+        E_NORAM else Ok (record { first = first; memory = with_file_entered m file entries })) first (Err E_BMID)
+        → IsLoaded m file loaded
     by_first entries are has None at wants is = absurd cc
     by_first entries are has (Some first) at true is = absurd cc
     by_first entries are has (Some first) at false is =
@@ -154,7 +172,9 @@ loaded-is m file loaded it = by_entries it.entries (all-entered it.modules) (has
           some = some-blocks m file entries first has at;
         })
 
-    by_entries : (outcome : Result (List (Option ModuleEntry)) (ℕ × ℕ)) → AllEntered (new_numbers m (file_blocks file)) m.modules outcome → HasModule file m.modules outcome → Ok loaded ≡ loaded_by m file outcome → IsLoaded m file loaded
+    by_entries : (outcome : Result (List (Option ModuleEntry)) (ℕ × ℕ))
+        → AllEntered (new_numbers m (file_blocks file)) m.modules outcome → HasModule file m.modules outcome
+        → Ok loaded ≡ loaded_by m file outcome → IsLoaded m file loaded
     by_entries (Err refusal) all has is = absurd cc
     by_entries (Ok entries) all has is =
         by_first entries all has (first_entered m entries) refl (wants_blocks m (file_blocks file)) is
@@ -224,7 +244,9 @@ module _ (m : MemoryState) (file : List ℕ) (loaded : Loaded) (is : IsLoaded m 
   cell-same p at byte seen =
       subst (λ (slots : Slots ℕ). object_cells loaded.memory.objects slots.places at ≡ Some byte) (sym (map-same p)) (by_slot (slot_of (map_at m p).places (at / 8192)) seen)
     where
-      by_object : (number : ℕ) (found : Option (List ℕ)) → slice_get m.objects number ≡ found → option_and_then (λ (object : List ℕ). slice_get object (at % 8192)) found ≡ Some byte → object_byte loaded.memory.objects (at % 8192) number ≡ Some byte
+      by_object : (number : ℕ) (found : Option (List ℕ)) → slice_get m.objects number ≡ found
+          → option_and_then (λ (object : List ℕ). slice_get object (at % 8192)) found ≡ Some byte
+          → object_byte loaded.memory.objects (at % 8192) number ≡ Some byte
       by_object number None there seen = absurd (none-some byte seen)
       by_object number (Some object) there seen =
           ap (option_and_then (λ (object : List ℕ). slice_get object (at % 8192))) (old-object number (get-within m.objects number object there) ∙ there) ∙ seen
@@ -260,7 +282,10 @@ module _ (cells more : Cells) (same : (at byte : ℕ) → cells at ≡ Some byte
   user-more at zero bytes is = is
   user-more at (suc count) bytes is = by_byte (user_cell cells at) (user_bytes cells (at + 1) count) refl refl (user-more (at + 1) count) is
     where
-      by_byte : (byte : Option ℕ) (rest : Option (List ℕ)) → user_cell cells at ≡ byte → user_bytes cells (at + 1) count ≡ rest → ((bytes : List ℕ) → user_bytes cells (at + 1) count ≡ Some bytes → user_bytes more (at + 1) count ≡ Some bytes) → byte_before byte rest ≡ Some bytes → byte_before (user_cell more at) (user_bytes more (at + 1) count) ≡ Some bytes
+      by_byte : (byte : Option ℕ) (rest : Option (List ℕ)) → user_cell cells at ≡ byte → user_bytes cells (at + 1)
+          count ≡ rest → ((bytes : List ℕ) → user_bytes cells (at + 1) count ≡ Some bytes → user_bytes more (at + 1)
+          count ≡ Some bytes) → byte_before byte rest ≡ Some bytes → byte_before (user_cell more at)
+          (user_bytes more (at + 1) count) ≡ Some bytes
       by_byte None rest first next there is = absurd (none-some bytes is)
       by_byte (Some byte) None first next there is = absurd (none-some bytes is)
       by_byte (Some byte) (Some rest) first next there is =

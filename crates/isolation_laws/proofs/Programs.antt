@@ -100,7 +100,9 @@ module _ (s : State) (p : ℕ) (rest : Rest) where
   of-refuses true number next leaves = refused-leaves number
   of-refuses false number next leaves = leaves
 
-  of-changes : (change : Result MemoryState MemoryFault) (next : MemoryState → CallResult) → ((memory : MemoryState) → change ≡ Ok memory → AttemptLeaves s p rest (next memory)) → AttemptLeaves s p rest (changes change next)
+  of-changes : (change : Result MemoryState MemoryFault) (next : MemoryState → CallResult)
+      → ((memory : MemoryState) → change ≡ Ok memory → AttemptLeaves s p rest (next memory)) → AttemptLeaves s p rest
+      (changes change next)
   of-changes (Ok memory) next leaves = leaves memory refl
   of-changes (Err fault) next leaves = refused-leaves _
 
@@ -111,7 +113,12 @@ mapped-objects : (m : MemoryState) (p : ℕ) (group : List ℕ) (mapped : Mapped
 mapped-objects m p group mapped is =
     by_slot (group_slot (map_at m p) group) (highest_free_run (map_at m p) (length group)) is
   where
-    by_slot : (slot run : Option ℕ) → option_map_or (λ (slot : ℕ). Some (let r : Mapped = record { slot = slot; memory = m } in r)) slot (option_map_or (λ (mapped : ℕ × MemoryState). Some (let r : Mapped = record { slot = mapped.0; memory = mapped.1 } in r)) (option_map (λ (first : ℕ). (first, with_map m p (with_group (map_at m p) first group))) run) None) ≡ Some mapped → mapped.memory.objects ≡ m.objects
+    by_slot : (slot run : Option ℕ)
+        → option_map_or (λ (slot : ℕ). Some (let r : Mapped = record { slot = slot; memory = m } in r)) slot
+        (option_map_or (λ (mapped : ℕ × MemoryState). Some
+        (let r : Mapped = record { slot = mapped.0; memory = mapped.1 } in r))
+        (option_map (λ (first : ℕ). (first, with_map m p (with_group (map_at m p) first group))) run) None) ≡ Some
+        mapped → mapped.memory.objects ≡ m.objects
     by_slot (Some slot) run is = sym (ap (λ (mapped : Mapped). mapped.memory.objects) (same_Some _ mapped is))
     by_slot None (Some first) is = sym (ap (λ (mapped : Mapped). mapped.memory.objects) (same_Some _ mapped is))
     by_slot None None is = cc
@@ -170,7 +177,9 @@ module _ (s : State) (p : ℕ) (file : ProgramFile) (loaded : Loaded) (loads : L
 
   link-leaves : act_of s.inner p ≡ attempts F_LOAD → (rest : Rest) → AttemptLeaves s p rest (links_first s.inner p file loaded)
   link-leaves next rest =
-      of-needs s p rest (mapped_group loaded.memory p loaded.first.entry.group) E_MEMFUL (λ mapped. refuses (nat_le MOST_LINKS (links_at (own_at s.inner p) mapped.slot)) E_MEMFUL (done (after_link s.inner p loaded.first mapped count)))
+      of-needs s p rest (mapped_group loaded.memory p loaded.first.entry.group) E_MEMFUL
+      (λ mapped. refuses (nat_le MOST_LINKS (links_at (own_at s.inner p) mapped.slot)) E_MEMFUL
+      (done (after_link s.inner p loaded.first mapped count)))
       (λ mapped is. of-refuses s p rest (nat_le MOST_LINKS (links_at (own_at s.inner p) mapped.slot)) E_MEMFUL (done (after_link s.inner p loaded.first mapped count))
       (file-leaves s p file loaded loads (with_rest s (after mapped is count next) rest) (linked-left mapped is count next)))
     where
@@ -194,7 +203,10 @@ module _ (s : State) (p : ℕ) (file : ProgramFile) (loaded : Loaded) (loads : L
     pub room : HasRoom before p program
     room = record {
       fits =
-          subst (λ (n : ℕ). n ≤ 256 * program.pages) (sym (ap (length {A = ℕ}) parameters-are ∙ user-length (cells_at s.inner p) (regs_at s.inner p).u (regs_at s.inner p).y parameters given)) (room-of before p loaded.first.entry (regs_at s.inner p).b (regs_at s.inner p).y);
+          subst (λ (n : ℕ). n ≤ 256 * program.pages)
+          (sym (ap (length {A = ℕ}) parameters-are ∙ user-length (cells_at s.inner p) (regs_at s.inner p).u
+          (regs_at s.inner p).y parameters given)) (room-of before p loaded.first.entry (regs_at s.inner p).b
+          (regs_at s.inner p).y);
       given = λ k byte at. record {
         starts = starts;
         parameters = parameters;
@@ -229,8 +241,11 @@ module _ (s : State) (p : ℕ) (file : ProgramFile) (loaded : Loaded) (loads : L
       begun-objects : (object : ℕ) → object < length loaded.memory.objects → slice_get begun.objects object ≡ slice_get loaded.memory.objects object
       begun-objects object there =
           let begins : Started loaded.memory c loaded.first.number (blocks_of_pages program.pages) memory = started-is loaded.memory c loaded.first.number (blocks_of_pages program.pages) memory is in
-          subst (λ (n : MemoryState). slice_get (stored (linked n loaded.first.number) c (parameters_at program) program.parameters).objects object ≡ slice_get loaded.memory.objects object) (sym begins.memory)
-          (old-kept loaded.memory c (blocks_of_pages program.pages) begins.entry.group begins.fits loaded.first.number (parameters_at program) program.parameters (within-area before p program.pages (length program.parameters) room.fits) object there)
+          subst (λ (n : MemoryState). slice_get (stored (linked n loaded.first.number) c (parameters_at program)
+          program.parameters).objects object ≡ slice_get loaded.memory.objects object) (sym begins.memory)
+          (old-kept loaded.memory c (blocks_of_pages program.pages) begins.entry.group begins.fits loaded.first.number
+          (parameters_at program) program.parameters (within-area before p program.pages
+          (length program.parameters) room.fits) object there)
 
       begun-still : memory.modules ≡ loaded.memory.modules
       begun-still =
@@ -244,7 +259,10 @@ module _ (s : State) (p : ℕ) (file : ProgramFile) (loaded : Loaded) (loads : L
       begun-modules = linked-modules loaded.memory memory loaded.first.number begun-still
 
     -- from what is left of the others where the file is in memory
-    from-left : (n : Inner) → Left before p Ran n → ((object : ℕ) → object < length loaded.memory.objects → slice_get n.memory.objects object ≡ slice_get loaded.memory.objects object) → ((number : ℕ) → ComesLoaded s p file loaded loads (module_entry_at loaded.memory.modules number) (module_entry_at n.memory.modules number)) → ChangesLinks s p Ran n.memory → FileLeft s p file loaded loads n
+    from-left : (n : Inner) → Left before p Ran n → ((object : ℕ) → object < length loaded.memory.objects
+        → slice_get n.memory.objects object ≡ slice_get loaded.memory.objects object)
+        → ((number : ℕ) → ComesLoaded s p file loaded loads (module_entry_at loaded.memory.modules number)
+        (module_entry_at n.memory.modules number)) → ChangesLinks s p Ran n.memory → FileLeft s p file loaded loads n
     from-left n left objects modules links = record {
       objects = objects;
       new_objects = new-objects n.memory left.leaves.new_objects;
@@ -256,7 +274,9 @@ module _ (s : State) (p : ℕ) (file : ProgramFile) (loaded : Loaded) (loads : L
     }
 
     -- a child begins
-    module _ (lives : IsLiving s.inner.records p) (call : AttemptsCall s.inner p Call.Fork) (child : ℕ) (free : free_process s.inner.records ≡ Some child) (memory : MemoryState) (is : started loaded.memory child loaded.first.number (blocks_of_pages program.pages) ≡ Ok memory) where
+    module _ (lives : IsLiving s.inner.records p) (call : AttemptsCall s.inner p Call.Fork) (child : ℕ)
+        (free : free_process s.inner.records ≡ Some child) (memory : MemoryState) (is : started loaded.memory child
+        loaded.first.number (blocks_of_pages program.pages) ≡ Ok memory) where
       abbrev made : Inner
       made = with_regs_of (with_child before p child program memory) p (forked_regs (regs_at before p) child program)
 
@@ -295,7 +315,9 @@ module _ (s : State) (p : ℕ) (file : ProgramFile) (loaded : Loaded) (loads : L
       chained-objects None = refl
       chained-objects (Some id) = refl
 
-      chained-modules : (primary : Option ModId) → (option_map_or (λ (id : ModId). without_module_link anew id.0) primary anew).memory.modules ≡ without_link (linked loaded.memory loaded.first.number).modules (option_map (λ (id : ModId). id.0) primary)
+      chained-modules : (primary : Option ModId) → (option_map_or (λ (id : ModId). without_module_link anew id.0)
+          primary anew).memory.modules ≡ without_link (linked loaded.memory loaded.first.number).modules
+          (option_map (λ (id : ModId). id.0) primary)
       chained-modules None = begun-modules p memory is
       chained-modules (Some id) =
           ap (λ (modules : List (Option ModuleEntry)). without_link modules (Some id.0)) (begun-modules p memory is)
@@ -325,7 +347,9 @@ module _ (s : State) (p : ℕ) (file : ProgramFile) (loaded : Loaded) (loads : L
 -- ---- attempts
 
 module _ (s : State) (p : ℕ) (now : TimePacket) (rest : Rest) (result : CallResult) (new : Files) where
-  loads-leave : act_of s.inner p ≡ attempts F_LOAD → (reading : Result ProgramFile ℕ) → ReadsProgram (program_file (asker_of s.inner p now) s.files (length s.terms) (λ step. step)) reading s.files new → GoesOnLoaded s.inner reading (links_first s.inner p) result → AttemptLeaves s p rest result
+  loads-leave : act_of s.inner p ≡ attempts F_LOAD → (reading : Result ProgramFile ℕ)
+      → ReadsProgram (program_file (asker_of s.inner p now) s.files (length s.terms) (λ step. step)) reading s.files
+      new → GoesOnLoaded s.inner reading (links_first s.inner p) result → AttemptLeaves s p rest result
   loads-leave next (Err number) reads is =
       subst (AttemptLeaves s p rest) (sym is) (refused-leaves s p rest number)
   loads-leave next (Ok file) reads (Err number, loads, is) =
@@ -339,7 +363,10 @@ module _ (s : State) (p : ℕ) (now : TimePacket) (rest : Rest) (result : CallRe
 
   -- a program of a file
 
-  forks-file : IsLiving s.inner.records p → StartsFileBy s.inner p Call.Fork → (reading : Result ProgramFile ℕ) → ReadsProgram (program_file (asker_of s.inner p now) s.files (length s.terms) (tests_program s.inner p)) reading s.files new → GoesOnLoaded s.inner reading (starts_first forks s.inner p) result → AttemptLeaves s p rest result
+  forks-file : IsLiving s.inner.records p → StartsFileBy s.inner p Call.Fork → (reading : Result ProgramFile ℕ)
+      → ReadsProgram (program_file (asker_of s.inner p now) s.files (length s.terms) (tests_program s.inner p))
+      reading s.files new → GoesOnLoaded s.inner reading (starts_first forks s.inner p) result → AttemptLeaves s p
+      rest result
   forks-file lives by (Err number) reads is =
       subst (AttemptLeaves s p rest) (sym is) (refused-leaves s p rest number)
   forks-file lives by (Ok file) reads (Err number, loads, is) =
@@ -349,16 +376,22 @@ module _ (s : State) (p : ℕ) (now : TimePacket) (rest : Rest) (result : CallRe
       subst (AttemptLeaves s p rest) (sym is)
       (forks-leave s p file loaded (record { call = inr (inl by); found = read.found; loads = loads }) (inl by.attempted) read.parameters read.given lives by.attempted rest)
 
-  pub fork-leaves-others : IsLiving s.inner.records p → AttemptsCall s.inner p Call.Fork → ForkAttempts s.inner (asker_of s.inner p now) s.files (length s.terms) p result new → AttemptLeaves s p rest result
+  pub fork-leaves-others : IsLiving s.inner.records p → AttemptsCall s.inner p Call.Fork → ForkAttempts s.inner
+      (asker_of s.inner p now) s.files (length s.terms) p result new → AttemptLeaves s p rest result
   fork-leaves-others lives call it = by_named (named_program s.inner p) refl it
     where
-      by_named : (named : Option Entered) → named_program s.inner p ≡ named → MatchOption named (StartsFile forks s.inner (asker_of s.inner p now) s.files (length s.terms) p result new) (λ named. (result ≡ f_fork s.inner p) × (new ≡ s.files)) → AttemptLeaves s p rest result
+      by_named : (named : Option Entered) → named_program s.inner p ≡ named → MatchOption named
+          (StartsFile forks s.inner (asker_of s.inner p now) s.files (length s.terms) p result new)
+          (λ named. (result ≡ f_fork s.inner p) × (new ≡ s.files)) → AttemptLeaves s p rest result
       by_named None unnamed it =
           forks-file lives (record { attempted = call; unnamed = unnamed }) it.reading it.reads it.comes
       by_named (Some entered) named (is, same) =
           subst (AttemptLeaves s p rest) (sym is) (call-leaves s p rest Call.Fork lives call)
 
-  chains-file : StartsFileBy s.inner p Call.Chain → (reading : Result ProgramFile ℕ) → ReadsProgram (program_file (asker_of s.inner p now) s.files (length s.terms) (tests_program s.inner p)) reading s.files new → GoesOnLoaded s.inner reading (starts_first chains s.inner p) result → AttemptLeaves s p rest result
+  chains-file : StartsFileBy s.inner p Call.Chain → (reading : Result ProgramFile ℕ)
+      → ReadsProgram (program_file (asker_of s.inner p now) s.files (length s.terms) (tests_program s.inner p))
+      reading s.files new → GoesOnLoaded s.inner reading (starts_first chains s.inner p) result → AttemptLeaves s p
+      rest result
   chains-file by (Err number) reads is =
       subst (AttemptLeaves s p rest) (sym is) (refused-leaves s p rest number)
   chains-file by (Ok file) reads (Err number, loads, is) =
@@ -368,10 +401,13 @@ module _ (s : State) (p : ℕ) (now : TimePacket) (rest : Rest) (result : CallRe
       subst (AttemptLeaves s p rest) (sym is)
       (chains-leave s p file loaded (record { call = inr (inr by); found = read.found; loads = loads }) (inr by.attempted) read.parameters read.given by.attempted rest)
 
-  pub chain-leaves-others : IsLiving s.inner.records p → AttemptsCall s.inner p Call.Chain → ChainAttempts s.inner (asker_of s.inner p now) s.files (length s.terms) p result new → AttemptLeaves s p rest result
+  pub chain-leaves-others : IsLiving s.inner.records p → AttemptsCall s.inner p Call.Chain → ChainAttempts s.inner
+      (asker_of s.inner p now) s.files (length s.terms) p result new → AttemptLeaves s p rest result
   chain-leaves-others lives call it = by_named (named_program s.inner p) refl it
     where
-      by_named : (named : Option Entered) → named_program s.inner p ≡ named → MatchOption named (StartsFile chains s.inner (asker_of s.inner p now) s.files (length s.terms) p result new) (λ named. (result ≡ f_chain s.inner p) × (new ≡ s.files)) → AttemptLeaves s p rest result
+      by_named : (named : Option Entered) → named_program s.inner p ≡ named → MatchOption named
+          (StartsFile chains s.inner (asker_of s.inner p now) s.files (length s.terms) p result new)
+          (λ named. (result ≡ f_chain s.inner p) × (new ≡ s.files)) → AttemptLeaves s p rest result
       by_named None unnamed it =
           chains-file (record { attempted = call; unnamed = unnamed }) it.reading it.reads it.comes
       by_named (Some entered) named (is, same) =

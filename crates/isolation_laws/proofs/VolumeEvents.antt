@@ -87,7 +87,9 @@ leaves-by s p t stay drives clock = record {
 
 -- ---- a child is given the directories
 
-module _ (s : State) (p : ℕ) (call : AttemptsCall s.inner p Call.Fork) (child : ℕ) (free : free_process s.inner.records ≡ Some child) (files : Files) (same : files.directories ≡ s.files.directories) where
+module _ (s : State) (p : ℕ) (call : AttemptsCall s.inner p Call.Fork) (child : ℕ)
+    (free : free_process s.inner.records ≡ Some child) (files : Files) (same : files.directories ≡
+    s.files.directories) where
   abbrev begun : Files
   begun = files_started files p child
 
@@ -122,7 +124,10 @@ module _ (s : State) (p code : ℕ) (next : act_of s.inner p ≡ attempts code) 
   files-leave rest files stay drives is =
       subst (λ (rest : Rest). LeavesVolumes s p (then rest)) (sym is) (leaves-by s p (then (with_files s files)) stay drives (inl refl))
 
-  fork-leaves-volumes : {reached : Option ℕ} → AttemptsCall s.inner p Call.Fork → (rest : Rest) (files : Files) (result : CallResult) → NamesChild s.inner p result → LeavesFiles reached s.files result files → DrivesCome s p files.drives → rest ≡ with_files s (files_after_fork files p result) → LeavesVolumes s p (then rest)
+  fork-leaves-volumes : {reached : Option ℕ} → AttemptsCall s.inner p Call.Fork → (rest : Rest) (files : Files)
+      (result : CallResult) → NamesChild s.inner p result → LeavesFiles reached s.files result files
+      → DrivesCome s p files.drives → rest ≡ with_files s (files_after_fork files p result) → LeavesVolumes s p
+      (then rest)
   fork-leaves-volumes call rest files (done t) names left drives is =
       subst (λ (rest : Rest). LeavesVolumes s p (then rest)) (sym is) (record {
         volumes = inl left.volumes;
@@ -150,7 +155,9 @@ module _ (s : State) (p code : ℕ) (next : act_of s.inner p ≡ attempts code) 
   reaches service serves drive reached =
       record { attempted = (code, next, serves); now = now; is_now = is_now; reached = reached }
 
-  drives-come : (service : Service) → service_of code ≡ service → (result : CallResult) (new : Files) → NoneFailed s.files.drives new.drives ⊎ FaultAnswers (drive_by service s p now) s.files result new → DrivesCome s p new.drives
+  drives-come : (service : Service) → service_of code ≡ service → (result : CallResult) (new : Files)
+      → NoneFailed s.files.drives new.drives ⊎ FaultAnswers (drive_by service s p now) s.files result new
+      → DrivesCome s p new.drives
   drives-come service serves result new (inl none) = inl none
   drives-come service serves result new (inr fault) = inr (record {
     service = service;
@@ -167,9 +174,15 @@ module _ (s : State) (p code : ℕ) (next : act_of s.inner p ≡ attempts code) 
   abbrev drive_by_name : Option Entered → Option ℕ
   drive_by_name named = option_map_or (λ (entered : Entered). None) named list_drive
 
-  program-drives : (service : Service) → service_of code ≡ service → drive_by service s p now ≡ drive_of_program s p now → (start : Inner → ℕ → Program → CallResult) (entered_is : CallResult) (named : Option Entered) → named_program s.inner p ≡ named → (result : CallResult) (files : Files) → MatchOption named (StartsFile start s.inner (asker_of s.inner p now) s.files (length s.terms) p result files) (λ named. (result ≡ entered_is) × (files ≡ s.files)) → NoneFailed s.files.drives files.drives ⊎ FaultAnswers list_drive s.files result files → DrivesCome s p files.drives
+  program-drives : (service : Service) → service_of code ≡ service → drive_by service s p now ≡ drive_of_program s p
+      now → (start : Inner → ℕ → Program → CallResult) (entered_is : CallResult) (named : Option Entered)
+      → named_program s.inner p ≡ named → (result : CallResult) (files : Files) → MatchOption named
+      (StartsFile start s.inner (asker_of s.inner p now) s.files (length s.terms) p result files)
+      (λ named. (result ≡ entered_is) × (files ≡ s.files)) → NoneFailed s.files.drives files.drives ⊎ FaultAnswers
+      list_drive s.files result files → DrivesCome s p files.drives
   program-drives service serves by start entered_is None unnamed result files it come =
-      drives-come service serves result files (subst (λ (reached : Option ℕ). NoneFailed s.files.drives files.drives ⊎ FaultAnswers reached s.files result files) (sym (by ∙ ap drive_by_name unnamed)) come)
+      drives-come service serves result files (subst (λ (reached : Option ℕ). NoneFailed s.files.drives files.drives ⊎
+      FaultAnswers reached s.files result files) (sym (by ∙ ap drive_by_name unnamed)) come)
   program-drives service serves by start entered_is (Some entered) named result files (is, same) come =
       inl (ap (λ (files : Files). files.drives) same)
 
@@ -177,7 +190,10 @@ module _ (s : State) (p code : ℕ) (next : act_of s.inner p ≡ attempts code) 
 
   module _ (call : PathCall) (serves : service_of code ≡ on_paths call) (rest : Rest) where
     -- one volume is another one, or none
-    volume-set : (changes : Bool) → may_change_volume call ≡ changes → (may_change_volume call ≡ false → rest.files.volumes ≡ s.files.volumes) → (drive : ℕ) → drive_by (on_paths call) s p now ≡ Some drive → (v : DiskVolume) → rest.files.volumes ≡ slice_set s.files.volumes drive (Some v) → (rest.files.volumes ≡ s.files.volumes) ⊎ ChangesOneVolume s p (then rest)
+    volume-set : (changes : Bool) → may_change_volume call ≡ changes → (may_change_volume call ≡ false
+        → rest.files.volumes ≡ s.files.volumes) → (drive : ℕ) → drive_by (on_paths call) s p now ≡ Some drive
+        → (v : DiskVolume) → rest.files.volumes ≡ slice_set s.files.volumes drive (Some v)
+        → (rest.files.volumes ≡ s.files.volumes) ⊎ ChangesOneVolume s p (then rest)
     volume-set false may still drive reached v is = inl (still may)
     volume-set true may still drive reached v is = inr (record {
       call = call;
@@ -193,7 +209,8 @@ module _ (s : State) (p code : ℕ) (next : act_of s.inner p ≡ attempts code) 
         NoVolumeChanges s.files rest.files ⊎ OneVolumeChanges (drive_by (on_paths call) s p now) s.files rest.files
         ⊎ OneDriveFails (drive_by (on_paths call) s p now) s.files result rest.files
 
-    volumes-come : (result : CallResult) → (may_change_volume call ≡ false → rest.files.volumes ≡ s.files.volumes) → PathsCome result → (rest.files.volumes ≡ s.files.volumes) ⊎ ChangesOneVolume s p (then rest)
+    volumes-come : (result : CallResult) → (may_change_volume call ≡ false → rest.files.volumes ≡ s.files.volumes)
+        → PathsCome result → (rest.files.volumes ≡ s.files.volumes) ⊎ ChangesOneVolume s p (then rest)
     volumes-come result still (inl none) = inl none.volumes
     volumes-come result still (inr (inl one)) =
         volume-set (may_change_volume call) refl still one.drive one.reaches one.changed one.is
@@ -217,10 +234,15 @@ module _ (s : State) (p code : ℕ) (next : act_of s.inner p ≡ attempts code) 
       files-leave rest files (stay-lists p s.files files left.volumes left.directories) (drives-come loads serves result files left.drives) is
   serves-volumes (on_processes Call.Fork) result rest serves asked (files, it, is) =
       let left = fork-leaves s.inner (asker_of s.inner p now) s.files (length s.terms) p result files it in
-      fork-leaves-volumes (code, next, asked) rest files result (fork-attempt-names s.inner p lives (asker_of s.inner p now) s.files (length s.terms) result files it) left (program-drives (on_processes Call.Fork) serves refl forks (f_fork s.inner p) (named_program s.inner p) refl result files it left.drives) is
+      fork-leaves-volumes (code, next, asked) rest files result (fork-attempt-names s.inner p lives
+      (asker_of s.inner p now) s.files (length s.terms) result files it) left
+      (program-drives (on_processes Call.Fork) serves refl forks (f_fork s.inner p) (named_program s.inner p) refl
+      result files it left.drives) is
   serves-volumes (on_processes Call.Chain) result rest serves asked (files, it, is) =
       let left = chain-leaves s.inner (asker_of s.inner p now) s.files (length s.terms) p result files it in
-      files-leave rest files (stay-lists p s.files files left.volumes left.directories) (program-drives (on_processes Call.Chain) serves refl chains (f_chain s.inner p) (named_program s.inner p) refl result files it left.drives) is
+      files-leave rest files (stay-lists p s.files files left.volumes left.directories)
+      (program-drives (on_processes Call.Chain) serves refl chains (f_chain s.inner p) (named_program s.inner p)
+      refl result files it left.drives) is
   serves-volumes (on_processes call) result rest serves asked it = call-leaves-volumes rest result it.1
   serves-volumes (on_time Time.Time) result rest serves asked (clock, it, is) =
       subst (λ (rest : Rest). LeavesVolumes s p (then rest)) (sym is)
@@ -272,7 +294,9 @@ acts-leave-volumes : (act : Act) (s : State) (p : ℕ) (end : EventEnd) (t : Sta
 acts-leave-volumes executes s p end t lives next (over, is) =
     subst (LeavesVolumes s p) (sym is) (leaves-by s p _ (after-instruction p s.files (next_instruction s.inner p)) (inl (instruction-drives p s.files (next_instruction s.inner p))) (inl refl))
 acts-leave-volumes (delivers signal) s p end t lives next (over, is) =
-    subst (LeavesVolumes s p) (sym is) (leaves-by s p _ (after-delivery p s.files (delivered (before_delivery s p) p signal)) (inl (delivery-drives p s.files (delivered (before_delivery s p) p signal))) (inl refl))
+    subst (LeavesVolumes s p) (sym is)
+    (leaves-by s p _ (after-delivery p s.files (delivered (before_delivery s p) p signal))
+    (inl (delivery-drives p s.files (delivered (before_delivery s p) p signal))) (inl refl))
 acts-leave-volumes (attempts code) s p end t lives next (result, rest, (now, is_now, it), over, is) =
     subst (LeavesVolumes s p) (sym is) (serves-volumes s p code next lives now is_now (after_attempt s.inner p result) (service_of code) result rest refl (asks code) it)
 

@@ -16,7 +16,9 @@ arrive-none s io terms n count none = λ m tied. (
 )
 
 -- one, and then the others
-pub arrive-next : (s between new : ProcState) (io now last : Io) (terms states after : List TerminalState) (n count rest : ℕ) → count ≡ suc rest → between.tick ≡ s.tick → KeysArriveAt s io terms between now states n → KeysArriveFrom between now states new last after (n + 1) rest → KeysArriveFrom s io terms new last after n count
+pub arrive-next : (s between new : ProcState) (io now last : Io) (terms states after : List TerminalState)
+    (n count rest : ℕ) → count ≡ suc rest → between.tick ≡ s.tick → KeysArriveAt s io terms between now states n
+    → KeysArriveFrom between now states new last after (n + 1) rest → KeysArriveFrom s io terms new last after n count
 arrive-next s between new io now last terms states after n count rest more same first later = λ m tied.
     let one = first m tied in
     let others = later one.0 one.1 in (
@@ -30,7 +32,9 @@ arrive-next s between new io now last terms states after n count rest more same 
     )
 
 -- all of them
-pub arrive-all : {Driver : Type 0} (screen : Driver → TerminalState) (drivers : List Driver) (s new : ProcState) (io now : Io) (after : List TerminalState) (count : ℕ) → count ≡ length drivers → KeysArriveFrom s io (map screen drivers) new now after 0 count → KeysArrive s io (map screen drivers) new now after
+pub arrive-all : {Driver : Type 0} (screen : Driver → TerminalState) (drivers : List Driver) (s new : ProcState)
+    (io now : Io) (after : List TerminalState) (count : ℕ) → count ≡ length drivers → KeysArriveFrom s io
+    (map screen drivers) new now after 0 count → KeysArrive s io (map screen drivers) new now after
 arrive-all screen drivers s new io now after count all arrive = λ m tied.
     let done = arrive m tied in (
       done.0,
@@ -50,7 +54,9 @@ break-here s new io now terms after n broken = λ m tied.
     )
 
 -- a later one did
-pub break-later : (s between new : ProcState) (io now last : Io) (terms states after : List TerminalState) (n : ℕ) → between.tick ≡ s.tick → KeysArriveAt s io terms between now states n → KeysBreak between now states new last after (n + 1) → KeysBreak s io terms new last after n
+pub break-later : (s between new : ProcState) (io now last : Io) (terms states after : List TerminalState) (n : ℕ)
+    → between.tick ≡ s.tick → KeysArriveAt s io terms between now states n → KeysBreak between now states new last
+    after (n + 1) → KeysBreak s io terms new last after n
 break-later s between new io now last terms states after n same first later = λ m tied.
     let one = first m tied in
     let others = later one.0 one.1 in

@@ -24,7 +24,8 @@ none-due (key ∷ keys) typed none = by_test (nat_le key.tick last_tick) refl no
   where
     by_test : (due : Bool) → nat_le key.tick last_tick ≡ due → due_byte (key ∷ keys) last_tick ≡ None → key ∷ keys ≡ []
     by_test true is none = absurd (none-some key.byte (sym none ∙ (rw is refl)))
-    by_test false is none = absurd (let early : key.tick < 2 ^ 32 = All-head CanBeTaken key keys typed in let late : last_tick < key.tick = leb-false key.tick last_tick is in omega (arith, early, late))
+    by_test false is none = absurd (let early : key.tick < 2 ^ 32 = All-head CanBeTaken key keys typed in let late :
+        last_tick < key.tick = leb-false key.tick last_tick is in omega (arith, early, late))
 
 -- a key was due: it is gone
 pub one-due : (keys : List Key) (byte : ℕ) → due_byte keys last_tick ≡ Some byte → length (keys_after keys last_tick) < length keys
@@ -109,6 +110,8 @@ dropped-all (suc n) (x ∷ before) (y ∷ now) all (first, rest) = (first, dropp
 
 -- ---- one terminal
 
-pub drops-from : (answer : Result (Unit {0}) TermFault) (old new : TerminalState) → OnOk answer (All CanBeTaken old.keys → new.keys ≡ []) → OnOk answer (new.faults ≡ old.faults) → OnOk answer (new.put ≡ old.put) → OnErr answer (Rose old.faults new.faults) → DropsKeys answer old new
+pub drops-from : (answer : Result (Unit {0}) TermFault) (old new : TerminalState)
+    → OnOk answer (All CanBeTaken old.keys → new.keys ≡ []) → OnOk answer (new.faults ≡ old.faults)
+    → OnOk answer (new.put ≡ old.put) → OnErr answer (Rose old.faults new.faults) → DropsKeys answer old new
 drops-from (Ok value) old new none faults put failed = record { none = none; put = put; faults = faults }
 drops-from (Err fault) old new none faults put failed = failed

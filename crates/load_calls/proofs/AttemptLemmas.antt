@@ -45,7 +45,8 @@ pub record ByFile (step : Step ProgramFile) (m : Inner) (next : ProgramFile → 
 
 module _ (step : Step ProgramFile) (most : ℕ) (m : Inner) (next : ProgramFile → Loaded → CallResult) (was : Files) (p : ℕ) (buffer : List ℕ) (new : FileState) (before after : List DriveView) where
   -- it is refused by what was read
-  pub file-refused : (number : ℕ) (processes : ProcState) (read : ReadsTo step most was (Err number) buffer new before after) → Represents processes m → ByFile step m next was p (Error number) processes read.left
+  pub file-refused : (number : ℕ) (processes : ProcState) (read : ReadsTo step most was (Err number) buffer new before
+      after) → Represents processes m → ByFile step m next was p (Error number) processes read.left
   file-refused number processes read stands = by read.reading read.reads read.answers
     where
       by : (reading : Result ProgramFile ℕ) → ReadsProgram step reading was read.left → AnswersReading buffer reading (Err number) → ByFile step m next was p (Error number) processes read.left
@@ -59,7 +60,11 @@ module _ (step : Step ProgramFile) (most : ℕ) (m : Inner) (next : ProgramFile 
       by (Ok file) reads answers = absurd answers
 
   -- or it goes on
-  pub file-read : (it : ProgramRead) (outcome : Result (Unit {0}) ℕ) (end : CallEnd) (processes : ProcState) (read : ReadsTo step most was (Ok it) buffer new before after) → ((file : ProgramFile) → ReadsProgram step (Ok file) was read.left → IsInBuffer buffer file it → GoesOn m file next outcome processes) → ((call : CallResult) → Answers m call outcome processes → Comes m p call end processes) → ByFile step m next was p end processes read.left
+  pub file-read : (it : ProgramRead) (outcome : Result (Unit {0}) ℕ) (end : CallEnd) (processes : ProcState)
+      (read : ReadsTo step most was (Ok it) buffer new before after)
+      → ((file : ProgramFile) → ReadsProgram step (Ok file) was read.left → IsInBuffer buffer file it
+      → GoesOn m file next outcome processes) → ((call : CallResult) → Answers m call outcome processes
+      → Comes m p call end processes) → ByFile step m next was p end processes read.left
   file-read it outcome end processes read on ends = by read.reading read.reads read.answers
     where
       by : (reading : Result ProgramFile ℕ) → ReadsProgram step reading was read.left → AnswersReading buffer reading (Ok it) → ByFile step m next was p end processes read.left
@@ -80,7 +85,9 @@ pub record KeepsPaths (old new : FileState) : Type 0 where
   pub io : new.io ≡ old.io
   pub directories : new.directories ≡ old.directories
 
-paths-kept : (step : Step ProgramFile) (most : ℕ) (was : Files) (buffer : List ℕ) (old new : FileState) (views before after : List DriveView) (result : Result ProgramRead ℕ) → StandsFor old views was → ReadsTo step most was result buffer new before after → KeepsPaths old new
+paths-kept : (step : Step ProgramFile) (most : ℕ) (was : Files) (buffer : List ℕ) (old new : FileState)
+    (views before after : List DriveView) (result : Result ProgramRead ℕ) → StandsFor old views was
+    → ReadsTo step most was result buffer new before after → KeepsPaths old new
 paths-kept step most was buffer old new views before after result stands read = record {
   io = sym read.stands.io ∙ ap (λ (files : Files). files.io) read.reads.state ∙ stands.io;
   directories = sym read.stands.directories ∙ ap (λ (files : Files). files.directories) read.reads.state ∙ stands.directories;
@@ -96,15 +103,22 @@ some-time : TimePacket
 some-time = record { year = 90; month = 1; day = 1; hour = 0; minute = 0; second = 0 }
 
 -- so it is where a file was read
-pub reading-keeps : (processes : ProcState) (old new : FileState) (before after : List DriveView) (result : Result ProgramRead ℕ) (buffer : List ℕ) (step : Inner → Files → TimePacket → Step ProgramFile) (most : Inner → Files → TimePacket → ℕ) → IsSound old before → ((m : Inner) (was : Files) (now : TimePacket) → Represents processes m → StandsFor old before was → ReadsTo (step m was now) (most m was now) was result buffer new before after) → KeepsPaths old new
+pub reading-keeps : (processes : ProcState) (old new : FileState) (before after : List DriveView)
+    (result : Result ProgramRead ℕ) (buffer : List ℕ) (step : Inner → Files → TimePacket → Step ProgramFile)
+    (most : Inner → Files → TimePacket → ℕ) → IsSound old before → ((m : Inner) (was : Files) (now : TimePacket)
+    → Represents processes m → StandsFor old before was → ReadsTo (step m was now) (most m was now) was result buffer
+    new before after) → KeepsPaths old new
 reading-keeps processes old new before after result buffer step most sound reads =
     let it = some-inner processes in
-    paths-kept (step it.0 sound.files some-time) (most it.0 sound.files some-time) sound.files buffer old new before before after result sound.stands (reads it.0 sound.files some-time it.1 sound.stands)
+    paths-kept (step it.0 sound.files some-time) (most it.0 sound.files some-time) sound.files buffer old new before
+    before after result sound.stands (reads it.0 sound.files some-time it.1 sound.stands)
 
 -- ---- the parameters
 
 -- they are all there where the file of a program was read
-pub parameters-there : (asker : Asker) (files left : Files) (terms : ℕ) (m : Inner) (p : ℕ) (file : ProgramFile) → ReadsProgram (program_file asker files terms (tests_program m p)) (Ok file) files left → IsSome (parameters_of m p)
+pub parameters-there : (asker : Asker) (files left : Files) (terms : ℕ) (m : Inner) (p : ℕ) (file : ProgramFile)
+    → ReadsProgram (program_file asker files terms (tests_program m p)) (Ok file) files left
+    → IsSome (parameters_of m p)
 parameters-there asker files left terms m p file reads = by_outcome reads.outcome
   where
     by_params : (params : Option (List ℕ)) (step : Step ProgramFile) → Ok file ≡ reading_of (refuses (is_none params) E_BPADDR step) → IsSome params
@@ -116,7 +130,9 @@ parameters-there asker files left terms m p file reads = by_outcome reads.outcom
     by_list (Err Unreadable) next is = absurd cc
     by_list (Err NoName) next is = by_params (parameters_of m p) _ is
 
-    by_outcome : ((Ok file ≡ reading_of (program_file asker files terms (tests_program m p))) × NoneFailed files.drives reads.drives) ⊎ ReadingIsBroken (program_file asker files terms (tests_program m p)) (Ok file) files.drives reads.drives → IsSome (parameters_of m p)
+    by_outcome : ((Ok file ≡ reading_of (program_file asker files terms (tests_program m p))) × NoneFailed
+        files.drives reads.drives) ⊎ ReadingIsBroken (program_file asker files terms (tests_program m p)) (Ok file)
+        files.drives reads.drives → IsSome (parameters_of m p)
     by_outcome (inl well) = by_list (list_of asker) _ well.0
     by_outcome (inr broken) = absurd (let no = broken.is in cc)
 
@@ -167,16 +183,25 @@ module _ (start : Inner → ℕ → Program → CallResult) (full : Inner → �
   ReadsBy test result buffer = ReadsTo (program_file asker was terms test) (file_calls asker was terms test) was result buffer after.files before.views after.views
 
   -- of a file, by what was read
-  pub start-by-file : is_some (named_program m p) ≡ false → (test : Step ProgramFile → Step ProgramFile) → test ≡ tests_program m p → (result : Result ProgramRead ℕ) (buffer : List ℕ) → ReadsTo (program_file asker was terms test) (file_calls asker was terms test) was result buffer after.files before.views after.views
-      → ((read : ReadsTo tested (file_calls asker was terms (tests_program m p)) was result buffer after.files before.views after.views) → ByFile tested m (starts_first start m p) was p end after.processes read.left) → StartAttempted
+  pub start-by-file : is_some (named_program m p) ≡ false → (test : Step ProgramFile → Step ProgramFile)
+      → test ≡ tests_program m p → (result : Result ProgramRead ℕ) (buffer : List ℕ)
+      → ReadsTo (program_file asker was terms test) (file_calls asker was terms test) was result buffer after.files
+      before.views after.views
+      → ((read : ReadsTo tested (file_calls asker was terms (tests_program m p)) was result buffer after.files
+      before.views after.views) → ByFile tested m (starts_first start m p) was p end after.processes read.left)
+      → StartAttempted
   start-by-file unnamed test test_is result buffer first comes =
       let read : ReadsBy (tests_program m p) result buffer = subst (λ (test : Step ProgramFile → Step ProgramFile). ReadsBy test result buffer) test_is first in
       let by = comes read in record {
         result = by.result;
         left = read.left;
-        attempted = match-none (named_program m p) (StartsFile start m asker was terms p by.result read.left) (λ named. (by.result ≡ full m p) × (read.left ≡ was)) unnamed (record { reading = by.reading; reads = by.reads; comes = by.goes });
+        attempted = match-none (named_program m p) (StartsFile start m asker was terms p by.result read.left)
+            (λ named. (by.result ≡ full m p) × (read.left ≡ was)) unnamed
+            (record { reading = by.reading; reads = by.reads; comes = by.goes });
         comes = by.comes;
         stands = read.stands;
-        calls = subst (λ (most : ℕ). CalledAtMost most before.views after.views) (sym (ap (λ (place : Option Entered). option_map_or (λ named. 0) place (file_calls asker was terms (tests_program m p))) (place-none (named_program m p) unnamed))) read.calls;
+        calls = subst (λ (most : ℕ). CalledAtMost most before.views after.views)
+            (sym (ap (λ (place : Option Entered). option_map_or (λ named. 0) place (file_calls asker was terms
+            (tests_program m p))) (place-none (named_program m p) unnamed))) read.calls;
         media_kept = read.media_kept;
       }

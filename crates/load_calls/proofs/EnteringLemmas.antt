@@ -22,7 +22,9 @@ use Rattle.load_calls.specs.Entering.{IsOfGroup, with_modules}
 -- ---- one module
 
 -- an entry stays where one module more is entered
-pub entry-kept : (entries : List (Option ModuleEntry)) (number : ℕ) (entry : ModuleEntry) (info : ModuleInfo) (group : List ℕ) → module_entry_at entries number ≡ Some entry → module_entry_at (with_module entries info group false) number ≡ Some entry
+pub entry-kept : (entries : List (Option ModuleEntry)) (number : ℕ) (entry : ModuleEntry) (info : ModuleInfo)
+    (group : List ℕ) → module_entry_at entries number ≡ Some entry → module_entry_at (with_module entries info group
+    false) number ≡ Some entry
 entry-kept entries number entry info group is = by (free_number entries) refl
   where
     by : (free : Option ℕ) → free_number entries ≡ free → module_entry_at (option_map_or (λ place. with_module_entry entries place (new_entry info group false)) free entries) number ≡ Some entry
@@ -70,19 +72,23 @@ module _ (file group : List ℕ) (number from : ℕ) (m : MemoryState) (to : ℕ
       let one = Enters-one (p.goes_on _ (broken is)) enters in absurd cc
 
   -- none is refused
-  none-refused : (after : List (Option ModuleEntry)) (info : ModuleInfo) → step_from file to ≡ Module info → EntersModules file group false from m.modules (Ok after) → entry_refusal p.modules info ≡ None
+  none-refused : (after : List (Option ModuleEntry)) (info : ModuleInfo) → step_from file to ≡ Module info
+      → EntersModules file group false from m.modules (Ok after) → entry_refusal p.modules info ≡ None
   none-refused after info is enters = by (entry_refusal p.modules info) refl
     where
       by : (refusal : Option ℕ) → entry_refusal p.modules info ≡ refusal → entry_refusal p.modules info ≡ None
       by None e = e
       by (Some n) e = let one = Enters-one (p.goes_on _ (refused is e)) enters in absurd cc
 
-  pub takes-next : (after : List (Option ModuleEntry)) (info : ModuleInfo) → step_from file to ≡ Module info → EntersModules file group false from m.modules (Ok after) → entry_refusal (modules_of memory) info ≡ None
+  pub takes-next : (after : List (Option ModuleEntry)) (info : ModuleInfo) → step_from file to ≡ Module info
+      → EntersModules file group false from m.modules (Ok after) → entry_refusal (modules_of memory) info ≡ None
   takes-next after info is enters =
       sym (refusal-seen memory (with_modules m p.modules) p.represents info) ∙ none-refused after info is enters
 
   -- it lies in the group
-  pub next-inside : (info : ModuleInfo) → length file ≤ 8192 * length group → info.at + info.size ≤ length file → IsSomeAnd (module_entry_at (modules_of memory) number) (λ entry. info.at + info.size ≤ 8192 * length entry.group)
+  pub next-inside : (info : ModuleInfo) → length file ≤ 8192 * length group → info.at + info.size ≤ length file
+      → IsSomeAnd (module_entry_at (modules_of memory) number) (λ entry. info.at + info.size ≤ 8192 * length
+      entry.group)
   next-inside info room inside =
       by (module_entry_at (modules_of memory) number) (entered-here memory (with_modules m p.modules) p.represents number p.of_group.entry p.of_group.is)
     where
@@ -96,7 +102,9 @@ module _ (file group : List ℕ) (number from : ℕ) (m : MemoryState) (to : ℕ
   is-there = some-here memory (with_modules m p.modules) p.represents number p.of_group.entry p.of_group.is
 
   -- one module more
-  pub progress-more : (info : ModuleInfo) (new : Memory) → step_from file to ≡ Module info → entry_refusal (modules_of memory) info ≡ None → ((t : MemoryState) → Represents memory t → Represents new (entered_beside t number info)) → Progress file group number from m (info.at + info.size) new
+  pub progress-more : (info : ModuleInfo) (new : Memory) → step_from file to ≡ Module info
+      → entry_refusal (modules_of memory) info ≡ None → ((t : MemoryState) → Represents memory t
+      → Represents new (entered_beside t number info)) → Progress file group number from m (info.at + info.size) new
   progress-more info new is taken enters = record {
     modules = with_module p.modules info group false;
     represents = subst (λ (t : MemoryState). Represents new t) (beside-is group number (with_modules m p.modules) info p.of_group) (enters (with_modules m p.modules) p.represents);

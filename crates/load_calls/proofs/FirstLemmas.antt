@@ -21,6 +21,9 @@ first-sound state views none io disks directories =
     })
 
 -- where there are no drives
-pub alone-sound : {Table : Type 0} {Driver : Table → Type 0} (members : (table : Table) → Ghosts (Driver table)) (drives : List (DynBox Table Global Driver)) (state : FileState) → drives ≡ [] → state.io ≡ first_io → state.disks ≡ replicate 4 None → state.directories ≡ replicate 33 no_directories → IsSound state (drive_views members drives)
+pub alone-sound : {Table : Type 0} {Driver : Table → Type 0} (members : (table : Table) → Ghosts (Driver table))
+    (drives : List (DynBox Table Global Driver)) (state : FileState) → drives ≡ [] → state.io ≡ first_io
+    → state.disks ≡ replicate 4 None → state.directories ≡ replicate 33 no_directories
+    → IsSound state (drive_views members drives)
 alone-sound members drives state none io disks directories =
     first-sound state (drive_views members drives) (ap (drive_views members) none) io disks directories

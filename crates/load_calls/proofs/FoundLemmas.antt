@@ -23,7 +23,11 @@ pub found-step : (asker : Asker) (files : Files) (list : PathList) (found : Foun
 found-step asker files list found =
     by (may_open found.file asker.user MODE_EXECUTE) (is_not_shared files found MODE_EXECUTE) (nat_lt MOST_GROUP_BYTES (length found.file.contents))
   where
-    by : (may unshared long : Bool) → refuses (not may) E_FNA (refuses unshared E_SHARE (refuses long E_MEMFUL (comes (record { bytes = found.file.contents; next = list.next })))) ≡ program_by found list.next (if not may then Err E_FNA else if unshared then Err E_SHARE else if long then Err E_MEMFUL else Ok (length found.file.contents))
+    by : (may unshared long : Bool) → refuses (not may) E_FNA
+        (refuses unshared E_SHARE
+        (refuses long E_MEMFUL (comes (record { bytes = found.file.contents; next = list.next })))) ≡ program_by found
+        list.next (if not may then Err E_FNA else if unshared then Err E_SHARE else if long then Err E_MEMFUL else Ok
+        (length found.file.contents))
     by false unshared long = refl
     by true true long = refl
     by true false true = refl
@@ -34,7 +38,8 @@ pub size-whole : (user : ℕ) (files : Files) (found : Found) (size : ℕ) → O
 size-whole user files found size is =
     by (may_open found.file user MODE_EXECUTE) (is_not_shared files found MODE_EXECUTE) (nat_lt MOST_GROUP_BYTES (length found.file.contents)) is
   where
-    by : (may unshared long : Bool) → Ok size ≡ (if not may then Err E_FNA else if unshared then Err E_SHARE else if long then Err E_MEMFUL else Ok (length found.file.contents)) → size ≡ length found.file.contents
+    by : (may unshared long : Bool) → Ok size ≡ (if not may then Err E_FNA else if unshared then Err E_SHARE else if
+        long then Err E_MEMFUL else Ok (length found.file.contents)) → size ≡ length found.file.contents
     by false unshared long is = cc
     by true true long is = cc
     by true false true is = cc

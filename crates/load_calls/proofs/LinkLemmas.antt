@@ -22,7 +22,10 @@ use Rattle.module_calls.specs.Linked.{links_entered}
 use Rattle.load_calls.specs.Loading.{has_place}
 use Rattle.load_calls.proofs.MapLemmas.{mapped-at, mapped-there, mapped-new}
 
-module _ (memory : Memory) (m : Inner) (tied : Represents memory m.memory) (p : ℕ) (within : p < 33) (file : ProgramFile) (loaded : Loaded) (it : IsLoaded m.memory file.bytes loaded) (info : ModuleInfo) (first_is : loaded.first.entry ≡ new_entry info (new_numbers m.memory (file_blocks file.bytes)) false) (some : 1 ≤ file_blocks file.bytes) where
+module _ (memory : Memory) (m : Inner) (tied : Represents memory m.memory) (p : ℕ) (within : p < 33)
+    (file : ProgramFile) (loaded : Loaded) (it : IsLoaded m.memory file.bytes loaded) (info : ModuleInfo)
+    (first_is : loaded.first.entry ≡ new_entry info (new_numbers m.memory (file_blocks file.bytes)) false)
+    (some : 1 ≤ file_blocks file.bytes) where
   abbrev count : ℕ
   count = file.next - (regs_at m p).x
 
@@ -31,7 +34,8 @@ module _ (memory : Memory) (m : Inner) (tied : Represents memory m.memory) (p : 
       needs place E_MEMFUL
       (λ mapped. refuses (nat_le MOST_LINKS (links_at (own_at m p) mapped.slot)) E_MEMFUL (done (after_link m p loaded.first mapped count)))
 
-  by-place : (found : Option ℕ) → highest_free_run (map_at m.memory p) (file_blocks file.bytes) ≡ found → links_first m p file loaded ≡ linked-at (mapped-at memory m.memory tied p within file.bytes loaded it found)
+  by-place : (found : Option ℕ) → highest_free_run (map_at m.memory p) (file_blocks file.bytes) ≡ found
+      → links_first m p file loaded ≡ linked-at (mapped-at memory m.memory tied p within file.bytes loaded it found)
   by-place found is =
       ap (λ (entry : ModuleEntry). linked-at (mapped_group loaded.memory p entry.group)) first_is
       ∙ ap linked-at (mapped-new memory m.memory tied p within file.bytes loaded it some found is)
@@ -47,7 +51,10 @@ module _ (memory : Memory) (m : Inner) (tied : Represents memory m.memory) (p : 
       by None is none = by-place None is
       by (Some slot) is none =
           by-place (Some slot) is
-          ∙ ap (λ (full : Bool). refuses full E_MEMFUL (done (after_link m p loaded.first (mapped-there memory m.memory tied p within file.bytes loaded it slot) count))) (le-leb MOST_LINKS (links_at (own_at m p) slot) (ltb-false (links_at (own_at m p) slot) MOST_LINKS none))
+          ∙ ap (λ (full : Bool). refuses full E_MEMFUL
+          (done (after_link m p loaded.first (mapped-there memory m.memory tied p within file.bytes loaded it
+          slot) count))) (le-leb MOST_LINKS (links_at (own_at m p) slot) (ltb-false (links_at (own_at m p) slot)
+          MOST_LINKS none))
 
   -- there is one
   pub in-place : has_place m p (file_blocks file.bytes) ≡ true → (t : Inner) × (links_first m p file loaded ≡ done t)
@@ -58,7 +65,10 @@ module _ (memory : Memory) (m : Inner) (tied : Represents memory m.memory) (p : 
       by (Some slot) is there = (
         after_link m p loaded.first (mapped-there memory m.memory tied p within file.bytes loaded it slot) count,
         by-place (Some slot) is
-            ∙ ap (λ (full : Bool). refuses full E_MEMFUL (done (after_link m p loaded.first (mapped-there memory m.memory tied p within file.bytes loaded it slot) count))) (lt-leb MOST_LINKS (links_at (own_at m p) slot) (ltb-true (links_at (own_at m p) slot) MOST_LINKS there)),
+            ∙ ap (λ (full : Bool). refuses full E_MEMFUL
+            (done (after_link m p loaded.first (mapped-there memory m.memory tied p within file.bytes loaded it
+            slot) count))) (lt-leb MOST_LINKS (links_at (own_at m p) slot) (ltb-true (links_at (own_at m p) slot)
+            MOST_LINKS there)),
       )
 
   -- the first module has no link yet

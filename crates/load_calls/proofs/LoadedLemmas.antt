@@ -30,7 +30,10 @@ use Rattle.load_calls.specs.Entering.{CanEnter, IsOfGroup, TriesFile}
 -- ---- what stays
 
 -- an entry stays where modules of a file are entered
-pub still-there : {file group : List ℕ} {from : ℕ} {entries : List (Option ModuleEntry)} {outcome : Result (List (Option ModuleEntry)) (ℕ × ℕ)} → (number : ℕ) (entry : ModuleEntry) → EntersModules file group false from entries outcome → module_entry_at entries number ≡ Some entry → IfOk outcome (λ after. module_entry_at after number ≡ Some entry)
+pub still-there : {file group : List ℕ} {from : ℕ} {entries : List (Option ModuleEntry)}
+    {outcome : Result (List (Option ModuleEntry)) (ℕ × ℕ)} → (number : ℕ) (entry : ModuleEntry) → EntersModules file
+    group false from entries outcome → module_entry_at entries number ≡ Some entry
+    → IfOk outcome (λ after. module_entry_at after number ≡ Some entry)
 still-there number entry (at_end is) there = there
 still-there number entry (broken is) there = tt
 still-there number entry (refused is e) there = tt
@@ -53,7 +56,12 @@ no-module file m is = record {
   loads = record {
     entries = Ok m.modules;
     modules = at_end is;
-    is = sym (ap (λ (first : Option Entered). option_map_or {U = Result Loaded ℕ} (λ first. if wants_blocks m (file_blocks file) then Err E_NORAM else Ok (record { first = first; memory = with_file_entered m file m.modules })) first (Err E_BMID)) (none-entered m));
+    is = sym (ap (λ (first : Option Entered). option_map_or {U = Result Loaded ℕ} (λ first. if wants_blocks m
+        (file_blocks file) then Err E_NORAM else Ok (record {
+          first = first;
+          memory = with_file_entered m file
+              m.modules;
+        })) first (Err E_BMID)) (none-entered m));
   };
   answers = refl;
 }
@@ -69,7 +77,8 @@ module-refused file m at number enters = record {
 
 -- ---- the first module
 
-module _ (file : List ℕ) (m : MemoryState) (info : ModuleInfo) (group : List ℕ) (after : List (Option ModuleEntry)) (is : step_from file 0 ≡ Module info) (enters : EntersModules file group false 0 m.modules (Ok after)) where
+module _ (file : List ℕ) (m : MemoryState) (info : ModuleInfo) (group : List ℕ) (after : List (Option ModuleEntry))
+    (is : step_from file 0 ≡ Module info) (enters : EntersModules file group false 0 m.modules (Ok after)) where
   -- it is taken
   pub taken : entry_refusal m.modules info ≡ None
   taken = by (entry_refusal m.modules info) refl
@@ -84,7 +93,9 @@ module _ (file : List ℕ) (m : MemoryState) (info : ModuleInfo) (group : List �
   pub others : EntersModules file group false (info.at + info.size) (with_module m.modules info group false) (Ok after)
   others = by enters refl
     where
-      by : {outcome : Result (List (Option ModuleEntry)) (ℕ × ℕ)} → EntersModules file group false 0 m.modules outcome → outcome ≡ Ok after → EntersModules file group false (info.at + info.size) (with_module m.modules info group false) (Ok after)
+      by : {outcome : Result (List (Option ModuleEntry)) (ℕ × ℕ)} → EntersModules file group false 0 m.modules outcome
+          → outcome ≡ Ok after → EntersModules file group false (info.at + info.size) (with_module m.modules info
+          group false) (Ok after)
       by (at_end e) same = absurd cc
       by (broken e) same = absurd cc
       by (refused e n) same = absurd cc
@@ -132,7 +143,9 @@ with_first file m info = record m {
   modules = with_module m.modules info (new_numbers m (file_blocks file)) false;
 }
 
-module _ (file : List ℕ) (m : MemoryState) (info : ModuleInfo) (after : List (Option ModuleEntry)) (is : step_from file 0 ≡ Module info) (enters : EntersModules file (new_numbers m (file_blocks file)) false 0 m.modules (Ok after)) where
+module _ (file : List ℕ) (m : MemoryState) (info : ModuleInfo) (after : List (Option ModuleEntry))
+    (is : step_from file 0 ≡ Module info) (enters : EntersModules file (new_numbers m (file_blocks file)) false 0
+    m.modules (Ok after)) where
   abbrev group : List ℕ
   group = new_numbers m (file_blocks file)
 
@@ -140,7 +153,9 @@ module _ (file : List ℕ) (m : MemoryState) (info : ModuleInfo) (after : List (
   loaded-if wants first =
       option_map_or {U = Result Loaded ℕ} (λ first. if wants then Err E_NORAM else Ok (record { first = first; memory = with_file_entered m file after })) first (Err E_BMID)
 
-  loaded-is : (wants : Bool) (number : ℕ) → wants_blocks m (file_blocks file) ≡ wants → free_number m.modules ≡ Some number → loaded_by m file (Ok after) ≡ loaded-if wants (Some (record { number = number; entry = new_entry info group false }))
+  loaded-is : (wants : Bool) (number : ℕ) → wants_blocks m (file_blocks file) ≡ wants → free_number m.modules ≡ Some
+      number → loaded_by m file (Ok after) ≡ loaded-if wants
+      (Some (record { number = number; entry = new_entry info group false }))
   loaded-is wants number e free =
       ap (loaded-if (wants_blocks m (file_blocks file))) (is-first file m info group after is enters number free)
       ∙ ap (λ (wants : Bool). loaded-if wants (Some (record { number = number; entry = new_entry info group false }))) e
@@ -164,7 +179,9 @@ module _ (file : List ℕ) (m : MemoryState) (info : ModuleInfo) (after : List (
       }
 
   -- it is loaded then
-  pub entered-first : (result : Result ModId MemoryFault) (id : ModId) (new : Memory) → wants_blocks m (file_blocks file) ≡ false → result ≡ Ok id → Answers (change.entered m file info false) m result new → Represents new (with_first file m info)
+  pub entered-first : (result : Result ModId MemoryFault) (id : ModId) (new : Memory)
+      → wants_blocks m (file_blocks file) ≡ false → result ≡ Ok id → Answers (change.entered m file info false) m
+      result new → Represents new (with_first file m info)
   entered-first result id new room done answers = by (wants_blocks m (file_blocks file)) room answers
     where
       by : (wants : Bool) → wants ≡ false → Answers (if wants then Err NoRam else Ok (with_first file m info)) m result new → Represents new (with_first file m info)
@@ -194,7 +211,9 @@ module _ (file : List ℕ) (m : MemoryState) (info : ModuleInfo) (after : List (
   }
 
 -- it is not refused where it has room
-pub not-refused : (file : List ℕ) (m : MemoryState) (info : ModuleInfo) (result : Result ModId MemoryFault) (fault : MemoryFault) (new : Memory) → wants_blocks m (file_blocks file) ≡ false → result ≡ Err fault → Answers (change.entered m file info false) m result new → ⊥
+pub not-refused : (file : List ℕ) (m : MemoryState) (info : ModuleInfo) (result : Result ModId MemoryFault)
+    (fault : MemoryFault) (new : Memory) → wants_blocks m (file_blocks file) ≡ false → result ≡ Err fault
+    → Answers (change.entered m file info false) m result new → ⊥
 not-refused file m info result fault new room failed answers = by (wants_blocks m (file_blocks file)) room answers
   where
     by : (wants : Bool) → wants ≡ false → Answers (if wants then Err NoRam else Ok (with_first file m info)) m result new → ⊥
@@ -208,7 +227,8 @@ pub some-memory : (memory : Memory) → (m : MemoryState) × Represents memory m
 some-memory memory = let it = represented memory in (_, it)
 
 -- nothing breaks a rule in a file whose modules can be entered
-pub never-broken : (file : List ℕ) (m : MemoryState) (after : List (Option ModuleEntry)) (at : ℕ) (fault : ModuleFault) → step_from file 0 ≡ Fault at fault → EntersModules file [] false 0 m.modules (Ok after) → ⊥
+pub never-broken : (file : List ℕ) (m : MemoryState) (after : List (Option ModuleEntry)) (at : ℕ)
+    (fault : ModuleFault) → step_from file 0 ≡ Fault at fault → EntersModules file [] false 0 m.modules (Ok after) → ⊥
 never-broken file m after at fault is enters =
     let other : EntersModules file [] false 0 m.modules (Err (at, module_error fault)) = broken is in
     let one = Enters-one other enters in absurd cc

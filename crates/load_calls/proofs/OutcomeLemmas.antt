@@ -33,11 +33,18 @@ loaded-if m file after first wants =
 pub loads-ok : (m : MemoryState) (file : List ℕ) (loaded : Loaded) → Loads m file (Ok loaded) → IsLoaded m file loaded
 loads-ok m file loaded loads = by loads.entries loads.modules loads.is
   where
-    by_wants : (after : List (Option ModuleEntry)) (first : Entered) (wants : Bool) → Ok loaded ≡ loaded-if m file after (Some first) wants → (wants ≡ false) × (loaded ≡ record { first = first; memory = with_file_entered m file after })
+    by_wants : (after : List (Option ModuleEntry)) (first : Entered) (wants : Bool) → Ok loaded ≡ loaded-if m file
+        after (Some first) wants → (wants ≡ false) × (loaded ≡ record {
+          first = first;
+          memory = with_file_entered m
+              file after;
+        })
     by_wants after first true is = absurd cc
     by_wants after first false is = (refl, cc)
 
-    by_first : (after : List (Option ModuleEntry)) (first : Option Entered) → EntersModules file (new_numbers m (file_blocks file)) false 0 m.modules (Ok after) → first_entered m after ≡ first → Ok loaded ≡ loaded-if m file after first (wants_blocks m (file_blocks file)) → IsLoaded m file loaded
+    by_first : (after : List (Option ModuleEntry)) (first : Option Entered) → EntersModules file
+        (new_numbers m (file_blocks file)) false 0 m.modules (Ok after) → first_entered m after ≡ first
+        → Ok loaded ≡ loaded-if m file after first (wants_blocks m (file_blocks file)) → IsLoaded m file loaded
     by_first after None enters e is = absurd cc
     by_first after (Some first) enters e is =
         let all = by_wants after first (wants_blocks m (file_blocks file)) is in record {
@@ -48,7 +55,9 @@ loads-ok m file loaded loads = by loads.entries loads.modules loads.is
           memory_is = ap (λ (l : Loaded). l.memory) all.1;
         }
 
-    by : (entries : Result (List (Option ModuleEntry)) (ℕ × ℕ)) → EntersModules file (new_numbers m (file_blocks file)) false 0 m.modules entries → Ok loaded ≡ loaded_by m file entries → IsLoaded m file loaded
+    by : (entries : Result (List (Option ModuleEntry)) (ℕ × ℕ)) → EntersModules file
+        (new_numbers m (file_blocks file)) false 0 m.modules entries → Ok loaded ≡ loaded_by m file entries
+        → IsLoaded m file loaded
     by (Err refusal) enters is = absurd cc
     by (Ok after) enters is = by_first after (first_entered m after) enters refl is
 
@@ -64,7 +73,9 @@ pub record IsFirst (m : MemoryState) (after : List (Option ModuleEntry)) (first 
 pub first-found : (m : MemoryState) (after : List (Option ModuleEntry)) (first : Entered) → first_entered m after ≡ Some first → IsFirst m after first
 first-found m after first is = by (free_number m.modules) refl is
   where
-    by_entry : (number : ℕ) (place : Option ModuleEntry) → free_number m.modules ≡ Some number → module_entry_at after number ≡ place → option_map (λ (entry : ModuleEntry). let it : Entered = record { number = number; entry = entry } in it) place ≡ Some first → IsFirst m after first
+    by_entry : (number : ℕ) (place : Option ModuleEntry) → free_number m.modules ≡ Some number → module_entry_at after
+        number ≡ place → option_map (λ (entry : ModuleEntry). let it : Entered = record
+        { number = number; entry = entry } in it) place ≡ Some first → IsFirst m after first
     by_entry number None free e is = absurd (none-some first is)
     by_entry number (Some entry) free e is =
         subst (IsFirst m after) (same_Some (record { number = number; entry = entry }) first is) (record { number_is = free; entry_is = e })
@@ -79,7 +90,9 @@ first-there m file loaded it =
     ap (λ (s : MemoryState). module_entry_at s.modules loaded.first.number) it.memory_is ∙ (first-found m it.after loaded.first it.first_is).entry_is
 
 -- the modules that are entered are so still
-pub others-stay : (old new : Memory) (m : MemoryState) (file : List ℕ) (loaded : Loaded) → Represents old m → IsLoaded m file loaded → Represents new loaded.memory → (number : ℕ) → IsSome (module_entry_at (modules_of old) number) → IsSome (module_entry_at (modules_of new) number)
+pub others-stay : (old new : Memory) (m : MemoryState) (file : List ℕ) (loaded : Loaded) → Represents old m
+    → IsLoaded m file loaded → Represents new loaded.memory → (number : ℕ)
+    → IsSome (module_entry_at (modules_of old) number) → IsSome (module_entry_at (modules_of new) number)
 others-stay old new m file loaded tied it stands number some = by (module_entry_at m.modules number) refl (entered-tied old m tied number ∙ some)
   where
     by : (place : Option ModuleEntry) → module_entry_at m.modules number ≡ place → is_some place ≡ true → IsSome (module_entry_at (modules_of new) number)

@@ -41,14 +41,17 @@ only-none step most views = record {
   others = λ n other. refl;
 }
 
-pub only-read : (step : Step ProgramFile) (most : ℕ) (fault : Option ℕ) (drive : ℕ) (files : Files) (new : FileState) (before after : List DriveView) → ReachesAtMost step drive before after → HasRead fault drive files new before after → CalledAtMost most before after → OnlyReads step most before after
+pub only-read : (step : Step ProgramFile) (most : ℕ) (fault : Option ℕ) (drive : ℕ) (files : Files) (new : FileState)
+    (before after : List DriveView) → ReachesAtMost step drive before after → HasRead fault drive files new before
+    after → CalledAtMost most before after → OnlyReads step most before after
 only-read step most fault drive files new before after reached read calls = record {
   calls = calls;
   media_kept = read.media_kept;
   others = others-reached step drive before after reached read.others;
 }
 
-only-then : (step : Step ProgramFile) (first then : ℕ) (before mid after : List DriveView) → OnlyReads step first before mid → OnlyReads step then mid after → OnlyReads step (first + then) before after
+only-then : (step : Step ProgramFile) (first then : ℕ) (before mid after : List DriveView) → OnlyReads step first
+    before mid → OnlyReads step then mid after → OnlyReads step (first + then) before after
 only-then step first then before mid after was is = record {
   calls = called-then first then before mid after was.calls is.calls;
   media_kept = is.media_kept ∙ was.media_kept;
@@ -58,7 +61,10 @@ only-then step first then before mid after was is = record {
 -- ---- as the drives failed or not
 
 -- none failed
-pub reads-well : (step : Step ProgramFile) (most : ℕ) (was : Files) (reading : Result ProgramFile ℕ) (result : Result ProgramRead ℕ) (buffer : List ℕ) (new : FileState) (start before after : List DriveView) (drive : ℕ) → reading_of step ≡ reading → HasRead None drive was new start after → AnswersReading buffer reading result → OnlyReads step most before after → ReadsTo step most was result buffer new before after
+pub reads-well : (step : Step ProgramFile) (most : ℕ) (was : Files) (reading : Result ProgramFile ℕ)
+    (result : Result ProgramRead ℕ) (buffer : List ℕ) (new : FileState) (start before after : List DriveView)
+    (drive : ℕ) → reading_of step ≡ reading → HasRead None drive was new start after → AnswersReading buffer reading
+    result → OnlyReads step most before after → ReadsTo step most was result buffer new before after
 reads-well step most was reading result buffer new start before after drive is read answers only = record {
   reading = reading;
   left = with_drives was (drive_states after);
@@ -71,7 +77,9 @@ reads-well step most was reading result buffer new start before after drive is r
 }
 
 -- the one that was reached
-pub reads-broken : (step : Step ProgramFile) (most : ℕ) (was : Files) (number : ℕ) (buffer : List ℕ) (new : FileState) (start before after : List DriveView) (drive : ℕ) → drive_of step ≡ Some drive → HasRead (Some number) drive was new start after → OnlyReads step most before after → ReadsTo step most was (Err number) buffer new before after
+pub reads-broken : (step : Step ProgramFile) (most : ℕ) (was : Files) (number : ℕ) (buffer : List ℕ) (new : FileState)
+    (start before after : List DriveView) (drive : ℕ) → drive_of step ≡ Some drive → HasRead (Some number) drive was
+    new start after → OnlyReads step most before after → ReadsTo step most was (Err number) buffer new before after
 reads-broken step most was number buffer new start before after drive reached read only = record {
   reading = Err number;
   left = with_drives was (drive_states after);
@@ -88,7 +96,10 @@ reads-broken step most was number buffer new start before after drive reached re
 }
 
 -- behind reads
-pub reads-behind : (step : Step ProgramFile) (first most : ℕ) (was : Files) (result : Result ProgramRead ℕ) (buffer : List ℕ) (new : FileState) (before mid after : List DriveView) → OnlyReads step first before mid → ReadsTo step most was result buffer new mid after → ReadsTo step (first + most) was result buffer new before after
+pub reads-behind : (step : Step ProgramFile) (first most : ℕ) (was : Files) (result : Result ProgramRead ℕ)
+    (buffer : List ℕ) (new : FileState) (before mid after : List DriveView) → OnlyReads step first before mid
+    → ReadsTo step most was result buffer new mid after → ReadsTo step (first + most) was result buffer new before
+    after
 reads-behind step first most was result buffer new before mid after only it =
     let all = only-then step first most before mid after only (record { calls = it.calls; media_kept = it.media_kept; others = it.others }) in
     record {
@@ -104,7 +115,9 @@ reads-behind step first most was result buffer new before mid after only it =
 
 -- ---- the file that was found
 
-module _ (user next : ℕ) (was : Files) (found : Found) (place : FilePlace) (state : FileState) (start views : List DriveView) (at : IsFoundAt was place found) (first : HasRead None place.drive was state start views) where
+module _ (user next : ℕ) (was : Files) (found : Found) (place : FilePlace) (state : FileState)
+    (start views : List DriveView) (at : IsFoundAt was place found) (first : HasRead None place.drive was state start
+    views) where
   abbrev before : Files
   before = with_drives was (drive_states views)
 
@@ -145,7 +158,10 @@ module _ (user next : ℕ) (was : Files) (found : Found) (place : FilePlace) (st
     fd-only read = only-here None (λ v file. 1) read
 
     -- or was not
-    pub fd-broken : (fault : FileFault) (number : ℕ) (buffer : List ℕ) → number ≡ file_error fault → ReadsFile place (file_fault {A = Unit {0}} (Err fault)) (λ v file. 1) state.disks views new.disks now → IsSome (file_fault {A = Unit {0}} (Err fault)) → ReadsTo step (found_calls user was found) was (Err number) buffer new views now
+    pub fd-broken : (fault : FileFault) (number : ℕ) (buffer : List ℕ) → number ≡ file_error fault
+        → ReadsFile place (file_fault {A = Unit {0}} (Err fault)) (λ v file. 1) state.disks views new.disks now
+        → IsSome (file_fault {A = Unit {0}} (Err fault)) → ReadsTo step (found_calls user was found) was (Err number)
+        buffer new views now
     fd-broken (Device number) answer buffer is read device =
         let only = only-here (Some number) (λ v file. 1) read in
         reads-broken step (found_calls user was found) was answer buffer new start views now place.drive reached
@@ -162,7 +178,10 @@ module _ (user next : ℕ) (was : Files) (found : Found) (place : FilePlace) (st
     most_by size = size_calls found.file size
 
     -- its bytes were read, or not
-    whole-reads : (size : ℕ) (loaded : Result (Unit {0}) FileFault) (buffer : List ℕ) → Ok size ≡ program_size user was found → ReadsFile place (file_fault loaded) (λ v file. read_calls file 0 size) state.disks views new.disks now → OnErr loaded (IsSome (file_fault loaded)) → IfOk loaded (λ done. IsWhole found.file size buffer) → ReadsTo step (most_by (Ok size)) was (read_by loaded size next) buffer new views now
+    whole-reads : (size : ℕ) (loaded : Result (Unit {0}) FileFault) (buffer : List ℕ) → Ok size ≡ program_size user
+        was found → ReadsFile place (file_fault loaded) (λ v file. read_calls file 0 size) state.disks views new.disks
+        now → OnErr loaded (IsSome (file_fault loaded)) → IfOk loaded (λ done. IsWhole found.file size buffer)
+        → ReadsTo step (most_by (Ok size)) was (read_by loaded size next) buffer new views now
     whole-reads size (Ok done) buffer is read device whole =
         let same = size-whole user was found size is in
         reads-well step (most_by (Ok size)) was (Ok (record { bytes = found.file.contents; next = next })) (Ok (record { size = size; next = next })) buffer new start views now place.drive
@@ -177,7 +196,11 @@ module _ (user next : ℕ) (was : Files) (found : Found) (place : FilePlace) (st
     whole-reads size (Err NoCluster) buffer is read device whole = absurd (false≢true device)
     whole-reads size (Err TooManyRuns) buffer is read device whole = absurd (false≢true device)
 
-    pub whole-answers : (size : ℕ) (loaded : Result (Unit {0}) FileFault) (result : Result ProgramRead ℕ) (buffer : List ℕ) → result ≡ read_by loaded size next → Ok size ≡ program_size user was found → ReadsFile place (file_fault loaded) (λ v file. read_calls file 0 size) state.disks views new.disks now → OnErr loaded (IsSome (file_fault loaded)) → IfOk loaded (λ done. IsWhole found.file size buffer) → ReadsTo step (most_by (program_size user was found)) was result buffer new views now
+    pub whole-answers : (size : ℕ) (loaded : Result (Unit {0}) FileFault) (result : Result ProgramRead ℕ)
+        (buffer : List ℕ) → result ≡ read_by loaded size next → Ok size ≡ program_size user was found
+        → ReadsFile place (file_fault loaded) (λ v file. read_calls file 0 size) state.disks views new.disks now
+        → OnErr loaded (IsSome (file_fault loaded)) → IfOk loaded (λ done. IsWhole found.file size buffer)
+        → ReadsTo step (most_by (program_size user was found)) was result buffer new views now
     whole-answers size loaded result buffer answer is read device whole =
         subst (λ (size : Result ℕ ℕ). ReadsTo step (most_by size) was result buffer new views now) is
         (subst (λ (result : Result ProgramRead ℕ). ReadsTo step (most_by (Ok size)) was result buffer new views now) (sym answer) (whole-reads size loaded buffer is read device whole))

@@ -38,7 +38,9 @@ module _ (m : MemoryState) (file front : List ℕ) (size : ℕ) (first : ModuleI
   ready tried step = ready-so (subst (λ (bytes : List ℕ). TriesFile bytes m (Ok first)) bytes_are tried) (subst (λ (bytes : List ℕ). step_from bytes 0 ≡ Module first) bytes_are step)
 
 -- the first module of what it comes to is this one
-pub ready-first : (m : MemoryState) (file : List ℕ) (size : ℕ) (first : ModuleInfo) → IsReady m file size first → (loaded : Loaded) → Loads m file (Ok loaded) → loaded.first.entry ≡ new_entry first (new_numbers m (file_blocks file)) false
+pub ready-first : (m : MemoryState) (file : List ℕ) (size : ℕ) (first : ModuleInfo) → IsReady m file size first
+    → (loaded : Loaded) → Loads m file (Ok loaded) → loaded.first.entry ≡ new_entry first
+    (new_numbers m (file_blocks file)) false
 ready-first m file size first at loaded loads =
     let same : at.loaded ≡ loaded = (let one = loads-one m file (Ok at.loaded) (Ok loaded) at.loads loads in cc) in
     ap (λ (l : Loaded). l.first.entry) (sym same) ∙ at.first_is

@@ -70,7 +70,10 @@ module _ (x : ℕ) where
   groups-cons group groups = list_any-append (λ named. named == x) group (flat_map (λ group. group) groups)
 
   -- a group that is listed is named
-  listed-by : (group first : List ℕ) (groups : List (List ℕ)) (test : Bool) → pointwise nat_eq group first ≡ test → (test || list_any (pointwise nat_eq group) groups) ≡ true → in_list group ≡ true → (list_any (pointwise nat_eq group) groups ≡ true → in_groups groups ≡ true) → in_groups (first ∷ groups) ≡ true
+  listed-by : (group first : List ℕ) (groups : List (List ℕ)) (test : Bool) → pointwise nat_eq group first ≡ test
+      → (test || list_any (pointwise nat_eq group) groups) ≡ true → in_list group ≡ true
+      → (list_any (pointwise nat_eq group) groups ≡ true → in_groups groups ≡ true) → in_groups (first ∷ groups) ≡
+      true
   listed-by group first groups true same is has rest = groups-cons first groups ∙ ap (λ (b : Bool). b || in_groups groups) (ap in_list (sym (pointwise-same group first same)) ∙ has)
   listed-by group first groups false same is has rest = groups-cons first groups ∙ ap (λ (b : Bool). in_list first || b) (rest is) ∙ or-true (in_list first)
 
@@ -79,11 +82,16 @@ module _ (x : ℕ) where
   listed group (first ∷ groups) is has = listed-by group first groups (pointwise nat_eq group first) refl is has (λ rest. listed group groups rest has)
 
   -- the groups name what the entries do
-  named-once : (entries : List (Option ModuleEntry)) (entry : ModuleEntry) (here : Bool) → in_list entry.group ≡ here → list_any (pointwise nat_eq entry.group) (entered_groups entries) ≡ true → in_groups (entered_groups entries) ≡ some_entry in_entry entries → some_entry in_entry entries ≡ (here || some_entry in_entry entries)
+  named-once : (entries : List (Option ModuleEntry)) (entry : ModuleEntry) (here : Bool) → in_list entry.group ≡ here
+      → list_any (pointwise nat_eq entry.group) (entered_groups entries) ≡ true → in_groups (entered_groups entries) ≡
+      some_entry in_entry entries → some_entry in_entry entries ≡ (here || some_entry in_entry entries)
   named-once entries entry true has is rest = sym rest ∙ listed entry.group (entered_groups entries) is has
   named-once entries entry false has is rest = refl
 
-  named-by : (entries : List (Option ModuleEntry)) (entry : ModuleEntry) (test : Bool) → list_any (pointwise nat_eq entry.group) (entered_groups entries) ≡ test → in_groups (entered_groups entries) ≡ some_entry in_entry entries → in_groups (if test then entered_groups entries else entry.group ∷ entered_groups entries) ≡ (in_entry entry || some_entry in_entry entries)
+  named-by : (entries : List (Option ModuleEntry)) (entry : ModuleEntry) (test : Bool)
+      → list_any (pointwise nat_eq entry.group) (entered_groups entries) ≡ test → in_groups (entered_groups entries) ≡
+      some_entry in_entry entries → in_groups (if test then entered_groups entries else entry.group ∷ entered_groups
+      entries) ≡ (in_entry entry || some_entry in_entry entries)
   named-by entries entry true is rest = rest ∙ named-once entries entry (in_list entry.group) refl is rest
   named-by entries entry false is rest = groups-cons entry.group (entered_groups entries) ∙ ap (λ (b : Bool). in_list entry.group || b) rest
 
@@ -93,7 +101,9 @@ module _ (x : ℕ) where
   named-in (Some entry ∷ entries) = named-by entries entry (list_any (pointwise nat_eq entry.group) (entered_groups entries)) refl (named-in entries)
 
   -- a new entry names what it names, beside the others
-  set-entry : (entries : List (Option ModuleEntry)) (n : ℕ) (new : ModuleEntry) → n < length entries → module_entry_at entries n ≡ None → some_entry in_entry (slice_set entries n (Some new)) ≡ (in_entry new || some_entry in_entry entries)
+  set-entry : (entries : List (Option ModuleEntry)) (n : ℕ) (new : ModuleEntry) → n < length entries
+      → module_entry_at entries n ≡ None → some_entry in_entry (slice_set entries n (Some new)) ≡
+      (in_entry new || some_entry in_entry entries)
   set-entry [] n new within none = absurd (omega arith)
   set-entry (None ∷ entries) zero new within none = refl
   set-entry (Some entry ∷ entries) zero new within none = absurd (none-some entry (sym none))
@@ -112,22 +122,29 @@ module _ (x : ℕ) where
   entry-at (Some first ∷ entries) (suc n) entry is has = ap (λ (b : Bool). in_entry first || b) (entry-at entries n entry is has) ∙ or-true (in_entry first)
 
   -- modules of a group that does not name it change nothing
-  one-more : (entries : List (Option ModuleEntry)) (info : ModuleInfo) (group : List ℕ) → in_list group ≡ false → some_entry in_entry (with_module entries info group false) ≡ some_entry in_entry entries
+  one-more : (entries : List (Option ModuleEntry)) (info : ModuleInfo) (group : List ℕ) → in_list group ≡ false
+      → some_entry in_entry (with_module entries info group false) ≡ some_entry in_entry entries
   one-more entries info group apart = by (free_number entries) refl
     where
-      by : (free : Option ℕ) → free_number entries ≡ free → some_entry in_entry (option_map_or (λ number. with_module_entry entries number (new_entry info group false)) free entries) ≡ some_entry in_entry entries
+      by : (free : Option ℕ) → free_number entries ≡ free → some_entry in_entry
+          (option_map_or (λ number. with_module_entry entries number (new_entry info group false)) free entries) ≡
+          some_entry in_entry entries
       by None is = refl
       by (Some place) is =
           let free = free_place entries place is in
           set-entry entries place (new_entry info group false) free.0 free.1 ∙ ap (λ (b : Bool). b || some_entry in_entry entries) apart
 
-  all-more : {file group : List ℕ} {from : ℕ} {entries : List (Option ModuleEntry)} {outcome : Result (List (Option ModuleEntry)) (ℕ × ℕ)} → in_list group ≡ false → EntersModules file group false from entries outcome → IfOk outcome (λ after. some_entry in_entry after ≡ some_entry in_entry entries)
+  all-more : {file group : List ℕ} {from : ℕ} {entries : List (Option ModuleEntry)}
+      {outcome : Result (List (Option ModuleEntry)) (ℕ × ℕ)} → in_list group ≡ false → EntersModules file group false
+      from entries outcome → IfOk outcome (λ after. some_entry in_entry after ≡ some_entry in_entry entries)
   all-more apart (at_end is) = refl
   all-more apart (broken is) = tt
   all-more apart (refused is e) = tt
   all-more {group = group} {entries = entries} {outcome = outcome} apart (entered {info = info} is e rest) = by outcome (all-more apart rest)
     where
-      by : (outcome : Result (List (Option ModuleEntry)) (ℕ × ℕ)) → IfOk outcome (λ after. some_entry in_entry after ≡ some_entry in_entry (with_module entries info group false)) → IfOk outcome (λ after. some_entry in_entry after ≡ some_entry in_entry entries)
+      by : (outcome : Result (List (Option ModuleEntry)) (ℕ × ℕ)) → IfOk outcome (λ after. some_entry in_entry after ≡
+          some_entry in_entry (with_module entries info group false))
+          → IfOk outcome (λ after. some_entry in_entry after ≡ some_entry in_entry entries)
       by (Ok after) same = same ∙ one-more entries info group apart
       by (Err refusal) same = tt
 

@@ -58,7 +58,9 @@ free-seen memory m tied =
     ap (λ (s : MemoryState). free_number s.modules) tied.is ∙ position-is_none (renamed_entry tied.number) memory.dir
 
 -- an entry of the machine's directory is one of the kernel's, with as many blocks in its group
-pub entered-here : (memory : Memory) (m : MemoryState) → Represents memory m → (number : ℕ) (entry : ModuleEntry) → module_entry_at m.modules number ≡ Some entry → IsSomeAnd (module_entry_at (modules_of memory) number) (λ here. length here.group ≡ length entry.group)
+pub entered-here : (memory : Memory) (m : MemoryState) → Represents memory m → (number : ℕ) (entry : ModuleEntry)
+    → module_entry_at m.modules number ≡ Some entry → IsSomeAnd (module_entry_at (modules_of memory) number)
+    (λ here. length here.group ≡ length entry.group)
 entered-here memory m tied number entry is = by_place (module_entry_at (modules_of memory) number) (sym (entry-seen memory m tied number) ∙ is)
   where
     by_place : (place : Option ModuleEntry) → option_map (renamed_entry tied.number) place ≡ Some entry → IsSomeAnd place (λ here. length here.group ≡ length entry.group)
@@ -67,5 +69,6 @@ entered-here memory m tied number entry is = by_place (module_entry_at (modules_
         sym (length-map here.group tied.number) ∙ ap (λ (e : ModuleEntry). length e.group) (same_Some (renamed_entry tied.number here) entry same)
 
 -- it is entered
-pub some-here : (memory : Memory) (m : MemoryState) → Represents memory m → (number : ℕ) (entry : ModuleEntry) → module_entry_at m.modules number ≡ Some entry → IsSome (module_entry_at (modules_of memory) number)
+pub some-here : (memory : Memory) (m : MemoryState) → Represents memory m → (number : ℕ) (entry : ModuleEntry)
+    → module_entry_at m.modules number ≡ Some entry → IsSome (module_entry_at (modules_of memory) number)
 some-here memory m tied number entry is = sym (entered-tied memory m tied number) ∙ ap is_some is

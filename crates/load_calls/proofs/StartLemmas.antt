@@ -57,7 +57,9 @@ module _ (after : MemoryState) (next : MemoryState → CallResult) where
   started-by false false true is = absurd cc
   started-by false false false is = refl
 
-module _ (m : Inner) (q : ℕ) (file : List ℕ) (loaded : Loaded) (it : IsLoaded m.memory file loaded) (info : ModuleInfo) (first_is : loaded.first.entry ≡ new_entry info (new_numbers m.memory (file_blocks file)) false) (program : Program) (entered_is : program.entered ≡ loaded.first) where
+module _ (m : Inner) (q : ℕ) (file : List ℕ) (loaded : Loaded) (it : IsLoaded m.memory file loaded)
+    (info : ModuleInfo) (first_is : loaded.first.entry ≡ new_entry info (new_numbers m.memory (file_blocks file))
+    false) (program : Program) (entered_is : program.entered ≡ loaded.first) where
   abbrev group : ℕ
   group = file_blocks file
 
@@ -94,11 +96,15 @@ module _ (m : Inner) (q : ℕ) (file : List ℕ) (loaded : Loaded) (it : IsLoade
       ∙ ap (λ (place : Option ModuleEntry). option_map_or (started_with loaded.memory q count) place (Err MemFull)) (first-there m.memory file loaded it)
       ∙ (λ i. change-by (has_most_links (first_is i)) (nat_lt 8 (count + long i)) (room-is i))
 
-  loads-by : (next : MemoryState → CallResult) → loads_program (with_memory m loaded.memory) q program next ≡ start-by begun-memory next (nat_lt most_pages program.pages) (nat_lt 8 (count + group)) (nat_lt (free_blocks m.memory + (map_at m.memory q).low) (count + group))
+  loads-by : (next : MemoryState → CallResult) → loads_program (with_memory m loaded.memory) q program next ≡ start-by
+      begun-memory next (nat_lt most_pages program.pages) (nat_lt 8 (count + group))
+      (nat_lt (free_blocks m.memory + (map_at m.memory q).low) (count + group))
   loads-by next = ap (λ (change : Result MemoryState MemoryFault). refuses (nat_lt most_pages program.pages) E_MEMFUL (changes change next)) change-is
 
   -- it is refused
-  pub start-refused : (number : ℕ) → start_refusal m.memory q group program.pages ≡ Some number → (next : MemoryState → CallResult) → loads_program (with_memory m loaded.memory) q program next ≡ refused number
+  pub start-refused : (number : ℕ) → start_refusal m.memory q group program.pages ≡ Some number
+      → (next : MemoryState → CallResult) → loads_program (with_memory m loaded.memory) q program next ≡ refused
+      number
   start-refused number is next =
       loads-by next ∙ refused-by begun-memory next (nat_lt most_pages program.pages) (nat_lt 8 (count + group)) (nat_lt (free_blocks m.memory + (map_at m.memory q).low) (count + group)) number is
 

@@ -34,6 +34,7 @@ pub same-user : (s : ProcState) (m : Inner) (p : ℕ) → Represents s m → use
 same-user s m p tied = ap (λ (i : Inner). user_at i p) tied.is
 
 -- names that stand in its memory
-pub names-seen : (s : ProcState) (m : Inner) (p : ℕ) (first : Option ℕ) (names : List (List ℕ)) → p < 33 → Represents s m → NamesFrom (cells_of s.memory p) first names → NamesFrom (cells_at m p) first names
+pub names-seen : (s : ProcState) (m : Inner) (p : ℕ) (first : Option ℕ) (names : List (List ℕ)) → p < 33
+    → Represents s m → NamesFrom (cells_of s.memory p) first names → NamesFrom (cells_at m p) first names
 names-seen s m p first names process tied stand =
     subst (λ (cells : Cells). NamesFrom cells first names) (cells_of-seen s.memory p process m.memory tied.memory) stand

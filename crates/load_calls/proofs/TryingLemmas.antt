@@ -110,10 +110,12 @@ module _ (file group : List ℕ) (dir entries : List (Option ModuleEntry)) (trie
   refusal-same : (info : ModuleInfo) → entry_refusal p.modules info ≡ entry_refusal_beside dir tried count info
   refusal-same info =
       ap (λ (b : Bool). if b then Some E_KWNMOD else (if module_room p.modules == 0 then Some E_DIRFUL else None)) (p.known info)
-      ∙ ap (λ (b : Bool). if is_known dir info || list_any (makes_known info) tried then Some E_KWNMOD else (if b then Some E_DIRFUL else None)) (room-test (module_room p.modules) count (module_room dir) p.room)
+      ∙ ap (λ (b : Bool). if is_known dir info || list_any (makes_known info) tried then Some E_KWNMOD else
+      (if b then Some E_DIRFUL else None)) (room-test (module_room p.modules) count (module_room dir) p.room)
 
   -- it is the first that is refused
-  pub refused-next : (info : ModuleInfo) (number : ℕ) → step_from file from ≡ Module info → entry_refusal_beside dir tried count info ≡ Some number → EntersModules file group false 0 entries (Err (info.at, number))
+  pub refused-next : (info : ModuleInfo) (number : ℕ) → step_from file from ≡ Module info → entry_refusal_beside dir
+      tried count info ≡ Some number → EntersModules file group false 0 entries (Err (info.at, number))
   refused-next info number is not = p.goes_on (Err (info.at, number)) (refused is (refusal-same info ∙ not))
 
   -- it breaks a rule of its own
@@ -121,7 +123,9 @@ module _ (file group : List ℕ) (dir entries : List (Option ModuleEntry)) (trie
   broken-next at fault is = p.goes_on (Err (at, module_error fault)) (broken is)
 
   -- or is entered
-  pub entered-next : (info : ModuleInfo) → step_from file from ≡ Module info → entry_refusal_beside dir tried count info ≡ None → count < length tried → get_or tried count None ≡ None → Progress file group dir entries (set tried count (Some info)) (count + 1) (info.at + info.size)
+  pub entered-next : (info : ModuleInfo) → step_from file from ≡ Module info → entry_refusal_beside dir tried count
+      info ≡ None → count < length tried → get_or tried count None ≡ None → Progress file group dir entries
+      (set tried count (Some info)) (count + 1) (info.at + info.size)
   entered-next info is none within free = record {
     modules = with_module p.modules info group false;
     known = λ other. by-known other (free_number p.modules) refl;
@@ -132,7 +136,9 @@ module _ (file group : List ℕ) (dir entries : List (Option ModuleEntry)) (trie
       some-room : 0 < module_room p.modules
       some-room = omega (arith, p.room, count-below dir tried count info none)
 
-      by-room : (place : Option ℕ) → free_number p.modules ≡ place → MatchOption place (module_room p.modules ≡ 0) (λ number. 0 < module_room p.modules) → module_room (with_module p.modules info group false) + (count + 1) ≡ module_room dir
+      by-room : (place : Option ℕ) → free_number p.modules ≡ place → MatchOption place (module_room p.modules ≡ 0)
+          (λ number. 0 < module_room p.modules) → module_room (with_module p.modules info group false) + (count + 1) ≡
+          module_room dir
       by-room None at full = absurd (omega (arith, some-room, full))
       by-room (Some number) at room =
           let new = new_entry info group false in
@@ -144,7 +150,9 @@ module _ (file group : List ℕ) (dir entries : List (Option ModuleEntry)) (trie
       in-tried : (other : ModuleInfo) → list_any (makes_known other) (set tried count (Some info)) ≡ (list_any (makes_known other) tried || makes_known other (Some info))
       in-tried other = any-set (makes_known other) tried count None (Some info) within (ap (makes_known other) free)
 
-      by-known : (other : ModuleInfo) (place : Option ℕ) → free_number p.modules ≡ place → is_known (with_module p.modules info group false) other ≡ (is_known dir other || list_any (makes_known other) (set tried count (Some info)))
+      by-known : (other : ModuleInfo) (place : Option ℕ) → free_number p.modules ≡ place
+          → is_known (with_module p.modules info group false) other ≡ (is_known dir other || list_any
+          (makes_known other) (set tried count (Some info)))
       by-known other None at = absurd (omega (arith, some-room, full-room at))
         where
           full-room : free_number p.modules ≡ None → module_room p.modules ≡ 0

@@ -52,7 +52,9 @@ module _ (asker : Asker) (files : Files) (terms : ℕ) (refusal : Option ℕ) wh
   by-leads = leads-on asker refusal (way_of asker files terms true) (program_on_way asker files) (λ list number. refl)
 
   -- along the way that was found
-  pub program-way : (list : PathList) (way : Way) → leads asker refusal (way_of asker files terms true) ≡ comes (record { list = list; way = way }) → program_file asker files terms (refuses_by refusal) ≡ program_on_way asker files list way
+  pub program-way : (list : PathList) (way : Way) → leads asker refusal (way_of asker files terms true) ≡ comes
+      (record { list = list; way = way }) → program_file asker files terms (refuses_by refusal) ≡ program_on_way asker
+      files list way
   program-way list way is =
       by-leads ∙ ap (λ (step : Step Led). next_step step (λ led. program_on_way asker files led.list led.way)) is
 
@@ -76,17 +78,23 @@ module _ (asker : Asker) (files : Files) (terms : ℕ) (refusal : Option ℕ) wh
   refused-way list way other None is = led-way list way other is
   refused-way list way other (Some number) is = ap (λ (step : Step Led). way-led step other) is
 
-  pub listed-way : (list : PathList) (way : Way) → list_of asker ≡ Ok list → leads asker refusal (way_of asker files terms true) ≡ comes (record { list = list; way = way }) → way_of asker files terms true list ≡ way
+  pub listed-way : (list : PathList) (way : Way) → list_of asker ≡ Ok list → leads asker refusal
+      (way_of asker files terms true) ≡ comes (record { list = list; way = way }) → way_of asker files terms true list
+      ≡ way
   listed-way list way read is =
       refused-way list way (way_of asker files terms true list) refusal
       (sym (ap (λ (read : Result PathList NameFault). reads_list read (refuses_by refusal) (λ list. led_by list (way_of asker files terms true list))) read) ∙ is)
 
   -- a walk reaches its drive, if there is a volume
-  calls-reached : (from : FilePlace) (names : List (List ℕ)) (volume : Option DiskVolume) (step : DiskVolume → Step ProgramFile) → calls_of (needs volume E_MNF (λ v. reaches from.drive (step v))) (calls_on_volume asker.user files from names volume) ≡ calls_on_volume asker.user files from names volume
+  calls-reached : (from : FilePlace) (names : List (List ℕ)) (volume : Option DiskVolume) (step : DiskVolume
+      → Step ProgramFile) → calls_of (needs volume E_MNF (λ v. reaches from.drive (step v)))
+      (calls_on_volume asker.user files from names volume) ≡ calls_on_volume asker.user files from names volume
   calls-reached from names None step = refl
   calls-reached from names (Some v) step = refl
 
-  calls-along : (list : PathList) (from : FilePlace) (names : List (List ℕ)) → list_of asker ≡ Ok list → leads asker refusal (way_of asker files terms true) ≡ comes (record { list = list; way = along from names }) → program_calls asker files terms refusal ≡ way_calls asker files (along from names)
+  calls-along : (list : PathList) (from : FilePlace) (names : List (List ℕ)) → list_of asker ≡ Ok list
+      → leads asker refusal (way_of asker files terms true) ≡ comes (record { list = list; way = along from names })
+      → program_calls asker files terms refusal ≡ way_calls asker files (along from names)
   calls-along list from names read is =
       ap (λ (step : Step ProgramFile). calls_of step (list_calls asker files terms (list_of asker))) (program-way list (along from names) is)
       ∙ ap (λ (read : Result PathList NameFault). calls_of (program_on_way asker files list (along from names)) (list_calls asker files terms read)) read
@@ -94,14 +102,23 @@ module _ (asker : Asker) (files : Files) (terms : ℕ) (refusal : Option ℕ) wh
       ∙ calls-reached from names (volume_at files from.drive) (λ v. walk_ends from.drive v (walk v.files asker.user true from.number names) (program_found asker files list))
 
   -- what comes of a call whose list leads to no file
-  pub program-nowhere : (state : FileState) (views : List DriveView) (number : ℕ) (buffer : List ℕ) → StandsFor state views files → program_file asker files terms (refuses_by refusal) ≡ refused number → ReadsTo (program_file asker files terms (refuses_by refusal)) (program_calls asker files terms refusal) files (Err number) buffer state views views
+  pub program-nowhere : (state : FileState) (views : List DriveView) (number : ℕ) (buffer : List ℕ)
+      → StandsFor state views files → program_file asker files terms (refuses_by refusal) ≡ refused number
+      → ReadsTo (program_file asker files terms (refuses_by refusal)) (program_calls asker files terms refusal) files
+      (Err number) buffer state views views
   program-nowhere state views number buffer stands is =
       reads-well (program_file asker files terms (refuses_by refusal)) (program_calls asker files terms refusal) files (Err number) (Err number) buffer state views views views 0
       (ap reading_of is) (read-none 0 state views files stands) refl
       (only-none (program_file asker files terms (refuses_by refusal)) (program_calls asker files terms refusal) views)
 
   -- or along names
-  pub program-along : (list : PathList) (from : FilePlace) (result : Result ProgramRead ℕ) (buffer : List ℕ) (new : FileState) (before after : List DriveView) → list_of asker ≡ Ok list → leads asker refusal (way_of asker files terms true) ≡ comes (record { list = list; way = along from list.names }) → ReadsTo (program_on_way asker files list (along from list.names)) (way_calls asker files (along from list.names)) files result buffer new before after → ReadsTo (program_file asker files terms (refuses_by refusal)) (program_calls asker files terms refusal) files result buffer new before after
+  pub program-along : (list : PathList) (from : FilePlace) (result : Result ProgramRead ℕ) (buffer : List ℕ)
+      (new : FileState) (before after : List DriveView) → list_of asker ≡ Ok list → leads asker refusal
+      (way_of asker files terms true) ≡ comes (record { list = list; way = along from list.names })
+      → ReadsTo (program_on_way asker files list (along from list.names))
+      (way_calls asker files (along from list.names)) files result buffer new before after
+      → ReadsTo (program_file asker files terms (refuses_by refusal)) (program_calls asker files terms refusal) files
+      result buffer new before after
   program-along list from result buffer new before after read is it =
       subst (λ (step : Step ProgramFile). ReadsTo step (program_calls asker files terms refusal) files result buffer new before after) (sym (program-way list (along from list.names) is))
       (subst (λ (most : ℕ). ReadsTo (program_on_way asker files list (along from list.names)) most files result buffer new before after) (sym (calls-along list from list.names read is)) it)
@@ -118,7 +135,10 @@ pub record Arrives (asker : Asker) (files : Files) (list : PathList) (from place
   pub called : CalledAtMost walk_most views now
   pub most_is : way_calls asker files (along from list.names) ≡ walk_most + found_calls asker.user files found
 
-module _ (asker : Asker) (process : Pid) (user : ℕ) (files : Files) (list : PathList) (from : FilePlace) (state new : FileState) (views now : List DriveView) (same : asker.user ≡ user) (stands : StandsFor state views files) (has : HasFileAt state.disks views from) (io : new.io ≡ state.io) (directories : new.directories ≡ state.directories) where
+module _ (asker : Asker) (process : Pid) (user : ℕ) (files : Files) (list : PathList) (from : FilePlace)
+    (state new : FileState) (views now : List DriveView) (same : asker.user ≡ user) (stands : StandsFor state views
+    files) (has : HasFileAt state.disks views from) (io : new.io ≡ state.io) (directories : new.directories ≡
+    state.directories) where
   abbrev walker : Walker
   walker = record { process = process; user = user; execute = true }
 
@@ -165,12 +185,15 @@ module _ (asker : Asker) (process : Pid) (user : ℕ) (files : Files) (list : Pa
     only reached =
         only-read step most (directory_fault arrived) from.drive files new views now (inl reached) read called-all
 
-  ended : (number : ℕ) (buffer : List ℕ) → step ≡ reaches from.drive (refused number) → HasRead None from.drive files new views now → (drive_of step ≡ Some from.drive → OnlyReads step most views now) → ReadsTo step most files (Err number) buffer new views now
+  ended : (number : ℕ) (buffer : List ℕ) → step ≡ reaches from.drive (refused number) → HasRead None from.drive files
+      new views now → (drive_of step ≡ Some from.drive → OnlyReads step most views now) → ReadsTo step most files
+      (Err number) buffer new views now
   ended number buffer is it only =
       reads-well step most files (Err number) (Err number) buffer new views views now from.drive (ap reading_of is) it refl (only (ap drive_of is))
 
   -- no file was found
-  walk-refused : (error : DirError) (buffer : List ℕ) → Walks walker from list.names (Err error) state.disks views new.disks now → ReadsTo step most files (Err (directory_error error)) buffer new views now
+  walk-refused : (error : DirError) (buffer : List ℕ) → Walks walker from list.names (Err error) state.disks views
+      new.disks now → ReadsTo step most files (Err (directory_error error)) buffer new views now
   walk-refused NotAllowed buffer it =
       ended E_FNA buffer (walks-forbidden asker walker files from list.names same (program_found asker files list) (comes-to (Err NotAllowed) it)) (read (Err NotAllowed) it) (only (Err NotAllowed) it)
   walk-refused BadPath buffer it = absurd (comes-to (Err BadPath) it)
@@ -184,12 +207,20 @@ module _ (asker : Asker) (process : Pid) (user : ℕ) (files : Files) (list : Pa
   walk-refused (File NoCluster) buffer it = absurd (comes-to (Err (File NoCluster)) it)
   walk-refused (File TooManyRuns) buffer it = absurd (comes-to (Err (File TooManyRuns)) it)
 
-  pub walk-ends : (error : DirError) (number : ℕ) (buffer : List ℕ) → number ≡ directory_error error → Walks walker from list.names (Err error) state.disks views new.disks now → ReadsTo step most files (Err number) buffer new views now
+  pub walk-ends : (error : DirError) (number : ℕ) (buffer : List ℕ) → number ≡ directory_error error
+      → Walks walker from list.names (Err error) state.disks views new.disks now → ReadsTo step most files
+      (Err number) buffer new views now
   walk-ends error number buffer is it =
       subst (λ (n : ℕ). ReadsTo step most files (Err n) buffer new views now) (sym is) (walk-refused error buffer it)
 
   -- or one was
-  found-here : (place : FilePlace) (at : Finds walker files from list.names place) → record { place = record { drive = from.drive; number = place.number }; volume = at.found.volume; file = at.found.file } ≡ at.found
+  found-here : (place : FilePlace) (at : Finds walker files from list.names place)
+      → record {
+        place = record { drive = from.drive; number = place.number };
+        volume = at.found.volume;
+        file =
+            at.found.file;
+      } ≡ at.found
   found-here place at =
       ap (λ (drive : ℕ). record { place = record { drive = drive; number = place.number }; volume = at.found.volume; file = at.found.file }) (sym at.drive_is)
       ∙ ap (λ (p : FilePlace). record { place = p; volume = at.found.volume; file = at.found.file }) (sym at.place_is)
@@ -213,14 +244,16 @@ module _ (asker : Asker) (process : Pid) (user : ℕ) (files : Files) (list : Pa
         called = called (Ok place) it at.found.volume at.volume_is (file-there state.disks views from has files.volumes at.found.volume stands.mounted at.volume_is);
         most_is =
             most-is at.found.volume at.volume_is
-            ∙ ap (λ (end : WalkEnd). walked at.found.volume + calls_on end (λ n. calls_at_end user files (record { drive = from.drive; number = n }) at.found.volume (at.found.volume.files n))) at.end_is
+            ∙ ap (λ (end : WalkEnd). walked at.found.volume + calls_on end (λ n. calls_at_end user files
+            (record { drive = from.drive; number = n }) at.found.volume (at.found.volume.files n))) at.end_is
             ∙ ap (λ (file : Option DiskFile). walked at.found.volume + calls_at_end user files (record { drive = from.drive; number = place.number }) at.found.volume file) at.file_is
             ∙ ap (λ (found : Found). walked at.found.volume + found_calls user files found) (found-here place at)
             ∙ ap (λ (u : ℕ). walked at.found.volume + found_calls u files at.found) (sym same);
       }
 
 -- what was read there
-module _ (asker : Asker) (files : Files) (list : PathList) (from place : FilePlace) (mid new : FileState) (before views after : List DriveView) (at : Arrives asker files list from place mid before views) where
+module _ (asker : Asker) (files : Files) (list : PathList) (from place : FilePlace) (mid new : FileState)
+    (before views after : List DriveView) (at : Arrives asker files list from place mid before views) where
   abbrev whole : Step ProgramFile
   whole = program_on_way asker files list (along from list.names)
 
@@ -229,7 +262,10 @@ module _ (asker : Asker) (files : Files) (list : PathList) (from place : FilePla
       only-read whole at.walk_most None place.drive files mid before views
       (inl (ap drive_of at.step_is ∙ ap (λ (at : FilePlace). Some at.drive) at.there.place_is)) at.read at.called
 
-  pub arrived-reads : (next user : ℕ) (result : Result ProgramRead ℕ) (buffer : List ℕ) → asker.user ≡ user → next ≡ list.next → ReadsTo (program_there user files next at.found) (found_calls user files at.found) files result buffer new views after → ReadsTo whole (way_calls asker files (along from list.names)) files result buffer new before after
+  pub arrived-reads : (next user : ℕ) (result : Result ProgramRead ℕ) (buffer : List ℕ) → asker.user ≡ user
+      → next ≡ list.next → ReadsTo (program_there user files next at.found) (found_calls user files at.found) files
+      result buffer new views after → ReadsTo whole (way_calls asker files (along from list.names)) files result
+      buffer new before after
   arrived-reads next user result buffer same is it =
       let there : program_there asker.user files next at.found ≡ whole = ap (λ (next : ℕ). program_there asker.user files next at.found) is ∙ sym at.step_is in
       subst (λ (most : ℕ). ReadsTo whole most files result buffer new before after) (sym at.most_is)
@@ -244,14 +280,18 @@ pub way-names : (cells : Cells) (way : RouteWay) (from : FilePlace) (first : Opt
 way-names cells way from first is has = subst (λ (way : RouteWay). HasNames cells way) is has
 
 -- where a route leads along names, so does the list
-pub route-along : (cells : Cells) (asker : Asker) (led : Step Led) (route : Route) (from : FilePlace) (first : Option ℕ) (it : IsRoute cells asker led route) → route.way ≡ Along from first → (led ≡ comes (record { list = it.list; way = along from it.list.names })) × NamesFrom cells first it.list.names
+pub route-along : (cells : Cells) (asker : Asker) (led : Step Led) (route : Route) (from : FilePlace)
+    (first : Option ℕ) (it : IsRoute cells asker led route) → route.way ≡ Along from first
+    → (led ≡ comes (record { list = it.list; way = along from it.list.names })) × NamesFrom cells first it.list.names
 route-along cells asker led route from first it is = (
   it.comes_to ∙ ap (λ (way : Way). comes (record { list = it.list; way = way })) (it.route_is.way_is ∙ ap (λ (way : RouteWay). way_to (Ok way) it.list.names) is),
   subst (λ (way : RouteWay). NamesOn cells way it.list.names) is it.route_is.names,
 )
 
 -- where it leads to a terminal or a pipe the call is refused
-pub route-device : (cells : Cells) (asker : Asker) (files : Files) (terms : ℕ) (refusal : Option ℕ) (route : Route) → IsRoute cells asker (leads asker refusal (way_of asker files terms true)) route → route.way ≡ Device → program_file asker files terms (refuses_by refusal) ≡ refused E_FNA
+pub route-device : (cells : Cells) (asker : Asker) (files : Files) (terms : ℕ) (refusal : Option ℕ) (route : Route)
+    → IsRoute cells asker (leads asker refusal (way_of asker files terms true)) route → route.way ≡ Device
+    → program_file asker files terms (refuses_by refusal) ≡ refused E_FNA
 route-device cells asker files terms refusal route it is =
     program-way asker files terms refusal it.list to_device
     (it.comes_to ∙ ap (λ (way : Way). comes (record { list = it.list; way = way })) (it.route_is.way_is ∙ ap (λ (way : RouteWay). way_to (Ok way) it.list.names) is))

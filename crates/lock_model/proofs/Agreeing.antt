@@ -32,7 +32,8 @@ records-held records path lock bytes low may was = record {
   undisturbed = undisturbed-got records.history path lock bytes was.undisturbed;
 }
 
-pub records-written : (records : Records) (path : ℕ) (lock : Held) (bytes : List ℕ) → path < 65 → conflicts records.locks lock ≡ false → AreRecords records → AreRecords (written_by records path lock bytes)
+pub records-written : (records : Records) (path : ℕ) (lock : Held) (bytes : List ℕ) → path < 65
+    → conflicts records.locks lock ≡ false → AreRecords records → AreRecords (written_by records path lock bytes)
 records-written records path lock bytes low free was = record {
   locks = are-released records.locks path was.locks;
   recorded = recorded-put records.locks records.history path lock bytes (omega (arith, low, was.locks.paths)) was.recorded;
@@ -84,7 +85,9 @@ records-asked records locks same are was = record {
   undisturbed = was.undisturbed;
 }
 
-pub records-waiting : (records : Records) (request : Request) → request_of records.locks request.lock.owner.0 ≡ None → closes records.locks request.lock ≡ false → AreRecords records → AreRecords (with_waiting records request.lock.owner.0 (Some request))
+pub records-waiting : (records : Records) (request : Request) → request_of records.locks request.lock.owner.0 ≡ None
+    → closes records.locks request.lock ≡ false → AreRecords records
+    → AreRecords (with_waiting records request.lock.owner.0 (Some request))
 records-waiting records request quiet unclosed was =
     records-asked records (with_request records.locks request.lock.owner.0 (Some request)) refl (are-waiting records.locks request quiet unclosed was.locks) was
 

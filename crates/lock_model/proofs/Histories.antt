@@ -118,7 +118,9 @@ recorded locks now h new enters held_new gotten_new was = record {
 enters-at : (locks : Locks) (path : ℕ) (place : Option Held) → Enters locks (with_lock locks path place) path
 enters-at locks path place = record { others = λ s differ. get_or-set_other locks.held path s place None differ }
 
-pub recorded-got : (locks : Locks) (h : List Entry) (path : ℕ) (lock : Held) (bytes : List ℕ) → path < length locks.held → AreRecorded locks h → AreRecorded (with_lock locks path (Some lock)) (h ++ got path lock bytes ∷ [])
+pub recorded-got : (locks : Locks) (h : List Entry) (path : ℕ) (lock : Held) (bytes : List ℕ)
+    → path < length locks.held → AreRecorded locks h → AreRecorded (with_lock locks path (Some lock))
+    (h ++ got path lock bytes ∷ [])
 recorded-got locks h path lock bytes low was =
     recorded locks (with_lock locks path (Some lock)) h (got path lock bytes) (enters-at locks path (Some lock))
     (λ other is. (bytes, ap (λ (it : Held). got path it bytes) (some-same lock other (sym there ∙ is))))
@@ -139,12 +141,15 @@ put-get e = cc
 drop-get : Drop ≡ Get → ⊥
 drop-get e = cc
 
-pub recorded-put : (locks : Locks) (h : List Entry) (path : ℕ) (lock : Held) (bytes : List ℕ) → path < length locks.held → AreRecorded locks h → AreRecorded (with_lock locks path None) (h ++ put path lock bytes ∷ [])
+pub recorded-put : (locks : Locks) (h : List Entry) (path : ℕ) (lock : Held) (bytes : List ℕ)
+    → path < length locks.held → AreRecorded locks h → AreRecorded (with_lock locks path None)
+    (h ++ put path lock bytes ∷ [])
 recorded-put locks h path lock bytes low was =
     recorded locks (with_lock locks path None) h (put path lock bytes) (enters-at locks path None)
     (λ other is. absurd (nothing-there locks path other low is)) (λ get. absurd (put-get get)) was
 
-pub recorded-dropped : (locks : Locks) (h : List Entry) (path : ℕ) (lock : Held) → path < length locks.held → AreRecorded locks h → AreRecorded (with_lock locks path None) (h ++ dropped path lock ∷ [])
+pub recorded-dropped : (locks : Locks) (h : List Entry) (path : ℕ) (lock : Held) → path < length locks.held
+    → AreRecorded locks h → AreRecorded (with_lock locks path None) (h ++ dropped path lock ∷ [])
 recorded-dropped locks h path lock low was =
     recorded locks (with_lock locks path None) h (dropped path lock) (enters-at locks path None)
     (λ other is. absurd (nothing-there locks path other low is)) (λ get. absurd (drop-get get)) was
@@ -175,7 +180,9 @@ both-true true true x y = refl
 both-true true false x y = y
 both-true false y x e = x
 
-pub undisturbed-put : (locks : Locks) (h : List Entry) (path : ℕ) (lock : Held) (bytes : List ℕ) → conflicts locks lock ≡ false → AreRecorded locks h → AreUndisturbed h → AreUndisturbed (h ++ put path lock bytes ∷ [])
+pub undisturbed-put : (locks : Locks) (h : List Entry) (path : ℕ) (lock : Held) (bytes : List ℕ)
+    → conflicts locks lock ≡ false → AreRecorded locks h → AreUndisturbed h
+    → AreUndisturbed (h ++ put path lock bytes ∷ [])
 undisturbed-put locks h path lock bytes free recorded_there was = undisturbed h (put path lock bytes) fair was
   where
     fair : (get : Entry) → IsLast h get → get.kind ≡ Get → Disturbs get (put path lock bytes) → ⊥
@@ -183,7 +190,9 @@ undisturbed-put locks h path lock bytes free recorded_there was = undisturbed h 
         let it = recorded_there.gotten get last is_get in
         let at : Disturbs (got get.path it.0 get.bytes) (put path lock bytes) = subst (λ (entry : Entry). Disturbs entry (put path lock bytes)) it.2 disturbs in
         let differ : eqb it.0.owner.0 lock.owner.0 ≡ false = ne_eqb it.0.owner.0 lock.owner.0 (λ e. at.other (sym e)) in
-        let against : is_against lock it.0 ≡ true = both-true (not (eqb it.0.owner.0 lock.owner.0)) (is_same_file lock.file it.0.file && overlaps lock.range it.0.range) (ap not differ) (both-true (is_same_file lock.file it.0.file) (overlaps lock.range it.0.range) at.file at.overlap) in
+        let against : is_against lock it.0 ≡ true = both-true (not (eqb it.0.owner.0 lock.owner.0))
+        (is_same_file lock.file it.0.file && overlaps lock.range it.0.range) (ap not differ)
+        (both-true (is_same_file lock.file it.0.file) (overlaps lock.range it.0.range) at.file at.overlap) in
         false≢true (sym free ∙ some-opposer locks lock (λ owner. true) it.0.owner.0 (record { path = get.path; lock = it.0; is = it.1; owned = refl; against = against }) refl)
 
 pub pairs-atomic : (h : List Entry) → AreUndisturbed h → AtomicPairs h
@@ -194,4 +203,6 @@ pairs-atomic h was before between after get written is pair a c entry among dist
     whole = is ∙ ap (λ (zs : List Entry). before ++ (get ∷ zs) ++ (written ∷ after)) among ∙ shuffled
       where
         shuffled : before ++ (get ∷ (a ++ entry ∷ c)) ++ (written ∷ after) ≡ before ++ (get ∷ a) ++ (entry ∷ (c ++ (written ∷ after)))
-        shuffled = append_assoc before (get ∷ (a ++ entry ∷ c)) (written ∷ after) ∙ ap (λ (zs : List Entry). before ++ (get ∷ zs)) (append_assoc a (entry ∷ c) (written ∷ after)) ∙ sym (append_assoc before (get ∷ a) (entry ∷ (c ++ (written ∷ after))))
+        shuffled = append_assoc before (get ∷ (a ++ entry ∷ c)) (written ∷ after) ∙ ap (λ (zs : List Entry). before ++
+            (get ∷ zs)) (append_assoc a (entry ∷ c) (written ∷ after)) ∙ sym (append_assoc before (get ∷ a)
+            (entry ∷ (c ++ (written ∷ after))))

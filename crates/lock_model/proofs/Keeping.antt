@@ -65,7 +65,9 @@ are-first = record {
   ranks = ranks-first;
 }
 
-pub are-waiting : (locks : Locks) (request : Request) → request_of locks request.lock.owner.0 ≡ None → closes locks request.lock ≡ false → AreLocks locks → AreLocks (with_request locks request.lock.owner.0 (Some request))
+pub are-waiting : (locks : Locks) (request : Request) → request_of locks request.lock.owner.0 ≡ None
+    → closes locks request.lock ≡ false → AreLocks locks → AreLocks (with_request locks request.lock.owner.0
+    (Some request))
 are-waiting locks request quiet unclosed was = record {
   paths = was.paths;
   processes = length-set locks.requests request.lock.owner.0 (Some request) ∙ was.processes;

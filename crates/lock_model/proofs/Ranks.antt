@@ -156,15 +156,24 @@ lifted-most locks ranks p q = elim (cases_Bool (eqb q p || leads_within locks 33
   | inr not ↦ rw (lifted-not locks ranks.rank ranks.most p q not) (omega (arith, ranks.within q))
 ]
 
-pub ranks-waiting : (locks : Locks) (request : Request) → length locks.requests ≡ 33 → request_of locks request.lock.owner.0 ≡ None → closes locks request.lock ≡ false → HasRanks locks → HasRanks (with_request locks request.lock.owner.0 (Some request))
+pub ranks-waiting : (locks : Locks) (request : Request) → length locks.requests ≡ 33
+    → request_of locks request.lock.owner.0 ≡ None → closes locks request.lock ≡ false → HasRanks locks
+    → HasRanks (with_request locks request.lock.owner.0 (Some request))
 unfolding closes
 ranks-waiting locks request places quiet unclosed ranks = record {
   rank = lifted locks ranks.rank ranks.most request.lock.owner.0;
   most = suc (ranks.most + ranks.most);
   within = λ q. lifted-most locks ranks request.lock.owner.0 q;
   falls = λ a b waits. elim (get-written locks.requests request.lock.owner.0 a request waits.request waits.is) [
-    | inl (same, value) ↦ falls-new a b same (subst (λ (r : Request). Opposes locks r.lock b) (sym value) (opposes-old locks (with_request locks request.lock.owner.0 (Some request)) waits.request.lock b (λ t lock is. is) waits.opposes))
-    | inr old ↦ falls-old a b (record { request = waits.request; is = old; opposes = opposes-old locks (with_request locks request.lock.owner.0 (Some request)) waits.request.lock b (λ t lock is. is) waits.opposes })
+    | inl (same, value) ↦ falls-new a b same (subst (λ (r : Request). Opposes locks r.lock b) (sym value)
+        (opposes-old locks (with_request locks request.lock.owner.0 (Some request)) waits.request.lock b
+        (λ t lock is. is) waits.opposes))
+    | inr old ↦ falls-old a b (record {
+      request = waits.request;
+      is = old;
+      opposes = opposes-old locks
+          (with_request locks request.lock.owner.0 (Some request)) waits.request.lock b (λ t lock is. is) waits.opposes;
+    })
   ];
 }
   where
@@ -181,14 +190,19 @@ ranks-waiting locks request places quiet unclosed ranks = record {
           ])
     ]
 
-    falls-new : (a b : ℕ) → a ≡ request.lock.owner.0 → Opposes locks request.lock b → lifted locks ranks.rank ranks.most request.lock.owner.0 b < lifted locks ranks.rank ranks.most request.lock.owner.0 a
+    falls-new : (a b : ℕ) → a ≡ request.lock.owner.0 → Opposes locks request.lock b → lifted locks ranks.rank
+        ranks.most request.lock.owner.0 b < lifted locks ranks.rank ranks.most request.lock.owner.0 a
     falls-new a b same it = let p = request.lock.owner.0 in elim (cases_Bool (eqb b p || leads_within locks 33 b p)) [
       | inl up ↦ (
           elim (or_cases (eqb b p) (leads_within locks 33 b p) up) [
             | inl self ↦ absurd (false≢true (sym (against-own request.lock it.lock (it.owned ∙ eqb-true b p self)) ∙ it.against))
             | inr leads ↦ absurd (false≢true (sym unclosed ∙ some-opposer locks request.lock (λ first. leads_within locks 33 first p) b it leads))
           ])
-      | inr low ↦ rw (lifted-not locks ranks.rank ranks.most p b low, lifted-up locks ranks.rank ranks.most p a (or_left (eqb a p) (leads_within locks 33 a p) (eq-eqb a p same))) (omega (arith, ranks.within b))
+      | inr low ↦ rw (
+        lifted-not locks ranks.rank ranks.most p b low,
+        lifted-up locks ranks.rank ranks.most p a
+            (or_left (eqb a p) (leads_within locks 33 a p) (eq-eqb a p same)),
+      ) (omega (arith, ranks.within b))
     ]
 
 -- ---- at the start nobody waits

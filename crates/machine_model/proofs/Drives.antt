@@ -41,7 +41,8 @@ loads-gain old result new (inl none) = none-gains old.drives new.drives none
 loads-gain old result new (inr fault) = one-gains fault.drive fault.number old.drives new.drives fault.failed
 
 -- after a call that touches no terminal and no pipe
-pub volumes-gain : {reached : Option ℕ} (old : Files) (result : CallResult) (new : Files) → NoVolumeChanges old new ⊎ OneVolumeChanges reached old new ⊎ OneDriveFails reached old result new → DrivesOnlyGain old.drives new.drives
+pub volumes-gain : {reached : Option ℕ} (old : Files) (result : CallResult) (new : Files) → NoVolumeChanges old new ⊎
+    OneVolumeChanges reached old new ⊎ OneDriveFails reached old result new → DrivesOnlyGain old.drives new.drives
 volumes-gain old result new (inl stay) = none-gains old.drives new.drives stay.none_failed
 volumes-gain old result new (inr (inl one)) = none-gains old.drives new.drives one.none_failed
 volumes-gain old result new (inr (inr fails)) =

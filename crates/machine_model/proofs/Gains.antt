@@ -86,7 +86,8 @@ module _ (s : State) (now : TimePacket) (p : ℕ) (result : CallResult) (rest : 
   loaded-gain files after left same is =
       others-gain after (subst (DrivesOnlyGain s.files.drives) (sym same) (loads-gain s.files result files left.drives)) is
 
-  path-gains : (call : PathCall) → IsOnDevice call s.inner s.files p result rest.files s.terms rest.terms ⊎ LeavesDevices call s.inner s.files now p result rest.files s.terms rest.terms → RestGains s rest
+  path-gains : (call : PathCall) → IsOnDevice call s.inner s.files p result rest.files s.terms rest.terms ⊎
+      LeavesDevices call s.inner s.files now p result rest.files s.terms rest.terms → RestGains s rest
   path-gains call (inl on) = record {
     terminals =
         gain-attempt on.device s.inner s.files.io rest.files.io (length s.files.drives) p result s.terms rest.terms on.attempted;

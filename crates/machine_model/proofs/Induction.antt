@@ -40,7 +40,9 @@ module _ (P : State → List State → State → Type 0) (it : IsCarriedByMoves 
   begins s ticked chosen t states ticks chooses rest =
       it.tick s ticked t states ticks (it.choice ticked chosen t states chooses rest)
 
-  before-chosen : (n : ℕ) (s : State) (states : List State) (end : SliceEnd) (m : State) (later : List State) (t : State) (who : Option ℕ) → MatchOption who ((end ≡ Idle) × (states ≡ []) × (m ≡ s)) (λ p. (end ≡ Ran) × Steps n s states m) → P m later t → P s (states ++ later) t
+  before-chosen : (n : ℕ) (s : State) (states : List State) (end : SliceEnd) (m : State) (later : List State)
+      (t : State) (who : Option ℕ) → MatchOption who ((end ≡ Idle) × (states ≡ []) × (m ≡ s))
+      (λ p. (end ≡ Ran) × Steps n s states m) → P m later t → P s (states ++ later) t
   before-chosen n s states end m later t None (idle, none, is) rest =
       subst (λ (states : List State). P s (states ++ later) t) (sym none) (subst (λ (m : State). P m later t) is rest)
   before-chosen n s states end m later t (Some p) (ran, steps) rest = before-steps P it.events n s states m later t steps rest
@@ -67,7 +69,11 @@ module _ (P : State → List State → State → Type 0) (it : IsCarriedByMoves 
   along-run (n ∷ ns) written s t states run =
       by_living (has_living s) (λ rest m later after. along-run ns rest m t later after) run
     where
-      by_living : (living : Bool) → ((rest : List ℕ) (m : State) (later : List State) → Run ns m later rest t → P m later t) → MatchBool living ((end : SliceEnd) × (m : State) × (first later : List State) × (rest : List ℕ) × Slice n s first end m × (states ≡ first ++ later) × (written ≡ console_bytes m.terms ++ rest) × Run ns (record m { terms = terminals_emptied m.terms }) later rest t) ((states ≡ []) × (written ≡ []) × (t ≡ s)) → P s states t
+      by_living : (living : Bool) → ((rest : List ℕ) (m : State) (later : List State) → Run ns m later rest t
+          → P m later t) → MatchBool living ((end : SliceEnd) × (m : State) × (first later : List State) ×
+          (rest : List ℕ) × Slice n s first end m × (states ≡ first ++ later) × (written ≡ console_bytes m.terms ++
+          rest) × Run ns (record m { terms = terminals_emptied m.terms }) later rest t)
+          ((states ≡ []) × (written ≡ []) × (t ≡ s)) → P s states t
       by_living false others (none, nothing, is) = over s t states none is
       by_living true others (end, m, first, later, rest, slice, whole, bytes, after) =
           subst (λ (states : List State). P s states t) (sym whole)

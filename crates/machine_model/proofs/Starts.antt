@@ -65,7 +65,9 @@ pub never-both : (boot : Boot) (s : State) (fault : BootFault) → Starts boot s
 never-both boot s fault starts refusal =
     never-both-processes boot.file boot.blocks (first_inner boot s starts) fault (starts-so boot s starts) refusal
 
-by_file : (boot : Boot) (volumes : List DiskVolume) → AllZip Vol boot.images volumes → ((m : Inner) × StartsProcesses boot.file boot.blocks m) ⊎ ((fault : BootFault) × Refuses boot.file boot.blocks fault) → ((s : State) × Starts boot s) ⊎ ((fault : BootFault) × Refuses boot.file boot.blocks fault)
+by_file : (boot : Boot) (volumes : List DiskVolume) → AllZip Vol boot.images volumes
+    → ((m : Inner) × StartsProcesses boot.file boot.blocks m) ⊎ ((fault : BootFault) × Refuses boot.file boot.blocks
+    fault) → ((s : State) × Starts boot s) ⊎ ((fault : BootFault) × Refuses boot.file boot.blocks fault)
 by_file boot volumes mounted (inr refusal) = inr refusal
 by_file boot volumes mounted (inl (m, starts)) =
     inl (

@@ -56,6 +56,8 @@ module _ (now : TimePacket) (s : State) (p : ℕ) (chosen : s.chosen ≡ Some p)
 
   pub event-is : (act : Act) (end : EventEnd) → act_of s.inner p ≡ act → IsInner now s act → end_of now act s p ≡ end → Event s end (after_event now s)
   event-is act end next inner ends =
-      let here : Acts (act_of s.inner p) s p end (after_act now (act_of s.inner p) s p) = subst (λ act. Acts act s p end (after_act now act s p)) (sym next) (subst (λ end. Acts act s p end (after_act now act s p)) ends (acts act inner)) in
+      let here : Acts (act_of s.inner p) s p end (after_act now (act_of s.inner p) s p) = subst
+      (λ act. Acts act s p end (after_act now act s p)) (sym next)
+      (subst (λ end. Acts act s p end (after_act now act s p)) ends (acts act inner)) in
       let last : after_event now s ≡ after_act now (act_of s.inner p) s p = ap (λ who. option_map_or (λ p. after_act now (act_of s.inner p) s p) who s) chosen in
       (p, chosen, lives, subst (Acts (act_of s.inner p) s p end) (sym last) here)

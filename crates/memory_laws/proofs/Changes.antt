@@ -18,16 +18,26 @@ use Rattle.memory_laws.proofs.Gains.{times_in-cons}
 -- ---- counts
 
 -- a block of the pool that is shared is counted once more
-count_of-shared-times : (pool : Blocks) (id : BlockId) (block : ℕ) → id.0 < length pool.counts → reference_count (pool_after_share pool id.0) block ≡ reference_count pool block + cond (id.0 == block) 1 0
+count_of-shared-times : (pool : Blocks) (id : BlockId) (block : ℕ) → id.0 < length pool.counts
+    → reference_count (pool_after_share pool id.0) block ≡ reference_count pool block + cond (id.0 == block) 1 0
 count_of-shared-times pool id block within =
     elim (cases_eq block id.0) [
       | inl same ↦
-          omega (arith, ap (reference_count (pool_after_share pool id.0)) same, ap (reference_count pool) same, get_or-set_same pool.counts id.0 (reference_count pool id.0 + 1) 0 within, cond-true {A = ℕ} (id.0 == block) 1 0 (eq-eqb id.0 block (sym same)))
+          omega (
+            arith,
+            ap (reference_count (pool_after_share pool id.0)) same,
+            ap (reference_count pool) same,
+            get_or-set_same pool.counts id.0 (reference_count pool id.0 + 1) 0 within,
+            cond-true {A = ℕ}
+                (id.0 == block) 1 0 (eq-eqb id.0 block (sym same)),
+          )
       | inr differ ↦
           omega (arith, get_or-set_other pool.counts id.0 block (reference_count pool id.0 + 1) 0 differ, cond-false {A = ℕ} (id.0 == block) 1 0 (ne_eqb id.0 block (λ same. differ (sym same))))
     ]
 
-pub count_of-shared_all-times : (pool : Blocks) (ids : List BlockId) (block : ℕ) → All (λ id. id.0 < length pool.counts) ids → reference_count (pool_after_sharing pool ids) block ≡ reference_count pool block + times_in ids block
+pub count_of-shared_all-times : (pool : Blocks) (ids : List BlockId) (block : ℕ)
+    → All (λ id. id.0 < length pool.counts) ids → reference_count (pool_after_sharing pool ids) block ≡
+    reference_count pool block + times_in ids block
 count_of-shared_all-times pool [] block within = omega arith
 count_of-shared_all-times pool (id ∷ ids) block within =
     let P : BlockId → Type 0 = λ id. id.0 < length pool.counts in
@@ -71,7 +81,8 @@ length-given_all pool [] = refl
 length-given_all pool (id ∷ ids) = length-given_all (pool_after_give pool id.0) ids ∙ length-set pool.counts id.0 (reference_count pool id.0 - 1)
 
 -- the blocks that stay live represent the same objects
-pub represent-given_all : (number : ℕ → ℕ) (pool : Blocks) (ids : List BlockId) (objects : List (List ℕ)) → RepresentObjects number pool objects → RepresentObjects number (pool_after_giving pool ids) objects
+pub represent-given_all : (number : ℕ → ℕ) (pool : Blocks) (ids : List BlockId) (objects : List (List ℕ))
+    → RepresentObjects number pool objects → RepresentObjects number (pool_after_giving pool ids) objects
 represent-given_all number pool ids objects represent = record {
   same_bytes = λ block live.
       represent.same_bytes block (was_live block live) ∙ ap (λ all. Some (get_or all block [])) (sym (bytes-given_all pool ids));
@@ -120,7 +131,8 @@ blocks_in-cleared zero = refl
 blocks_in-cleared (suc n) = blocks_in-cleared n
 
 -- blocks that are put where nothing stood
-pub times-filled : (places : List (Option BlockId)) (first : ℕ) (ids : List BlockId) → first + length ids ≤ length places → ((slot : ℕ) → first ≤ slot → slot < first + length ids → at places slot ≡ None) → (block : ℕ)
+pub times-filled : (places : List (Option BlockId)) (first : ℕ) (ids : List BlockId) → first + length ids ≤ length
+    places → ((slot : ℕ) → first ≤ slot → slot < first + length ids → at places slot ≡ None) → (block : ℕ)
     → times block (named_by (put_places places first (filled_places ids))) ≡ times block (named_by places) + times_in ids block
 times-filled places first ids fits free block =
     let many = length-map ids (λ (id : BlockId). Some id) in
@@ -168,7 +180,8 @@ pub record IsBlockAt (slots : Slots BlockId) (slot block : ℕ) : Type 0 where
 pub block_of_number : (slots : Slots BlockId) (slot block : ℕ) → block_at (numbered_map slots) slot ≡ Some block → IsBlockAt slots slot block
 block_of_number slots slot block is = let found = go slots.places slot is in record { id = found.0; is = found.1; number_is = found.2 }
   where
-    go : (places : List (Option BlockId)) (slot : ℕ) → get_or (map (option_map (λ (id : BlockId). id.0)) places) slot None ≡ Some block → (id : BlockId) × (get_or places slot None ≡ Some id) × (id.0 ≡ block)
+    go : (places : List (Option BlockId)) (slot : ℕ) → get_or (map (option_map (λ (id : BlockId). id.0)) places) slot
+        None ≡ Some block → (id : BlockId) × (get_or places slot None ≡ Some id) × (id.0 ≡ block)
     go [] slot is = absurd (none-some block is)
     go (None ∷ places) zero is = absurd (none-some block is)
     go (Some id ∷ places) zero is = (id, refl, same_Some id.0 block is)

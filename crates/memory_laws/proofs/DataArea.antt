@@ -34,7 +34,9 @@ use Rattle.memory_laws.proofs.Changes.{count_of-given_all, length-given_all, rep
 -- ---- new blocks among the objects
 
 -- what other blocks represent stays
-module _ (pool after : Blocks) (maps : List (Slots BlockId)) (entries : List (Option ModuleEntry)) (sound : IsSound pool maps entries) (number : ℕ → ℕ) (objects contents : List (List ℕ)) (ids : List BlockId) (gains : GainsBlocks pool ids contents after) where
+module _ (pool after : Blocks) (maps : List (Slots BlockId)) (entries : List (Option ModuleEntry))
+    (sound : IsSound pool maps entries) (number : ℕ → ℕ) (objects contents : List (List ℕ)) (ids : List BlockId)
+    (gains : GainsBlocks pool ids contents after) where
   -- the numbers after the new blocks have the next ones
   abbrev pub later : ℕ → ℕ
   later = numbered ids (length objects) number
@@ -84,7 +86,9 @@ module _ (pool : Blocks) (maps : List (Slots BlockId)) (entries : List (Option M
       times_le : (block : ℕ) → times block (mapped_blocks slots) ≤ reference_count pool block
       times_le block = omega (arith, counted_parts pool maps entries sound block, times-one_map block maps process)
 
-  pub represent-cleared : (after : Blocks) → after ≡ pool_after_giving pool (blocks_in slots.places) → (m : MemoryState) → RepresentMemory pool maps entries m → RepresentMemory after (set maps process no_slots) entries (cleared m process)
+  pub represent-cleared : (after : Blocks) → after ≡ pool_after_giving pool (blocks_in slots.places)
+      → (m : MemoryState) → RepresentMemory pool maps entries m → RepresentMemory after (set maps process no_slots)
+      entries (cleared m process)
   represent-cleared after given m tied = record {
     number = tied.number;
     objects = tied.objects;
@@ -150,13 +154,16 @@ module _ (pool : Blocks) (maps : List (Slots BlockId)) (entries : List (Option M
       by_test true = cut_low_to-renamed number slots count
       by_test false = refl
 
-  pub represent-cut : (count : ℕ) (after : Blocks) (ids : List BlockId) → after ≡ pool_after_giving pool ids → (m : MemoryState) → RepresentMemory pool maps entries m → RepresentMemory after (set maps process (map_cut slots count)) entries (cut m process count)
+  pub represent-cut : (count : ℕ) (after : Blocks) (ids : List BlockId) → after ≡ pool_after_giving pool ids
+      → (m : MemoryState) → RepresentMemory pool maps entries m → RepresentMemory after
+      (set maps process (map_cut slots count)) entries (cut m process count)
   represent-cut count after ids given m tied = record {
     number = tied.number;
     objects = tied.objects;
     represent = subst (λ (p : Blocks). RepresentObjects tied.number p tied.objects) (sym given) (represent-given_all tied.number pool ids tied.objects tied.represent);
     is = ap (λ (s : MemoryState). cut s process count) tied.is
-        ∙ ap (λ (old : Slots ℕ). with_map (memory_of tied.number pool maps entries tied.objects) process (map_cut old count)) (map_at-memory_of tied.number pool maps entries tied.objects process in_maps)
+        ∙ ap (λ (old : Slots ℕ). with_map (memory_of tied.number pool maps entries tied.objects) process
+        (map_cut old count)) (map_at-memory_of tied.number pool maps entries tied.objects process in_maps)
         ∙ ap (with_map (memory_of tied.number pool maps entries tied.objects) process) (sym (map_cut-renamed tied.number count))
         ∙ with_map-memory_of tied.number pool after maps entries tied.objects process (map_cut slots count) (ap (λ (p : Blocks). length p.counts) given ∙ length-given_all pool ids);
   }
@@ -190,7 +197,8 @@ module _ (pool : Blocks) (maps : List (Slots BlockId)) (entries : List (Option M
   abbrev pub with_growth : MemoryState → ℕ → MemoryState
   with_growth m count = with_map (with_new_objects m count) process (with_low (map_at m process) (new_numbers m count))
 
-  pub grown-ok : (count : ℕ) → IsFreeRun slots slots.low count → count ≤ free_block_count pool → (m : MemoryState) → RepresentMemory pool maps entries m → grown m process count ≡ Ok (with_growth m count)
+  pub grown-ok : (count : ℕ) → IsFreeRun slots slots.low count → count ≤ free_block_count pool → (m : MemoryState)
+      → RepresentMemory pool maps entries m → grown m process count ≡ Ok (with_growth m count)
   grown-ok count run enough m tied =
       cond-true (is_free_run (map_at m process) (map_at m process).low count) _ (Err MemFull) (grown-test count m tied ∙ (is_free_run-iff slots held.map.eight_places slots.low count).1 run)
       ∙ cond-false (wants_blocks m count) (Err NoRam) _ (le-ltb (free_blocks m) count (omega (arith, free-tied m tied)))
@@ -253,7 +261,10 @@ module _ (pool : Blocks) (maps : List (Slots BlockId)) (entries : List (Option M
               count_of-old gains id.0 (omega arith) ∙ was
         ]
 
-    grown_grouped : (n : ℕ) (entry : ModuleEntry) → module_entry_at entries n ≡ Some entry → (slot k : ℕ) (id : BlockId) → block_at (with_low slots ids) slot ≡ Some id → k < length entry.group → id.0 ≡ get_or entry.group k 0 → (k ≤ slot) × BeginsAt (numbered_map (with_low slots ids)) entry.group (slot - k)
+    grown_grouped : (n : ℕ) (entry : ModuleEntry) → module_entry_at entries n ≡ Some entry
+        → (slot k : ℕ) (id : BlockId) → block_at (with_low slots ids) slot ≡ Some id → k < length entry.group
+        → id.0 ≡ get_or entry.group k 0 → (k ≤ slot) × BeginsAt (numbered_map (with_low slots ids)) entry.group
+        (slot - k)
     grown_grouped n entry is slot k id named inside same =
         elim (grown_slot slot id named) [
           | inl old ↦
@@ -269,7 +280,13 @@ module _ (pool : Blocks) (maps : List (Slots BlockId)) (entries : List (Option M
     IsSound-grown map_is =
         subst (λ (s : Slots BlockId). IsSound after (set maps process s) entries) (sym gained.low)
         (IsSound-map pool maps entries sound after process within (with_low slots ids) (IsPool-takes pool after ids gained.taken sound.shape)
-        (λ block. omega (arith, gains.counts block, times-filled slots.places slots.low ids (omega (arith, gained.all, run.0, held.map.eight_places)) (λ slot low high. run.1 slot low (omega (arith, gained.all))) block))
+        (λ block. omega (
+          arith,
+          gains.counts block,
+          times-filled slots.places slots.low ids
+              (omega (arith, gained.all, run.0, held.map.eight_places)) (λ slot low high. run.1 slot low
+              (omega (arith, gained.all))) block,
+        ))
         (λ block one none. omega (arith, count_of-old gains block (omega arith)))
         (record {
           map = subst IsMap gained.low map_is;
@@ -285,8 +302,11 @@ module _ (pool : Blocks) (maps : List (Slots BlockId)) (entries : List (Option M
         let next = later pool after maps entries sound number objects (replicate (length ids) zero_object) ids gains in
         let here = memory_of number pool maps entries objects in
         let map_is : with_low (map_at here process) (range_with_len (length objects) count) ≡ renamed_map next (with_low slots ids) =
-        ap (λ (old : Slots ℕ). with_low old (range_with_len (length objects) count)) (map_at-memory_of number pool maps entries objects process in_maps ∙ sym (later-map pool after maps entries sound number objects (replicate (length ids) zero_object) ids gains process))
-        ∙ ap (with_low (renamed_map next slots)) (ap (range_with_len (length objects)) (sym gained.all) ∙ sym (later-new pool after maps entries sound number objects (replicate (length ids) zero_object) ids gains))
+        ap (λ (old : Slots ℕ). with_low old (range_with_len (length objects) count)) (map_at-memory_of number pool
+        maps entries objects process in_maps ∙ sym (later-map pool after maps entries sound number objects
+        (replicate (length ids) zero_object) ids gains process))
+        ∙ ap (with_low (renamed_map next slots)) (ap (range_with_len (length objects)) (sym gained.all) ∙ sym
+        (later-new pool after maps entries sound number objects (replicate (length ids) zero_object) ids gains))
         ∙ sym (with_low-renamed next slots ids) in
         let maps_are : set (map (renamed_map number) maps) process (with_low (map_at here process) (range_with_len (length objects) count)) ≡ map (renamed_map next) (set maps process new) =
         (λ i. set (sym (later-maps pool after maps entries sound number objects (replicate (length ids) zero_object) ids gains) i) process (map_is i))

@@ -30,7 +30,9 @@ entry_within [] number entry is = absurd (none-some entry is)
 entry_within (first ∷ entries) zero entry is = omega arith
 entry_within (first ∷ entries) (suc number) entry is = omega (arith, entry_within entries number entry is)
 
-pub entry_at-renamed : (rename : ℕ → ℕ) (entries : List (Option ModuleEntry)) (number : ℕ) → module_entry_at (renamed_modules rename entries) number ≡ option_map (renamed_entry rename) (module_entry_at entries number)
+pub entry_at-renamed : (rename : ℕ → ℕ) (entries : List (Option ModuleEntry)) (number : ℕ)
+    → module_entry_at (renamed_modules rename entries) number ≡ option_map (renamed_entry rename)
+    (module_entry_at entries number)
 entry_at-renamed rename [] number = refl
 entry_at-renamed rename (first ∷ entries) zero = refl
 entry_at-renamed rename (first ∷ entries) (suc number) = entry_at-renamed rename entries number
@@ -79,7 +81,8 @@ HasGroup-was entries later kept number entry is =
 
 -- ---- one entry is replaced by one of the same group
 
-module _ (entries : List (Option ModuleEntry)) (place : ℕ) (old new : ModuleEntry) (is : module_entry_at entries place ≡ Some old) (group_is : new.group ≡ old.group) (info_is : new.info ≡ old.info) where
+module _ (entries : List (Option ModuleEntry)) (place : ℕ) (old new : ModuleEntry) (is : module_entry_at entries place
+    ≡ Some old) (group_is : new.group ≡ old.group) (info_is : new.info ≡ old.info) where
   abbrev replaced : List (Option ModuleEntry)
   replaced = with_module_entry entries place new
 
@@ -118,7 +121,8 @@ module _ (entries : List (Option ModuleEntry)) (place : ℕ) (old new : ModuleEn
 
 module _ (entries : List (Option ModuleEntry)) (group : List ℕ) where
   -- what is left was there, and is of another group
-  left-was : (number : ℕ) (entry : ModuleEntry) → module_entry_at (modules_without_group entries group) number ≡ Some entry → (module_entry_at entries number ≡ Some entry) × (is_of_group group entry ≡ false)
+  left-was : (number : ℕ) (entry : ModuleEntry) → module_entry_at (modules_without_group entries group) number ≡ Some
+      entry → (module_entry_at entries number ≡ Some entry) × (is_of_group group entry ≡ false)
   left-was number entry at = go entries number at
     where
       by_place : (place : Option ModuleEntry) → place_without_group group place ≡ Some entry → (place ≡ Some entry) × (is_of_group group entry ≡ false)
@@ -131,13 +135,15 @@ module _ (entries : List (Option ModuleEntry)) (group : List ℕ) where
                 (it_is, ap (is_of_group group) (sym (same_Some found entry it_is)) ∙ other)
           ]
 
-      go : (list : List (Option ModuleEntry)) (number : ℕ) → module_entry_at (modules_without_group list group) number ≡ Some entry → (module_entry_at list number ≡ Some entry) × (is_of_group group entry ≡ false)
+      go : (list : List (Option ModuleEntry)) (number : ℕ) → module_entry_at (modules_without_group list group) number
+          ≡ Some entry → (module_entry_at list number ≡ Some entry) × (is_of_group group entry ≡ false)
       go [] number at = absurd (none-some entry at)
       go (place ∷ list) zero at = by_place place at
       go (place ∷ list) (suc number) at = go list number at
 
   -- an entry of another group is left
-  left-still : (number : ℕ) (entry : ModuleEntry) → module_entry_at entries number ≡ Some entry → is_of_group group entry ≡ false → module_entry_at (modules_without_group entries group) number ≡ Some entry
+  left-still : (number : ℕ) (entry : ModuleEntry) → module_entry_at entries number ≡ Some entry → is_of_group group
+      entry ≡ false → module_entry_at (modules_without_group entries group) number ≡ Some entry
   left-still number entry at other = go entries number at
     where
       go : (list : List (Option ModuleEntry)) (number : ℕ) → module_entry_at list number ≡ Some entry → module_entry_at (modules_without_group list group) number ≡ Some entry
@@ -149,7 +155,8 @@ module _ (entries : List (Option ModuleEntry)) (group : List ℕ) where
   kept-left number entry at = record { was = entry; is = (left-was number entry at).0; group_is = refl; info_is = refl }
 
   -- a block of the group is in no entry that is left
-  pub gone : AreGrouped entries → (number : ℕ) (entry : ModuleEntry) → module_entry_at entries number ≡ Some entry → group ≡ entry.group → (block : ℕ) → Has group block → HasBlock (modules_without_group entries group) block → ⊥
+  pub gone : AreGrouped entries → (number : ℕ) (entry : ModuleEntry) → module_entry_at entries number ≡ Some entry
+      → group ≡ entry.group → (block : ℕ) → Has group block → HasBlock (modules_without_group entries group) block → ⊥
   gone all number entry at group_is block has left =
       let was = left-was left.number left.entry left.is in
       let same : left.entry.group ≡ entry.group = all.same left.number number left.entry entry was.0 at block left.has (subst (λ (g : List ℕ). Has g block) group_is has) in
@@ -164,7 +171,9 @@ module _ (entries : List (Option ModuleEntry)) (group : List ℕ) where
       ]
 
   -- each block of the group is named once less by the groups
-  pub times-left : AreGrouped entries → (number : ℕ) (entry : ModuleEntry) → module_entry_at entries number ≡ Some entry → group ≡ entry.group → (block : ℕ) → times block (grouped_blocks (modules_without_group entries group)) + times block group ≡ times block (grouped_blocks entries)
+  pub times-left : AreGrouped entries → (number : ℕ) (entry : ModuleEntry) → module_entry_at entries number ≡ Some
+      entry → group ≡ entry.group → (block : ℕ) → times block (grouped_blocks (modules_without_group entries group)) +
+      times block group ≡ times block (grouped_blocks entries)
   times-left all number entry at group_is block =
       let after = modules_without_group entries group in
       let all_after = AreGrouped-kept entries after all kept-left in
@@ -184,7 +193,9 @@ module _ (entries : List (Option ModuleEntry)) (group : List ℕ) where
 
 -- ---- links
 
-module _ (pool : Blocks) (maps : List (Slots BlockId)) (entries : List (Option ModuleEntry)) (sound : IsSound pool maps entries) (place : ℕ) (entry : ModuleEntry) (is : module_entry_at entries place ≡ Some entry) where
+module _ (pool : Blocks) (maps : List (Slots BlockId)) (entries : List (Option ModuleEntry))
+    (sound : IsSound pool maps entries) (place : ℕ) (entry : ModuleEntry) (is : module_entry_at entries place ≡ Some
+    entry) where
   -- an entry of the same group takes the place
   pub IsSound-replaced : (new : ModuleEntry) → new.group ≡ entry.group → new.info ≡ entry.info → IsSound pool maps (with_module_entry entries place new)
   IsSound-replaced new group_is info_is =
@@ -209,7 +220,9 @@ module _ (pool : Blocks) (maps : List (Slots BlockId)) (entries : List (Option M
               blocks = length pool.counts;
               objects = tied.objects;
               maps = (memory_of number pool maps entries tied.objects).maps;
-              modules = (ap (λ (o : Option ModuleEntry). option_map_or (λ e. with_module_entry modules place (entry_linked e)) o modules) found ∙ sym (map-set (option_map (renamed_entry number)) entries place (Some (entry_linked entry)))) i;
+              modules = (ap (λ (o : Option ModuleEntry). option_map_or (λ e. with_module_entry modules place
+                  (entry_linked e)) o modules) found ∙ sym (map-set (option_map (renamed_entry number)) entries place
+                  (Some (entry_linked entry)))) i;
             });
       }
 
@@ -227,7 +240,10 @@ module _ (pool : Blocks) (maps : List (Slots BlockId)) (entries : List (Option M
   IsSound-less = IsSound-replaced (entry_unlinked entry) refl refl
 
 -- the entries of a group go, and its blocks are given back
-module _ (pool : Blocks) (maps : List (Slots BlockId)) (entries : List (Option ModuleEntry)) (sound : IsSound pool maps entries) (place : ℕ) (entry : ModuleEntry) (is : module_entry_at entries place ≡ Some entry) (after : Blocks) (given : (block : ℕ) → reference_count after block ≡ reference_count pool block - times block entry.group) where
+module _ (pool : Blocks) (maps : List (Slots BlockId)) (entries : List (Option ModuleEntry))
+    (sound : IsSound pool maps entries) (place : ℕ) (entry : ModuleEntry) (is : module_entry_at entries place ≡ Some
+    entry) (after : Blocks) (given : (block : ℕ) → reference_count after block ≡ reference_count pool block - times
+    block entry.group) where
   pub IsSound-left : IsPool after → IsSound after maps (modules_without_group entries entry.group)
   IsSound-left shape =
       let later = modules_without_group entries entry.group in

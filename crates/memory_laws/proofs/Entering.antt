@@ -109,7 +109,9 @@ module _ (entries : List (Option ModuleEntry)) (place : ℕ) (free : free_number
 
 -- ---- a module beside another one of its group
 
-module _ (pool : Blocks) (maps : List (Slots BlockId)) (entries : List (Option ModuleEntry)) (sound : IsSound pool maps entries) (number : ℕ) (entry : ModuleEntry) (is : module_entry_at entries number ≡ Some entry) (place : ℕ) (free : free_number entries ≡ Some place) (info : ModuleInfo) where
+module _ (pool : Blocks) (maps : List (Slots BlockId)) (entries : List (Option ModuleEntry))
+    (sound : IsSound pool maps entries) (number : ℕ) (entry : ModuleEntry) (is : module_entry_at entries number ≡ Some
+    entry) (place : ℕ) (free : free_number entries ≡ Some place) (info : ModuleInfo) where
   -- the new entry
   abbrev pub beside : ModuleEntry
   beside = new_entry info entry.group entry.is_boot
@@ -151,13 +153,18 @@ module _ (pool : Blocks) (maps : List (Slots BlockId)) (entries : List (Option M
               blocks = length pool.counts;
               objects = tied.objects;
               maps = (memory_of f pool maps entries tied.objects).maps;
-              modules = (ap (λ (o : Option ModuleEntry). option_map_or (λ e. with_module modules info e.group e.is_boot) o modules) found ∙ with_module-renamed f entries info entry.group entry.is_boot ∙ ap (renamed_modules f) with_module-is) i;
+              modules = (ap (λ (o : Option ModuleEntry). option_map_or (λ e. with_module modules info e.group
+                  e.is_boot) o modules) found ∙ with_module-renamed f entries info entry.group entry.is_boot ∙ ap
+                  (renamed_modules f) with_module-is) i;
             });
       }
 
 -- ---- a module with a new group
 
-module _ (pool after : Blocks) (maps : List (Slots BlockId)) (entries : List (Option ModuleEntry)) (sound : IsSound pool maps entries) (file : List ℕ) (ids : List BlockId) (gains : GainsBlocks pool ids (file_objects file) after) (place : ℕ) (free : free_number entries ≡ Some place) (info : ModuleInfo) (is_boot : Bool) where
+module _ (pool after : Blocks) (maps : List (Slots BlockId)) (entries : List (Option ModuleEntry))
+    (sound : IsSound pool maps entries) (file : List ℕ) (ids : List BlockId) (gains : GainsBlocks pool ids
+    (file_objects file) after) (place : ℕ) (free : free_number entries ≡ Some place) (info : ModuleInfo)
+    (is_boot : Bool) where
   -- the new entry
   abbrev pub first_entry : ModuleEntry
   first_entry = new_entry info (numbers_of ids) is_boot
@@ -195,9 +202,16 @@ module _ (pool after : Blocks) (maps : List (Slots BlockId)) (entries : List (Op
     all_after : AreGrouped (with_module_entry entries place (new_entry info (numbers_of ids) is_boot))
     all_after =
         AreGrouped-entry entries place free first_entry sound.groups grouped
-        (λ number entry is block has has_too. absurd (omega (arith, block_free block has, grouped_live pool maps entries sound block (record { number = number; entry = entry; is = is; has = has_too }))))
+        (λ number entry is block has has_too. absurd (omega (
+          arith,
+          block_free block has,
+          grouped_live pool maps
+              entries sound block (record { number = number; entry = entry; is = is; has = has_too }),
+        )))
 
-    times-after : (block : ℕ) → times block (grouped_blocks (with_module_entry entries place (new_entry info (numbers_of ids) is_boot))) ≡ times block (grouped_blocks entries) + times block (numbers_of ids)
+    times-after : (block : ℕ)
+        → times block (grouped_blocks (with_module_entry entries place (new_entry info (numbers_of ids) is_boot))) ≡
+        times block (grouped_blocks entries) + times block (numbers_of ids)
     times-after block =
         let later_entries = with_module_entry entries place first_entry in
         elim (cases_eq (times block (numbers_of ids)) 0) [
@@ -222,7 +236,8 @@ module _ (pool after : Blocks) (maps : List (Slots BlockId)) (entries : List (Op
         (λ block. omega (arith, gains.counts block, times-after block, times-numbers_of ids block))
         (λ block one none. omega (arith, count_of-old gains block (omega arith)))
         (λ number entry is.
-        elim (new_or_old entries place free first_entry number entry is) as (λ _. HasGroup entries entry.group ⊎ ((k : ℕ) → k < length entry.group → reference_count pool (get_or entry.group k 0) ≡ 0)) [
+        elim (new_or_old entries place free first_entry number entry is) as (λ _. HasGroup entries entry.group ⊎
+        ((k : ℕ) → k < length entry.group → reference_count pool (get_or entry.group k 0) ≡ 0)) [
           | inl same ↦ inr (subst (λ (e : ModuleEntry). (k : ℕ) → k < length e.group → reference_count pool (get_or e.group k 0) ≡ 0) (sym same) new_free)
           | inr old ↦ inl (record { number = number; entry = entry; is = old; group_is = refl })
         ])
@@ -231,14 +246,18 @@ module _ (pool after : Blocks) (maps : List (Slots BlockId)) (entries : List (Op
   abbrev pub with_entered : MemoryState → MemoryState
   with_entered m = record m { objects = m.objects ++ file_objects file; modules = with_module m.modules info (new_numbers m (file_blocks file)) is_boot }
 
-  pub represent-entered : length ids ≡ file_blocks file → (m : MemoryState) → RepresentMemory pool maps entries m → RepresentMemory after maps (with_module_entry entries place (new_entry info (numbers_of ids) is_boot)) (with_entered m)
+  pub represent-entered : length ids ≡ file_blocks file → (m : MemoryState) → RepresentMemory pool maps entries m
+      → RepresentMemory after maps (with_module_entry entries place (new_entry info (numbers_of ids) is_boot))
+      (with_entered m)
   represent-entered size m tied =
       let f = tied.number in
       let objects = tied.objects in
       let next = later pool after maps entries sound f objects (file_objects file) ids gains in
       let group_is : range_with_len (length objects) (file_blocks file) ≡ map next (numbers_of ids) =
       ap (range_with_len (length objects)) (sym size) ∙ sym (later-new pool after maps entries sound f objects (file_objects file) ids gains) ∙ sym (map-map next (λ (id : BlockId). id.0) ids) in
-      let entered_is : with_module entries info (numbers_of ids) is_boot ≡ with_module_entry entries place first_entry = ap (λ (found : Option ℕ). option_map_or (λ at. with_module_entry entries at first_entry) found entries) free in
+      let entered_is : with_module entries info (numbers_of ids) is_boot ≡ with_module_entry entries place
+      first_entry = ap (λ (found : Option ℕ). option_map_or (λ at. with_module_entry entries at first_entry) found
+      entries) free in
       let modules_are : with_module (renamed_modules f entries) info (range_with_len (length objects) (file_blocks file)) is_boot ≡ renamed_modules next (with_module_entry entries place first_entry) =
       (λ i. with_module (sym (later-modules pool after maps entries sound f objects (file_objects file) ids gains) i) info (group_is i) is_boot)
       ∙ with_module-renamed next entries info (numbers_of ids) is_boot ∙ ap (renamed_modules next) entered_is in
@@ -256,12 +275,19 @@ module _ (pool after : Blocks) (maps : List (Slots BlockId)) (entries : List (Op
       }
 
 -- whether there are blocks enough
-module _ (pool : Blocks) (maps : List (Slots BlockId)) (entries : List (Option ModuleEntry)) (sound : IsSound pool maps entries) (file : List ℕ) (info : ModuleInfo) (is_boot : Bool) (m : MemoryState) (tied : RepresentMemory pool maps entries m) where
+module _ (pool : Blocks) (maps : List (Slots BlockId)) (entries : List (Option ModuleEntry))
+    (sound : IsSound pool maps entries) (file : List ℕ) (info : ModuleInfo) (is_boot : Bool) (m : MemoryState)
+    (tied : RepresentMemory pool maps entries m) where
   free_is : free_blocks m ≡ free_block_count pool
   free_is = ap free_blocks tied.is ∙ free_blocks-tied pool maps entries sound tied.number tied.objects tied.represent
 
   pub entered-no_ram : free_block_count pool < file_blocks file → entered m file info is_boot ≡ Err NoRam
   entered-no_ram few = cond-true (wants_blocks m (file_blocks file)) (Err NoRam) _ (lt-ltb (free_blocks m) (file_blocks file) (omega (arith, free_is)))
 
-  pub entered-ok : file_blocks file ≤ free_block_count pool → entered m file info is_boot ≡ Ok (record m { objects = m.objects ++ file_objects file; modules = with_module m.modules info (new_numbers m (file_blocks file)) is_boot })
+  pub entered-ok : file_blocks file ≤ free_block_count pool → entered m file info is_boot ≡ Ok
+      (record m {
+        objects = m.objects ++ file_objects file;
+        modules = with_module m.modules info
+            (new_numbers m (file_blocks file)) is_boot;
+      })
   entered-ok enough = cond-false (wants_blocks m (file_blocks file)) (Err NoRam) _ (le-ltb (free_blocks m) (file_blocks file) (omega (arith, free_is)))

@@ -30,7 +30,13 @@ pub times_in-none : (ids : List BlockId) (block : ℕ) → All (λ id. id.0 ≢ 
 times_in-none [] block others = refl
 times_in-none (id ∷ ids) block others =
     times_in-cons id ids block
-    ∙ omega (arith, cond-false {A = ℕ} (id.0 == block) 1 0 (ne_eqb id.0 block (All-head (λ (id : BlockId). id.0 ≢ block) id ids others)), times_in-none ids block (All-tail (λ (id : BlockId). id.0 ≢ block) id ids others))
+    ∙ omega (
+      arith,
+      cond-false {A = ℕ} (id.0 == block) 1 0
+          (ne_eqb id.0 block (All-head (λ (id : BlockId). id.0 ≢ block) id ids others)),
+      times_in-none ids block
+          (All-tail (λ (id : BlockId). id.0 ≢ block) id ids others),
+    )
 
 -- a block that is one of them
 pub times_in-one : (ids : List BlockId) (k : ℕ) (d : BlockId) → k < length ids → 0 < times_in ids (get_or ids k d).0
@@ -60,10 +66,13 @@ pub Gains-new : {before : Blocks} {group : List BlockId} {contents : List (List 
 Gains-new {group = group} gains = λ k d within. omega (arith, gains.counts (get_or group k d).0, times_in-one group k d within)
 
 -- a block that was live is none of those that are gained, and its count stays
-pub Gains-old : {before : Blocks} {group : List BlockId} {contents : List (List ℕ)} {after : Blocks} → GainsBlocks before group contents after → (block : ℕ) → IsLive before block → All (λ id. id.0 ≢ block) group
+pub Gains-old : {before : Blocks} {group : List BlockId} {contents : List (List ℕ)} {after : Blocks}
+    → GainsBlocks before group contents after → (block : ℕ) → IsLive before block → All (λ id. id.0 ≢ block) group
 Gains-old {before} gains block live = λ k d within same. absurd (omega (arith, gains.were_free k d within, ap (reference_count before) same))
 
-pub count_of-old : {before : Blocks} {group : List BlockId} {contents : List (List ℕ)} {after : Blocks} → GainsBlocks before group contents after → (block : ℕ) → IsLive before block → reference_count after block ≡ reference_count before block
+pub count_of-old : {before : Blocks} {group : List BlockId} {contents : List (List ℕ)} {after : Blocks}
+    → GainsBlocks before group contents after → (block : ℕ) → IsLive before block → reference_count after block ≡
+    reference_count before block
 count_of-old {group = group} gains block live = omega (arith, gains.counts block, times_in-none group block (Gains-old gains block live))
 
 -- none is gained
@@ -78,7 +87,9 @@ Gains-none pool = record {
 }
 
 -- one free block is
-pub Gains-one : (pool : Blocks) (id : BlockId) (bytes : List ℕ) → length pool.bytes ≡ length pool.counts → IsFreeBlock pool id.0 → GainsBlocks pool (id ∷ []) (bytes ∷ []) (with_block_bytes (with_reference_count pool id.0 1) id.0 bytes)
+pub Gains-one : (pool : Blocks) (id : BlockId) (bytes : List ℕ) → length pool.bytes ≡ length pool.counts
+    → IsFreeBlock pool id.0 → GainsBlocks pool (id ∷ []) (bytes ∷ [])
+    (with_block_bytes (with_reference_count pool id.0 1) id.0 bytes)
 Gains-one pool id bytes whole free = record {
   were_free = All-cons (λ id. IsFreeBlock pool id.0) id [] free (All-nil (λ id. IsFreeBlock pool id.0));
   different = λ i j d below within. absurd (omega arith);
@@ -88,14 +99,27 @@ Gains-one pool id bytes whole free = record {
   kept = λ block live. get_or-set_other pool.bytes id.0 block bytes [] (λ same. absurd (omega (arith, ap (reference_count pool) same)));
 }
   where
-    times : (block : ℕ) → (block ≡ id.0) ⊎ (block ≢ id.0) → reference_count (with_block_bytes (with_reference_count pool id.0 1) id.0 bytes) block ≡ reference_count pool block + times_in (id ∷ []) block
+    times : (block : ℕ) → (block ≡ id.0) ⊎ (block ≢ id.0)
+        → reference_count (with_block_bytes (with_reference_count pool id.0 1) id.0 bytes) block ≡ reference_count
+        pool block + times_in (id ∷ []) block
     times block (inl same) =
-        omega (arith, ap (reference_count (with_reference_count pool id.0 1)) same, get_or-set_same pool.counts id.0 1 0 free.0, ap (reference_count pool) same, times_in-cons id [] block, cond-true {A = ℕ} (id.0 == block) 1 0 (eq-eqb id.0 block (sym same)))
+        omega (
+          arith,
+          ap (reference_count (with_reference_count pool id.0 1)) same,
+          get_or-set_same pool.counts id.0 1
+              0 free.0,
+          ap (reference_count pool) same,
+          times_in-cons id [] block,
+          cond-true {A = ℕ} (id.0 == block) 1 0
+              (eq-eqb id.0 block (sym same)),
+        )
     times block (inr differ) =
         omega (arith, get_or-set_other pool.counts id.0 block 1 0 differ, times_in-cons id [] block, cond-false {A = ℕ} (id.0 == block) 1 0 (ne_eqb id.0 block (λ same. differ (sym same))))
 
 -- some are, and then others
-pub Gains-then : {before middle after : Blocks} {group others : List BlockId} {contents more : List (List ℕ)} → GainsBlocks before group contents middle → GainsBlocks middle others more after → GainsBlocks before (group ++ others) (contents ++ more) after
+pub Gains-then : {before middle after : Blocks} {group others : List BlockId} {contents more : List (List ℕ)}
+    → GainsBlocks before group contents middle → GainsBlocks middle others more after → GainsBlocks before
+    (group ++ others) (contents ++ more) after
 Gains-then {before} {middle} {after} {group} {others} {contents} {more} one two = record {
   were_free =
       All-append (λ id. IsFreeBlock before id.0) group others one.were_free
@@ -120,7 +144,9 @@ filled : (n : ℕ) (bytes : List ℕ) → length bytes ≤ n → overwritten (re
 filled n bytes short =
     let rest : length bytes + (n - length bytes) ≡ n = omega arith in
     ap (λ (back : List ℕ). bytes ++ back) (ap (λ (k : ℕ). drop k (replicate n 0)) (zero-add (length bytes)) ∙ drop-replicate (length bytes) n 0)
-    ∙ sym (ap (λ (k : ℕ). take k (bytes ++ replicate n 0)) (sym rest) ∙ take-append-add bytes (replicate n 0) (n - length bytes) ∙ ap (λ (back : List ℕ). bytes ++ back) (take-replicate (n - length bytes) n 0 (omega arith)))
+    ∙ sym (ap (λ (k : ℕ). take k (bytes ++ replicate n 0)) (sym rest) ∙ take-append-add bytes (replicate n 0)
+    (n - length bytes) ∙ ap (λ (back : List ℕ). bytes ++ back) (take-replicate (n - length bytes) n 0
+    (omega arith)))
 
 -- a block that is taken is one of the pool's, and has the size of every block
 taken_within : (pool : Blocks) (block : ℕ) → IsFreeBlock pool block → IsPool (pool_after_take pool block) → block < length pool.bytes
@@ -136,11 +162,14 @@ taken_length pool block free shape =
 
 -- what a block of n bytes has after it was taken and written
 written : (n : ℕ) (pool : Blocks) (block : ℕ) (bytes : List ℕ) → length (block_bytes pool block) ≡ n → block < length pool.bytes → length bytes ≤ n
-    → with_block_bytes (pool_after_take pool block) block (overwritten (block_bytes (pool_after_take pool block) block) 0 bytes) ≡ with_block_bytes (with_reference_count pool block 1) block (take n (bytes ++ replicate n 0))
+    → with_block_bytes (pool_after_take pool block) block
+    (overwritten (block_bytes (pool_after_take pool block) block) 0 bytes) ≡ with_block_bytes
+    (with_reference_count pool block 1) block (take n (bytes ++ replicate n 0))
 written n pool block bytes size within short =
     let zeros : List ℕ = replicate (length (block_bytes pool block)) 0 in
     let clear : block_bytes (pool_after_take pool block) block ≡ replicate n 0 = get_or-set_same pool.bytes block zeros [] within ∙ ap (λ (k : ℕ). replicate k 0) size in
-    let content : overwritten (block_bytes (pool_after_take pool block) block) 0 bytes ≡ take n (bytes ++ replicate n 0) = ap (λ (old : List ℕ). overwritten old 0 bytes) clear ∙ filled n bytes short in
+    let content : overwritten (block_bytes (pool_after_take pool block) block) 0 bytes ≡ take n
+    (bytes ++ replicate n 0) = ap (λ (old : List ℕ). overwritten old 0 bytes) clear ∙ filled n bytes short in
     ap (with_block_bytes (pool_after_take pool block) block) content
     ∙ ap (λ (all : List (List ℕ)). let made : Blocks = record { counts = set pool.counts block 1; bytes = all } in made) (set-set pool.bytes block zeros (take n (bytes ++ replicate n 0)))
 
@@ -150,7 +179,9 @@ pub Gains-written : (pool : Blocks) (id : BlockId) (bytes : List ℕ) → IsFree
 Gains-written pool id bytes free shape short =
     let within = taken_within pool id.0 free shape in
     let whole : length pool.bytes ≡ length pool.counts = sym (length-set pool.bytes id.0 (replicate (length (block_bytes pool id.0)) 0)) ∙ shape.whole ∙ length-set pool.counts id.0 1 in
-    subst (GainsBlocks pool (id ∷ []) (file_block bytes 0 ∷ [])) (sym (written 8192 pool id.0 bytes (taken_length pool id.0 free shape) within short)) (Gains-one pool id (file_block bytes 0) whole free)
+    subst (GainsBlocks pool (id ∷ []) (file_block bytes 0 ∷ []))
+    (sym (written 8192 pool id.0 bytes (taken_length pool id.0 free shape) within short))
+    (Gains-one pool id (file_block bytes 0) whole free)
 
 -- ---- the parts of a file
 
@@ -189,5 +220,7 @@ Takes-Gains pool after [] shape took = subst (GainsBlocks pool [] []) (sym took)
 Takes-Gains pool after (id ∷ ids) shape took =
     let zeros : List ℕ = replicate (length (block_bytes pool id.0)) 0 in
     let clear : zeros ≡ zero_object = ap (λ (n : ℕ). replicate n 0) (shape.full id.0 [] (omega (arith, shape.whole, took.0.0))) in
-    let one : GainsBlocks pool (id ∷ []) (zero_object ∷ []) (pool_after_take pool id.0) = subst (λ (bytes : List ℕ). GainsBlocks pool (id ∷ []) (bytes ∷ []) (pool_after_take pool id.0)) clear (Gains-one pool id zeros shape.whole took.0) in
+    let one : GainsBlocks pool (id ∷ []) (zero_object ∷ []) (pool_after_take pool id.0) = subst
+    (λ (bytes : List ℕ). GainsBlocks pool (id ∷ []) (bytes ∷ []) (pool_after_take pool id.0)) clear
+    (Gains-one pool id zeros shape.whole took.0) in
     Gains-then one (Takes-Gains (pool_after_take pool id.0) after ids (IsPool-taken pool id.0 shape took.0.0) took.1)

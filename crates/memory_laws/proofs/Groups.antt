@@ -126,7 +126,8 @@ once_or_not (None ∷ entries) all block =
     none_here : (number : ℕ) (entry : ModuleEntry) → module_entry_at (None ∷ entries) number ≡ Some entry → Has entry.group block → (HasBlock entries block → ⊥) → ⊥
     none_here zero entry is has none = none-some entry is
     none_here (suc number) entry is has none = none (record { number = number; entry = entry; is = is; has = has })
-once_or_not (Some first ∷ entries) all block = by_test (cases_Bool (is_listed first.group entries)) (once_or_not entries (AreGrouped-rest (Some first) entries all) block) (cases_eq (times block first.group) 0)
+once_or_not (Some first ∷ entries) all block = by_test (cases_Bool (is_listed first.group entries))
+    (once_or_not entries (AreGrouped-rest (Some first) entries all) block) (cases_eq (times block first.group) 0)
   where
     here : Has first.group block → HasBlock (Some first ∷ entries) block
     here has = record { number = 0; entry = first; is = refl; has = has }
@@ -135,12 +136,21 @@ once_or_not (Some first ∷ entries) all block = by_test (cases_Bool (is_listed 
     none_here zero entry is has none not_first = not_first (subst (λ (e : ModuleEntry). Has e.group block) (sym (same_Some first entry is)) has)
     none_here (suc number) entry is has none not_first = none (record { number = number; entry = entry; is = is; has = has })
 
-    by_test : (is_listed first.group entries ≡ true) ⊎ (is_listed first.group entries ≡ false) → IsOnceOrNot entries block → (times block first.group ≡ 0) ⊎ (times block first.group ≢ 0) → IsOnceOrNot (Some first ∷ entries) block
+    by_test : (is_listed first.group entries ≡ true) ⊎ (is_listed first.group entries ≡ false) → IsOnceOrNot entries
+        block → (times block first.group ≡ 0) ⊎ (times block first.group ≢ 0) → IsOnceOrNot (Some first ∷ entries)
+        block
     by_test (inl listed) (inl one) first_times =
         inl (HasBlock-later (Some first) entries block one.0, ap (λ groups. times block (flat_map (λ group. group) groups)) (listed_first first entries listed) ∙ one.1)
     by_test (inl listed) (inr none) first_times =
         let known = entry-listed entries first.group listed in
-        let not_first : Has first.group block → ⊥ = λ has. none.0 (record { number = known.number; entry = known.entry; is = known.is; has = subst (λ (g : List ℕ). Has g block) known.group_is has }) in
+        let not_first : Has first.group block → ⊥ = λ has. none.0
+        (record {
+          number = known.number;
+          entry = known.entry;
+          is = known.is;
+          has = subst
+              (λ (g : List ℕ). Has g block) known.group_is has;
+        }) in
         inr (
           λ has. none_here has.number has.entry has.is has.has none.0 not_first,
           ap (λ groups. times block (flat_map (λ group. group) groups)) (listed_first first entries listed) ∙ none.1,
@@ -179,7 +189,9 @@ pub times-ungrouped : (entries : List (Option ModuleEntry)) → AreGrouped entri
 times-ungrouped entries all block none = elim (once_or_not entries all block) [ inl one ↦ absurd (none one.0) | inr not ↦ not.1 ]
 
 -- entries in which the same blocks are grouped name them as often
-pub times-same : (entries after : List (Option ModuleEntry)) → AreGrouped entries → AreGrouped after → (block : ℕ) → (HasBlock entries block → HasBlock after block) → (HasBlock after block → HasBlock entries block) → times block (grouped_blocks after) ≡ times block (grouped_blocks entries)
+pub times-same : (entries after : List (Option ModuleEntry)) → AreGrouped entries → AreGrouped after → (block : ℕ)
+    → (HasBlock entries block → HasBlock after block) → (HasBlock after block → HasBlock entries block)
+    → times block (grouped_blocks after) ≡ times block (grouped_blocks entries)
 times-same entries after all all_after block there back =
     elim (once_or_not entries all block) [
       | inl one ↦ times-grouped after all_after block (there one.0) ∙ sym one.1

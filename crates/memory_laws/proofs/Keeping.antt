@@ -102,7 +102,9 @@ module _ (pool : Blocks) (maps : List (Slots BlockId)) (entries : List (Option M
   -- ---- one map has changed
 
   module _ (after : Blocks) (process : ℕ) (within : process < 33) (new : Slots BlockId) where
-    counted_set : ((block : ℕ) → reference_count after block + times block (mapped_blocks (map_of process)) ≡ reference_count pool block + times block (mapped_blocks new)) → AreReferenceCounts after (set maps process new) entries
+    counted_set : ((block : ℕ) → reference_count after block + times block (mapped_blocks (map_of process)) ≡
+        reference_count pool block + times block (mapped_blocks new)) → AreReferenceCounts after
+        (set maps process new) entries
     counted_set changed block =
         omega (
           arith,
@@ -121,7 +123,8 @@ module _ (pool : Blocks) (maps : List (Slots BlockId)) (entries : List (Option M
       processes = length-set maps process new ∙ sound.processes;
       numbers = sound.numbers;
       counted = counted_set changed;
-      held = All-from_get_or (IsHeld after entries) (set maps process new) no_slots (λ other inside. by_process other (omega (arith, length-set maps process new, sound.processes)) (cases_eq other process));
+      held = All-from_get_or (IsHeld after entries) (set maps process new) no_slots (λ other inside. by_process other
+          (omega (arith, length-set maps process new, sound.processes)) (cases_eq other process));
       groups = sound.groups;
     }
       where
@@ -141,14 +144,17 @@ module _ (pool : Blocks) (maps : List (Slots BlockId)) (entries : List (Option M
   -- ---- the module directory has changed
 
   module _ (after : Blocks) (later : List (Option ModuleEntry)) where
-    counted_later : ((block : ℕ) → reference_count after block + times block (grouped_blocks entries) ≡ reference_count pool block + times block (grouped_blocks later)) → AreReferenceCounts after maps later
+    counted_later : ((block : ℕ) → reference_count after block + times block (grouped_blocks entries) ≡
+        reference_count pool block + times block (grouped_blocks later)) → AreReferenceCounts after maps later
     counted_later changed block =
         omega (arith, changed block, counted_parts block, times-append block (flat_map mapped_blocks maps) (grouped_blocks later))
 
     pub IsSound-entries : IsPool after → length later ≡ 64 → AreGrouped later
         → ((block : ℕ) → reference_count after block + times block (grouped_blocks entries) ≡ reference_count pool block + times block (grouped_blocks later))
         → ((block : ℕ) → reference_count pool block ≡ 1 → (HasBlock entries block → ⊥) → reference_count after block ≤ 1)
-        → ((number : ℕ) (entry : ModuleEntry) → module_entry_at later number ≡ Some entry → HasGroup entries entry.group ⊎ ((k : ℕ) → k < length entry.group → reference_count pool (get_or entry.group k 0) ≡ 0))
+        → ((number : ℕ) (entry : ModuleEntry) → module_entry_at later number ≡ Some entry
+        → HasGroup entries entry.group ⊎ ((k : ℕ) → k < length entry.group → reference_count pool
+        (get_or entry.group k 0) ≡ 0))
         → IsSound after maps later
     IsSound-entries shape places groups changed others kept = record {
       shape = shape;
@@ -159,11 +165,17 @@ module _ (pool : Blocks) (maps : List (Slots BlockId)) (entries : List (Option M
       groups = groups;
     }
       where
-        stands : (process : ℕ) → process < 33 → (number : ℕ) (entry : ModuleEntry) → module_entry_at later number ≡ Some entry → HasGroup entries entry.group ⊎ ((k : ℕ) → k < length entry.group → reference_count pool (get_or entry.group k 0) ≡ 0) → (slot k : ℕ) (id : BlockId) → block_at (map_of process) slot ≡ Some id → k < length entry.group → id.0 ≡ get_or entry.group k 0 → (k ≤ slot) × BeginsAt (numbered_map (map_of process)) entry.group (slot - k)
+        stands : (process : ℕ) → process < 33 → (number : ℕ) (entry : ModuleEntry) → module_entry_at later number ≡
+            Some entry → HasGroup entries entry.group ⊎ ((k : ℕ) → k < length entry.group → reference_count pool
+            (get_or entry.group k 0) ≡ 0) → (slot k : ℕ) (id : BlockId) → block_at (map_of process) slot ≡ Some id
+            → k < length entry.group → id.0 ≡ get_or entry.group k 0 → (k ≤ slot) × BeginsAt
+            (numbered_map (map_of process)) entry.group (slot - k)
         stands process within number entry is (inr free) slot k id named inside same =
             absurd (omega (arith, free k inside, names_live process slot id named, ap (reference_count pool) same))
         stands process within number entry is (inl was) slot k id named inside same =
-            let there = (held_at process within).grouped was.number was.entry was.is slot k id named (subst (λ (g : List ℕ). k < length g) was.group_is inside) (same ∙ ap (λ (g : List ℕ). get_or g k 0) was.group_is) in
+            let there = (held_at process within).grouped was.number was.entry was.is slot k id named
+            (subst (λ (g : List ℕ). k < length g) was.group_is inside) (same ∙ ap (λ (g : List ℕ). get_or g k 0)
+            was.group_is) in
             (there.0, subst (λ (g : List ℕ). BeginsAt (numbered_map (map_of process)) g (slot - k)) (sym was.group_is) there.1)
 
         here : (process : ℕ) → process < 33 → IsHeld after later (map_of process)

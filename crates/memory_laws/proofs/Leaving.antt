@@ -28,17 +28,23 @@ module _ (number : ℕ → ℕ) (Live : ℕ → Type 0) (apart : (one other : �
   is_in_use-renamed (Some entry ∷ entries) each =
       λ i. (pointwise-renamed number Live apart group entry.group live (each 0 entry refl) i && nat_lt 0 entry.links) || is_in_use-renamed entries (λ n. each (suc n)) i
 
-  without_group-renamed : (entries : List (Option ModuleEntry)) → AreLive number Live apart entries → modules_without_group (renamed_modules number entries) (map number group) ≡ renamed_modules number (modules_without_group entries group)
+  without_group-renamed : (entries : List (Option ModuleEntry)) → AreLive number Live apart entries
+      → modules_without_group (renamed_modules number entries) (map number group) ≡ renamed_modules number
+      (modules_without_group entries group)
   without_group-renamed [] each = refl
   without_group-renamed (None ∷ entries) each = ap (λ (rest : List (Option ModuleEntry)). None ∷ rest) (without_group-renamed entries (λ n. each (suc n)))
   without_group-renamed (Some entry ∷ entries) each =
-      λ i. (ap (λ (test : Bool). if test then None else Some (renamed_entry number entry)) (pointwise-renamed number Live apart group entry.group live (each 0 entry refl)) ∙ by_test (pointwise nat_eq group entry.group)) i ∷ without_group-renamed entries (λ n. each (suc n)) i
+      λ i. (ap (λ (test : Bool). if test then None else Some (renamed_entry number entry))
+      (pointwise-renamed number Live apart group entry.group live (each 0 entry refl)) ∙ by_test
+      (pointwise nat_eq group entry.group)) i ∷ without_group-renamed entries (λ n. each (suc n)) i
     where
       by_test : (test : Bool) → (if test then None else Some (renamed_entry number entry)) ≡ option_map (renamed_entry number) (if test then None else Some entry)
       by_test true = refl
       by_test false = refl
 
-module _ (pool : Blocks) (maps : List (Slots BlockId)) (entries : List (Option ModuleEntry)) (sound : IsSound pool maps entries) (place : ℕ) (entry : ModuleEntry) (is : module_entry_at entries place ≡ Some entry) where
+module _ (pool : Blocks) (maps : List (Slots BlockId)) (entries : List (Option ModuleEntry))
+    (sound : IsSound pool maps entries) (place : ℕ) (entry : ModuleEntry) (is : module_entry_at entries place ≡ Some
+    entry) where
   module _ (number : ℕ → ℕ) (objects : List (List ℕ)) (represent : RepresentObjects number pool objects) where
     group_is_live : All (IsLive pool) entry.group
     group_is_live = groups_are_live pool maps entries sound number objects represent place entry is
@@ -63,10 +69,15 @@ module _ (pool : Blocks) (maps : List (Slots BlockId)) (entries : List (Option M
     pub after_unlink-renamed : after_unlink (renamed_modules number entries) place (renamed_entry number entry) ≡ renamed_modules number (after_unlink entries place entry)
     after_unlink-renamed =
         (λ i. if is_leaving-renamed i then modules_without_group (less-renamed i) (map number entry.group) else less-renamed i)
-        ∙ (λ i. if is_leaving entries place entry then without_group-renamed number (IsLive pool) represent.apart entry.group group_is_live (with_unlinked entries place entry) less_live i else renamed_modules number (with_unlinked entries place entry))
+        ∙ (λ i. if is_leaving entries place entry then without_group-renamed number (IsLive pool) represent.apart
+        entry.group group_is_live (with_unlinked entries place entry) less_live i else renamed_modules number
+        (with_unlinked entries place entry))
         ∙ by_test (is_leaving entries place entry)
       where
-        by_test : (test : Bool) → (if test then renamed_modules number (modules_without_group (with_unlinked entries place entry) entry.group) else renamed_modules number (with_unlinked entries place entry)) ≡ renamed_modules number (if test then modules_without_group (with_unlinked entries place entry) entry.group else with_unlinked entries place entry)
+        by_test : (test : Bool) → (if test then renamed_modules number
+            (modules_without_group (with_unlinked entries place entry) entry.group) else renamed_modules number
+            (with_unlinked entries place entry)) ≡ renamed_modules number (if test then modules_without_group
+            (with_unlinked entries place entry) entry.group else with_unlinked entries place entry)
         by_test true = refl
         by_test false = refl
 
@@ -81,7 +92,9 @@ module _ (pool : Blocks) (maps : List (Slots BlockId)) (entries : List (Option M
       ∙ ap (λ (o : Option ModuleEntry). option_map_or (is_leaving (renamed_modules number entries) place) o false) (found-renamed number tied.objects tied.represent)
       ∙ is_leaving-renamed number tied.objects tied.represent
 
-  pub represent-unlinked : (after : Blocks) (ids : List BlockId) → after ≡ pool_after_giving pool ids → (m : MemoryState) → RepresentMemory pool maps entries m → RepresentMemory after maps (after_unlink entries place entry) (unlinked m place)
+  pub represent-unlinked : (after : Blocks) (ids : List BlockId) → after ≡ pool_after_giving pool ids
+      → (m : MemoryState) → RepresentMemory pool maps entries m → RepresentMemory after maps
+      (after_unlink entries place entry) (unlinked m place)
   represent-unlinked after ids given m tied =
       let number = tied.number in
       let modules = renamed_modules number entries in
@@ -94,7 +107,9 @@ module _ (pool : Blocks) (maps : List (Slots BlockId)) (entries : List (Option M
               blocks = sym (ap (λ (p : Blocks). length p.counts) given ∙ length-given_all pool ids) i;
               objects = tied.objects;
               maps = (memory_of number pool maps entries tied.objects).maps;
-              modules = (ap (λ (o : Option ModuleEntry). option_map_or (after_unlink modules place) o modules) (found-renamed number tied.objects tied.represent) ∙ after_unlink-renamed number tied.objects tied.represent) i;
+              modules = (ap (λ (o : Option ModuleEntry). option_map_or (after_unlink modules place) o modules)
+                  (found-renamed number tied.objects tied.represent) ∙ after_unlink-renamed number tied.objects
+                  tied.represent) i;
             });
       }
 

@@ -133,11 +133,13 @@ module _ (number : ℕ → ℕ) where
       ] in
       (λ i. here i || has_number-map names first (All-tail P name names apart) i)
 
-  pub length-distinct-map : (names : List ℕ) → ((one other : ℕ) → 0 < times one names → 0 < times other names → number one ≡ number other → one ≡ other) → length (distinct (map number names)) ≡ length (distinct names)
+  pub length-distinct-map : (names : List ℕ) → ((one other : ℕ) → 0 < times one names → 0 < times other names
+      → number one ≡ number other → one ≡ other) → length (distinct (map number names)) ≡ length (distinct names)
   length-distinct-map [] apart = refl
   length-distinct-map (first ∷ names) apart =
       let rest = length-distinct-map names (λ one other here there. apart one other (more one here) (more other there)) in
-      let same = has_number-map names first (λ k d within again. apart (get_or names k d) first (more (get_or names k d) (at_place k d within)) (omega (arith, times-here first first names refl)) again) in
+      let same = has_number-map names first (λ k d within again. apart (get_or names k d) first
+      (more (get_or names k d) (at_place k d within)) (omega (arith, times-here first first names refl)) again) in
       ap (λ (b : Bool). length (if b then distinct (map number names) else number first ∷ distinct (map number names))) same
       ∙ by_test (has_number names first) rest
     where
@@ -151,6 +153,8 @@ module _ (number : ℕ → ℕ) where
       at_place : (k d : ℕ) → k < length names → 0 < times (get_or names k d) names
       at_place k d within = times-at names k (get_or names k d) within (get_or_default names k 0 d within)
 
-      by_test : (test : Bool) → length (distinct (map number names)) ≡ length (distinct names) → length (if test then distinct (map number names) else number first ∷ distinct (map number names)) ≡ length (if test then distinct names else first ∷ distinct names)
+      by_test : (test : Bool) → length (distinct (map number names)) ≡ length (distinct names)
+          → length (if test then distinct (map number names) else number first ∷ distinct (map number names)) ≡ length
+          (if test then distinct names else first ∷ distinct names)
       by_test true rest = rest
       by_test false rest = ap suc rest

@@ -96,7 +96,9 @@ block_slot-is slots group some =
     ap (option_and_then (λ first. position (place_names first) (numbered_map slots).places)) (slice_get-get_or group 0 0 (omega arith))
     ∙ position-map (option_map (λ (id : BlockId). id.0)) (place_names (get_or group 0 0)) slots.places
 
-module _ (pool : Blocks) (maps : List (Slots BlockId)) (entries : List (Option ModuleEntry)) (sound : IsSound pool maps entries) (process : ℕ) (within : process < 33) (number : ℕ) (entry : ModuleEntry) (is : module_entry_at entries number ≡ Some entry) where
+module _ (pool : Blocks) (maps : List (Slots BlockId)) (entries : List (Option ModuleEntry))
+    (sound : IsSound pool maps entries) (process : ℕ) (within : process < 33) (number : ℕ) (entry : ModuleEntry)
+    (is : module_entry_at entries number ≡ Some entry) where
   abbrev slots : Slots BlockId
   slots = map_of pool maps entries sound process
 
@@ -127,7 +129,9 @@ module _ (pool : Blocks) (maps : List (Slots BlockId)) (entries : List (Option M
       let first = slot - k in
       let here = block_of_number slots (first + 0) (get_or entry.group 0 0) (stands.1.stands 0 (omega (arith, grouped.some))) in
       let it = at-within slots.places (first + 0) here.id here.is in
-      let passes : names_number (get_or entry.group 0 0) (get_or slots.places (first + 0) None) ≡ true = ap (names_number (get_or entry.group 0 0)) here.is ∙ eq-eqb here.id.0 (get_or entry.group 0 0) here.number_is in
+      let passes : names_number (get_or entry.group 0 0) (get_or slots.places (first + 0) None) ≡ true = ap
+      (names_number (get_or entry.group 0 0)) here.is ∙ eq-eqb here.id.0 (get_or entry.group 0 0) here.number_is
+      in
       ap is_some (block_slot-is slots entry.group grouped.some ∙ position-there (names_number (get_or entry.group 0 0)) slots.places (first + 0) None it passes)
 
   -- ---- the slot in the machine
@@ -144,10 +148,14 @@ module _ (pool : Blocks) (maps : List (Slots BlockId)) (entries : List (Option M
         ap (λ (s : MemoryState). group_at s number) tied.is
         ∙ ap (λ (o : Option ModuleEntry). option_map_or (λ e. e.group) o []) (entry_at-renamed tied.number entries number ∙ ap (option_map (renamed_entry tied.number)) is)
 
-    same_test : (k : ℕ) (d : Option BlockId) → k < length slots.places → place_names (tied.number (get_or entry.group 0 0)) (option_map (λ (id : BlockId). tied.number id.0) (get_or slots.places k d)) ≡ names_number (get_or entry.group 0 0) (get_or slots.places k d)
+    same_test : (k : ℕ) (d : Option BlockId) → k < length slots.places
+        → place_names (tied.number (get_or entry.group 0 0)) (option_map (λ (id : BlockId). tied.number id.0)
+        (get_or slots.places k d)) ≡ names_number (get_or entry.group 0 0) (get_or slots.places k d)
     same_test k d inside = by_place (get_or slots.places k d) refl
       where
-        by_place : (place : Option BlockId) → get_or slots.places k d ≡ place → place_names (tied.number (get_or entry.group 0 0)) (option_map (λ (id : BlockId). tied.number id.0) place) ≡ names_number (get_or entry.group 0 0) place
+        by_place : (place : Option BlockId) → get_or slots.places k d ≡ place
+            → place_names (tied.number (get_or entry.group 0 0)) (option_map (λ (id : BlockId). tied.number id.0)
+            place) ≡ names_number (get_or entry.group 0 0) place
         by_place None is_place = refl
         by_place (Some id) is_place =
             let first = get_or entry.group 0 0 in
@@ -161,9 +169,14 @@ module _ (pool : Blocks) (maps : List (Slots BlockId)) (entries : List (Option M
     pub group_slot-tied : group_slot (map_at m process) (group_at m number) ≡ block_slot slots entry.group
     group_slot-tied =
         (λ i. group_slot (map_at-tied i) (group_at-tied i))
-        ∙ ap (option_and_then (λ first. position (place_names first) (renamed_map tied.number slots).places)) (slice_get-get_or (map tied.number entry.group) 0 0 (omega (arith, length-map entry.group tied.number, grouped.some)) ∙ ap (λ (n : ℕ). Some n) (get_or-map tied.number entry.group 0 0 0 (omega (arith, grouped.some))))
+        ∙ ap (option_and_then (λ first. position (place_names first) (renamed_map tied.number slots).places))
+        (slice_get-get_or (map tied.number entry.group) 0 0
+        (omega (arith, length-map entry.group tied.number, grouped.some)) ∙ ap (λ (n : ℕ). Some n)
+        (get_or-map tied.number entry.group 0 0 0 (omega (arith, grouped.some))))
         ∙ position-map (option_map (λ (id : BlockId). tied.number id.0)) (place_names (tied.number (get_or entry.group 0 0))) slots.places
-        ∙ position-same (λ place. place_names (tied.number (get_or entry.group 0 0)) (option_map (λ (id : BlockId). tied.number id.0) place)) (names_number (get_or entry.group 0 0)) slots.places same_test
+        ∙ position-same (λ place. place_names (tied.number (get_or entry.group 0 0))
+        (option_map (λ (id : BlockId). tied.number id.0) place)) (names_number (get_or entry.group 0 0))
+        slots.places same_test
         ∙ sym (block_slot-is slots entry.group grouped.some)
 
   -- ---- the group is mapped
@@ -209,7 +222,8 @@ module _ (pool : Blocks) (maps : List (Slots BlockId)) (entries : List (Option M
           ]
 
       -- a slot is one of the group's or as it was
-      new_or_old : (slot : ℕ) (id : BlockId) → block_at (with_group slots first ids) slot ≡ Some id → ((first ≤ slot) × (at (filled_places ids) (slot - first) ≡ Some id)) ⊎ (block_at slots slot ≡ Some id)
+      new_or_old : (slot : ℕ) (id : BlockId) → block_at (with_group slots first ids) slot ≡ Some id
+          → ((first ≤ slot) × (at (filled_places ids) (slot - first) ≡ Some id)) ⊎ (block_at slots slot ≡ Some id)
       new_or_old slot id at_slot =
           elim (at-put slots.places (filled_places ids) first slot fits) [
             | inl a ↦ inl (a.0, sym a.2 ∙ at_slot)
@@ -233,21 +247,36 @@ module _ (pool : Blocks) (maps : List (Slots BlockId)) (entries : List (Option M
       }
 
       -- groups that stood there stand there still
-      grouped_new : (n : ℕ) (other : ModuleEntry) → module_entry_at entries n ≡ Some other → (slot k : ℕ) (id : BlockId) → block_at (with_group slots first ids) slot ≡ Some id → k < length other.group → id.0 ≡ get_or other.group k 0 → (k ≤ slot) × BeginsAt (numbered_map (with_group slots first ids)) other.group (slot - k)
+      grouped_new : (n : ℕ) (other : ModuleEntry) → module_entry_at entries n ≡ Some other
+          → (slot k : ℕ) (id : BlockId) → block_at (with_group slots first ids) slot ≡ Some id
+          → k < length other.group → id.0 ≡ get_or other.group k 0 → (k ≤ slot) × BeginsAt
+          (numbered_map (with_group slots first ids)) other.group (slot - k)
       grouped_new n other is_other slot k id named inside it =
           elim (new_or_old slot id named) [
             | inl fresh ↦
                 let place = at-naming ids (slot - first) id fresh.1 in
                 let id_is : id.0 ≡ get_or entry.group (slot - first) 0 = ap (λ (b : BlockId). b.0) (sym place.1) ∙ number_of (slot - first) id place.0 in
-                let equal : other.group ≡ entry.group = sound.groups.same n number other entry is_other is id.0 (times-at other.group k id.0 inside (sym it)) (times-at entry.group (slot - first) id.0 (omega (arith, many, place.0)) (sym id_is)) in
-                let same_place : k ≡ slot - first = grouped.once k (slot - first) (subst (λ (g : List ℕ). k < length g) equal inside) (omega (arith, many, place.0)) (ap (λ (g : List ℕ). get_or g k 0) (sym equal) ∙ sym it ∙ id_is) in
-                let here : slot - k ≡ first = omega (arith, fresh.0) in
-                (omega (arith, fresh.0), subst (λ (g : List ℕ). BeginsAt (numbered_map (with_group slots first ids)) g (slot - k)) (sym equal) (subst (λ (s : ℕ). BeginsAt (numbered_map (with_group slots first ids)) entry.group s) (sym here) begins_new))
+                let equal : other.group ≡ entry.group = sound.groups.same n number other entry is_other is id.0
+                (times-at other.group k id.0 inside (sym it)) (times-at entry.group (slot - first) id.0
+                (omega (arith, many, place.0)) (sym id_is)) in
+                let same_place : k ≡ slot - first = grouped.once k (slot - first)
+                (subst (λ (g : List ℕ). k < length g) equal inside) (omega (arith, many, place.0))
+                (ap (λ (g : List ℕ). get_or g k 0) (sym equal) ∙ sym it ∙ id_is) in
+                let here : slot - k ≡ first = omega (arith, fresh.0) in (
+                  omega (arith, fresh.0),
+                  subst (λ (g : List ℕ). BeginsAt (numbered_map (with_group slots first ids)) g
+                      (slot - k)) (sym equal) (subst (λ (s : ℕ). BeginsAt (numbered_map (with_group slots first ids))
+                      entry.group s) (sym here) begins_new),
+                )
             | inr old ↦
                 let was = held.grouped n other is_other slot k id old inside it in
                 let zeroth = block_of_number slots (slot - k + 0) (get_or other.group 0 0) (was.1.stands 0 (omega arith)) in
-                let apart : slot - k ≢ first = λ equal. none-some zeroth.id (sym (highest.0.1 (slot - k + 0) (omega arith) (omega (arith, many, grouped.some))) ∙ zeroth.is) in
-                (was.0, BeginsAt-kept slots (with_group slots first ids) other.group (slot - k) was.1 (get_or-set_other slots.groups first (slot - k) (Some (length ids)) None apart) (λ j b here there is_it. still (slot - k + j) b there))
+                let apart : slot - k ≢ first = λ equal. none-some zeroth.id (sym (highest.0.1 (slot - k + 0) (omega arith) (omega (arith, many, grouped.some))) ∙ zeroth.is) in (
+                  was.0,
+                  BeginsAt-kept slots (with_group slots first ids) other.group (slot - k) was.1
+                      (get_or-set_other slots.groups first (slot - k) (Some (length ids)) None apart)
+                      (λ j b here there is_it. still (slot - k + j) b there),
+                )
           ]
 
       apart_from_group : (block : ℕ) → (HasBlock entries block → ⊥) → times_in ids block ≡ 0
@@ -257,7 +286,9 @@ module _ (pool : Blocks) (maps : List (Slots BlockId)) (entries : List (Option M
             | inr some ↦ absurd (none (record { number = number; entry = entry; is = is; has = omega (arith, ap (times block) same, times-numbers_of ids block) }))
           ]
 
-      pub IsSound-mapped : IsPool after → IsMap (with_group slots first ids) → NamesLiveBlocks (with_group slots first ids) after → IsSound after (set maps process (with_group slots first ids)) entries
+      pub IsSound-mapped : IsPool after → IsMap (with_group slots first ids)
+          → NamesLiveBlocks (with_group slots first ids) after
+          → IsSound after (set maps process (with_group slots first ids)) entries
       IsSound-mapped shape map_is live =
           IsSound-map pool maps entries sound after process within (with_group slots first ids) shape
           (λ block. omega (arith, counts block, times-filled slots.places first ids (omega (arith, highest.0.0, held.map.eight_places)) highest.0.1 block))
@@ -276,7 +307,9 @@ module _ (pool : Blocks) (maps : List (Slots BlockId)) (entries : List (Option M
               by_place None at_slot some = absurd (false≢true some)
               by_place (Some id) at_slot some = ap is_some (still slot id at_slot)
 
-          low_alone : (slot : ℕ) (id : BlockId) → slot < slots.low → block_at (with_group slots first ids) slot ≡ Some id → ((first ≤ slot) × (at (filled_places ids) (slot - first) ≡ Some id)) ⊎ (block_at slots slot ≡ Some id) → reference_count after id.0 ≡ 1
+          low_alone : (slot : ℕ) (id : BlockId) → slot < slots.low → block_at (with_group slots first ids) slot ≡ Some
+              id → ((first ≤ slot) × (at (filled_places ids) (slot - first) ≡ Some id)) ⊎ (block_at slots slot ≡ Some
+              id) → reference_count after id.0 ≡ 1
           low_alone slot id low named (inr old) =
               let none = low_ungrouped pool maps entries sound process within slot id low old in
               omega (arith, held.alone slot id low old, counts id.0, apart_from_group id.0 none)
@@ -285,17 +318,26 @@ module _ (pool : Blocks) (maps : List (Slots BlockId)) (entries : List (Option M
               let free : block_at slots slot ≡ None = highest.0.1 slot fresh.0 (omega (arith, fresh.0, place.0)) in
               absurd (false≢true (sym (ap is_some free) ∙ held.full slot low))
 
-      pub represent-mapped : (m : MemoryState) (tied : RepresentMemory pool maps entries m) → RepresentMemory after (set maps process (with_group slots first ids)) entries (with_map m process (with_group (map_at m process) first (group_at m number)))
+      pub represent-mapped : (m : MemoryState) (tied : RepresentMemory pool maps entries m) → RepresentMemory after
+          (set maps process (with_group slots first ids)) entries
+          (with_map m process (with_group (map_at m process) first (group_at m number)))
       represent-mapped m tied = record {
         number = tied.number;
         objects = tied.objects;
-        represent = subst (λ (p : Blocks). RepresentObjects tied.number p tied.objects) (sym shared) (StandFor-shared_all tied.number pool tied.objects ids tied.represent (group-live pool maps entries sound number entry is ids same));
+        represent = subst (λ (p : Blocks). RepresentObjects tied.number p tied.objects) (sym shared)
+            (StandFor-shared_all tied.number pool tied.objects ids tied.represent (group-live pool maps entries sound
+            number entry is ids same));
         is = (λ i. with_map (tied.is i) process (with_group (map_at-tied m tied i) first ((group_at-tied m tied ∙ ap (map tied.number) same ∙ map-map tied.number (λ (id : BlockId). id.0) ids) i)))
             ∙ ap (with_map (memory_of tied.number pool maps entries tied.objects) process) (sym (with_group-renamed tied.number slots first ids))
             ∙ with_map-memory_of tied.number pool after maps entries tied.objects process (with_group slots first ids) (ap (λ (p : Blocks). length p.counts) shared ∙ length-shared_all pool ids);
       }
 
-      pub group_mapped-some : (m : MemoryState) (tied : RepresentMemory pool maps entries m) → group_mapped m process (group_at m number) ≡ Some (first, with_map m process (with_group (map_at m process) first (group_at m number)))
+      pub group_mapped-some : (m : MemoryState) (tied : RepresentMemory pool maps entries m) → group_mapped m process
+          (group_at m number) ≡ Some (
+            first,
+            with_map m process (with_group (map_at m process) first
+                (group_at m number)),
+          )
       group_mapped-some m tied =
           ap (option_map (λ first. (first, with_map m process (with_group (map_at m process) first (group_at m number)))))
           ((λ i. highest_free_run (map_at-tied m tied i) (length (group_at-tied m tied i)))
@@ -333,7 +375,8 @@ module _ (pool : Blocks) (maps : List (Slots BlockId)) (entries : List (Option M
     room = omega (arith, length-replicate (length entry.group) nothing, inside_slots, held.map.eight_places)
 
     -- a slot of the map now is as it was, and outside of the group
-    was_slot : (slot : ℕ) (id : BlockId) → block_at (map_without_group slots first (length entry.group)) slot ≡ Some id → (block_at slots slot ≡ Some id) × ((slot < first) ⊎ (first + length entry.group ≤ slot))
+    was_slot : (slot : ℕ) (id : BlockId) → block_at (map_without_group slots first (length entry.group)) slot ≡ Some
+        id → (block_at slots slot ≡ Some id) × ((slot < first) ⊎ (first + length entry.group ≤ slot))
     was_slot slot id named =
         elim (at-put slots.places (replicate (length entry.group) None) first slot room) [
           | inl a ↦ absurd (at-cleared (length entry.group) (slot - first) id (sym a.2 ∙ named))
@@ -350,7 +393,8 @@ module _ (pool : Blocks) (maps : List (Slots BlockId)) (entries : List (Option M
         ]
 
     -- a slot of the group names a block of it
-    in_group : (slot : ℕ) (id : BlockId) → block_at slots slot ≡ Some id → first ≤ slot → slot < first + length entry.group → (slot - first < length entry.group) × (id.0 ≡ get_or entry.group (slot - first) 0)
+    in_group : (slot : ℕ) (id : BlockId) → block_at slots slot ≡ Some id → first ≤ slot → slot < first + length
+        entry.group → (slot - first < length entry.group) × (id.0 ≡ get_or entry.group (slot - first) 0)
     in_group slot id named low high =
         let k = slot - first in
         let here : first + k ≡ slot = omega arith in
@@ -373,7 +417,10 @@ module _ (pool : Blocks) (maps : List (Slots BlockId)) (entries : List (Option M
     low_outside slot id low named =
         outside_group slot id named (λ has. low_ungrouped pool maps entries sound process within slot id low named (record { number = number; entry = entry; is = is; has = has }))
 
-    grouped_left : (n : ℕ) (other : ModuleEntry) → module_entry_at entries n ≡ Some other → (slot k : ℕ) (id : BlockId) → block_at (map_without_group slots first (length entry.group)) slot ≡ Some id → k < length other.group → id.0 ≡ get_or other.group k 0 → (k ≤ slot) × BeginsAt (numbered_map (map_without_group slots first (length entry.group))) other.group (slot - k)
+    grouped_left : (n : ℕ) (other : ModuleEntry) → module_entry_at entries n ≡ Some other
+        → (slot k : ℕ) (id : BlockId) → block_at (map_without_group slots first (length entry.group)) slot ≡ Some id
+        → k < length other.group → id.0 ≡ get_or other.group k 0 → (k ≤ slot) × BeginsAt
+        (numbered_map (map_without_group slots first (length entry.group))) other.group (slot - k)
     grouped_left n other is_other slot k id named inside it =
         let old = was_slot slot id named in
         let was = held.grouped n other is_other slot k id old.0 inside it in
@@ -396,7 +443,9 @@ module _ (pool : Blocks) (maps : List (Slots BlockId)) (entries : List (Option M
               (λ j b here there is_it. slot_still (slot - k + j) (outside_group (slot - k + j) b there (apart j b here is_it)) ∙ there),
         )
 
-    pub IsSound-unmapped : IsPool after → IsMap (map_without_group slots first (length entry.group)) → NamesLiveBlocks (map_without_group slots first (length entry.group)) after → IsSound after (set maps process (map_without_group slots first (length entry.group))) entries
+    pub IsSound-unmapped : IsPool after → IsMap (map_without_group slots first (length entry.group))
+        → NamesLiveBlocks (map_without_group slots first (length entry.group)) after
+        → IsSound after (set maps process (map_without_group slots first (length entry.group))) entries
     IsSound-unmapped shape map_is live =
         IsSound-map pool maps entries sound after process within (map_without_group slots first (length entry.group)) shape
         (λ block. omega (arith, counts_given block, times-cleared slots.places first (length entry.group) block, counted_parts pool maps entries sound block, times-one_map block maps process))
@@ -415,22 +464,29 @@ module _ (pool : Blocks) (maps : List (Slots BlockId)) (entries : List (Option M
             by_place None at_slot some = absurd (false≢true some)
             by_place (Some id) at_slot some = ap is_some (slot_still slot (low_outside slot id low at_slot) ∙ at_slot)
 
-    pub represent-unmapped : (m : MemoryState) (tied : RepresentMemory pool maps entries m) → RepresentMemory after (set maps process (map_without_group slots first (length entry.group))) entries (group_unmapped m process (group_at m number))
+    pub represent-unmapped : (m : MemoryState) (tied : RepresentMemory pool maps entries m) → RepresentMemory after
+        (set maps process (map_without_group slots first (length entry.group))) entries
+        (group_unmapped m process (group_at m number))
     represent-unmapped m tied = record {
       number = tied.number;
       objects = tied.objects;
-      represent = subst (λ (p : Blocks). RepresentObjects tied.number p tied.objects) (sym given) (represent-given_all tied.number pool (blocks_between slots first (first + length entry.group)) tied.objects tied.represent);
+      represent = subst (λ (p : Blocks). RepresentObjects tied.number p tied.objects) (sym given)
+          (represent-given_all tied.number pool (blocks_between slots first (first + length entry.group)) tied.objects
+          tied.represent);
       is = ap (with_map m process)
           (ap (λ (slot : Option ℕ). option_map_or (λ first. map_without_group (map_at m process) first (length (group_at m number))) slot (map_at m process)) (group_slot-tied m tied ∙ found)
           ∙ (λ i. map_without_group (map_at-tied m tied i) first (length (group_at-tied m tied i)))
           ∙ ap (map_without_group (renamed_map tied.number slots) first) (length-map entry.group tied.number)
           ∙ sym (map_without_group-renamed tied.number slots first (length entry.group)))
           ∙ ap (λ (s : MemoryState). with_map s process (renamed_map tied.number (map_without_group slots first (length entry.group)))) tied.is
-          ∙ with_map-memory_of tied.number pool after maps entries tied.objects process (map_without_group slots first (length entry.group)) (ap (λ (p : Blocks). length p.counts) given ∙ length-given_all pool (blocks_between slots first (first + length entry.group)));
+          ∙ with_map-memory_of tied.number pool after maps entries tied.objects process (map_without_group slots first
+          (length entry.group)) (ap (λ (p : Blocks). length p.counts) given ∙ length-given_all pool
+          (blocks_between slots first (first + length entry.group)));
     }
 
   -- where it is not mapped, nothing changes
   pub represent-not_mapped : block_slot slots entry.group ≡ None → (m : MemoryState) (tied : RepresentMemory pool maps entries m) → group_unmapped m process (group_at m number) ≡ m
   represent-not_mapped nowhere m tied =
-      ap (with_map m process) (ap (λ (slot : Option ℕ). option_map_or (λ first. map_without_group (map_at m process) first (length (group_at m number))) slot (map_at m process)) (group_slot-tied m tied ∙ nowhere))
+      ap (with_map m process) (ap (λ (slot : Option ℕ). option_map_or (λ first. map_without_group (map_at m process)
+      first (length (group_at m number))) slot (map_at m process)) (group_slot-tied m tied ∙ nowhere))
       ∙ (λ i. record m { maps = set-get_or m.maps process no_slots i })

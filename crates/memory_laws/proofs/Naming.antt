@@ -40,7 +40,9 @@ pub map_at-memory_of : (number : ℕ → ℕ) (pool : Blocks) (maps : List (Slot
 map_at-memory_of number pool maps entries objects process within = get_or-map (renamed_map number) maps process no_slots no_slots within
 
 -- another map of a process, over blocks that are as many
-pub with_map-memory_of : (number : ℕ → ℕ) (pool after : Blocks) (maps : List (Slots BlockId)) (entries : List (Option ModuleEntry)) (objects : List (List ℕ)) (process : ℕ) (new : Slots BlockId) → length after.counts ≡ length pool.counts
+pub with_map-memory_of : (number : ℕ → ℕ) (pool after : Blocks) (maps : List (Slots BlockId))
+    (entries : List (Option ModuleEntry)) (objects : List (List ℕ)) (process : ℕ) (new : Slots BlockId)
+    → length after.counts ≡ length pool.counts
     → with_map (memory_of number pool maps entries objects) process (renamed_map number new) ≡ memory_of number after (set maps process new) entries objects
 with_map-memory_of number pool after maps entries objects process new many =
     λ i. record {
@@ -52,7 +54,9 @@ with_map-memory_of number pool after maps entries objects process new many =
 
 -- blocks with the same numbers
 module _ (one other : ℕ → ℕ) where
-  renamed_places-same : (places : List (Option BlockId)) → ((slot : ℕ) (id : BlockId) → get_or places slot None ≡ Some id → one id.0 ≡ other id.0) → map (option_map (λ (id : BlockId). one id.0)) places ≡ map (option_map (λ (id : BlockId). other id.0)) places
+  renamed_places-same : (places : List (Option BlockId)) → ((slot : ℕ) (id : BlockId) → get_or places slot None ≡ Some
+      id → one id.0 ≡ other id.0) → map (option_map (λ (id : BlockId). one id.0)) places ≡ map
+      (option_map (λ (id : BlockId). other id.0)) places
   renamed_places-same [] same = refl
   renamed_places-same (None ∷ places) same = ap (λ (rest : List (Option ℕ)). None ∷ rest) (renamed_places-same places (λ slot. same (suc slot)))
   renamed_places-same (Some id ∷ places) same = λ i. Some (same 0 id refl i) ∷ renamed_places-same places (λ slot. same (suc slot)) i
@@ -60,7 +64,9 @@ module _ (one other : ℕ → ℕ) where
   pub renamed_map-same : (slots : Slots BlockId) → ((slot : ℕ) (id : BlockId) → block_at slots slot ≡ Some id → one id.0 ≡ other id.0) → renamed_map one slots ≡ renamed_map other slots
   renamed_map-same slots same = λ i. record { places = renamed_places-same slots.places same i; low = slots.low; groups = slots.groups }
 
-  pub renamed_maps-same : (maps : List (Slots BlockId)) → ((process slot : ℕ) (id : BlockId) → block_at (get_or maps process no_slots) slot ≡ Some id → one id.0 ≡ other id.0) → map (renamed_map one) maps ≡ map (renamed_map other) maps
+  pub renamed_maps-same : (maps : List (Slots BlockId)) → ((process slot : ℕ) (id : BlockId)
+      → block_at (get_or maps process no_slots) slot ≡ Some id → one id.0 ≡ other id.0) → map (renamed_map one) maps ≡
+      map (renamed_map other) maps
   renamed_maps-same [] same = refl
   renamed_maps-same (first ∷ maps) same = λ i. renamed_map-same first (same 0) i ∷ renamed_maps-same maps (λ process. same (suc process)) i
 
@@ -68,7 +74,9 @@ module _ (one other : ℕ → ℕ) where
   numbers-same [] same = refl
   numbers-same (block ∷ blocks) same = λ i. same 0 (omega arith) i ∷ numbers-same blocks (λ k within. same (suc k) (omega arith)) i
 
-  pub renamed_modules-same : (entries : List (Option ModuleEntry)) → ((number : ℕ) (entry : ModuleEntry) → module_entry_at entries number ≡ Some entry → (k : ℕ) → k < length entry.group → one (get_or entry.group k 0) ≡ other (get_or entry.group k 0)) → renamed_modules one entries ≡ renamed_modules other entries
+  pub renamed_modules-same : (entries : List (Option ModuleEntry)) → ((number : ℕ) (entry : ModuleEntry)
+      → module_entry_at entries number ≡ Some entry → (k : ℕ) → k < length entry.group → one (get_or entry.group k 0)
+      ≡ other (get_or entry.group k 0)) → renamed_modules one entries ≡ renamed_modules other entries
   renamed_modules-same [] same = refl
   renamed_modules-same (None ∷ entries) same = ap (λ (rest : List (Option ModuleEntry)). None ∷ rest) (renamed_modules-same entries (λ number. same (suc number)))
   renamed_modules-same (Some entry ∷ entries) same =
@@ -90,7 +98,9 @@ module _ (number : ℕ → ℕ) (Live : ℕ → Type 0) (apart : (one other : �
       ] in
       λ i. first i && pointwise-renamed group other (All-tail Live x group live) (All-tail Live y other live_too) i
 
-  listed-renamed : (group : List ℕ) (groups : List (List ℕ)) → All Live group → All (All Live) groups → list_any (pointwise nat_eq (map number group)) (map (map number) groups) ≡ list_any (pointwise nat_eq group) groups
+  listed-renamed : (group : List ℕ) (groups : List (List ℕ)) → All Live group → All (All Live) groups
+      → list_any (pointwise nat_eq (map number group)) (map (map number) groups) ≡ list_any (pointwise nat_eq group)
+      groups
   listed-renamed group [] live each = refl
   listed-renamed group (first ∷ groups) live each =
       λ i. pointwise-renamed group first live (All-head (All Live) first groups each) i || listed-renamed group groups live (All-tail (All Live) first groups each) i
@@ -113,10 +123,14 @@ module _ (number : ℕ → ℕ) (Live : ℕ → Type 0) (apart : (one other : �
   entered_groups-renamed (Some first ∷ entries) each =
       let rest = entered_groups-renamed entries (λ n. each (suc n)) in
       ap (λ (groups : List (List ℕ)). if list_any (pointwise nat_eq (map number first.group)) groups then groups else map number first.group ∷ groups) rest
-      ∙ ap (λ (test : Bool). if test then map (map number) (entered_groups entries) else map number first.group ∷ map (map number) (entered_groups entries)) (listed-renamed first.group (entered_groups entries) (each 0 first refl) (groups_live entries (λ n. each (suc n))))
+      ∙ ap (λ (test : Bool). if test then map (map number) (entered_groups entries) else map number first.group ∷ map
+      (map number) (entered_groups entries)) (listed-renamed first.group (entered_groups entries)
+      (each 0 first refl) (groups_live entries (λ n. each (suc n))))
       ∙ by_test (list_any (pointwise nat_eq first.group) (entered_groups entries))
     where
-      by_test : (test : Bool) → (if test then map (map number) (entered_groups entries) else map number first.group ∷ map (map number) (entered_groups entries)) ≡ map (map number) (if test then entered_groups entries else first.group ∷ entered_groups entries)
+      by_test : (test : Bool) → (if test then map (map number) (entered_groups entries) else map number first.group ∷
+          map (map number) (entered_groups entries)) ≡ map (map number) (if test then entered_groups entries else
+          first.group ∷ entered_groups entries)
       by_test true = refl
       by_test false = refl
 
@@ -129,7 +143,9 @@ module _ (number : ℕ → ℕ) (Live : ℕ → Type 0) (apart : (one other : �
 
 -- ---- free blocks
 
-module _ (pool : Blocks) (maps : List (Slots BlockId)) (entries : List (Option ModuleEntry)) (sound : IsSound pool maps entries) (number : ℕ → ℕ) (objects : List (List ℕ)) (represent : RepresentObjects number pool objects) where
+module _ (pool : Blocks) (maps : List (Slots BlockId)) (entries : List (Option ModuleEntry))
+    (sound : IsSound pool maps entries) (number : ℕ → ℕ) (objects : List (List ℕ)) (represent : RepresentObjects
+    number pool objects) where
   pub groups_are_live : (n : ℕ) (entry : ModuleEntry) → module_entry_at entries n ≡ Some entry → All (IsLive pool) entry.group
   groups_are_live n entry is = λ k d within. subst (IsLive pool) (get_or_default entry.group k 0 d within) (group_live pool maps entries sound n entry is k within)
 

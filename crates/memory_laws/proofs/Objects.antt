@@ -37,12 +37,16 @@ record Leads (objects : List (List ℕ)) (places : List (Option ℕ)) (at : ℕ)
 leads : (objects : List (List ℕ)) (places : List (Option ℕ)) (at : ℕ) → is_some (object_cells objects places at) ≡ true → Leads objects places at
 leads objects places at named = by_slot (slot_of places (at / 8192)) refl named
   where
-    by_byte : (number : ℕ) → slot_of places (at / 8192) ≡ Some number → (object : List ℕ) → slice_get objects number ≡ Some object → (byte : Option ℕ) → slice_get object (at % 8192) ≡ byte → is_some byte ≡ true → Leads objects places at
+    by_byte : (number : ℕ) → slot_of places (at / 8192) ≡ Some number → (object : List ℕ) → slice_get objects number ≡
+        Some object → (byte : Option ℕ) → slice_get object (at % 8192) ≡ byte → is_some byte ≡ true
+        → Leads objects places at
     by_byte number is_slot object is_object None is_byte named = cc
     by_byte number is_slot object is_object (Some old) is_byte named =
         record { number = number; object = object; old = old; is_slot = is_slot; is_object = is_object; is_byte = is_byte }
 
-    by_object : (number : ℕ) → slot_of places (at / 8192) ≡ Some number → (object : Option (List ℕ)) → slice_get objects number ≡ object → is_some (option_and_then (λ object. slice_get object (at % 8192)) object) ≡ true → Leads objects places at
+    by_object : (number : ℕ) → slot_of places (at / 8192) ≡ Some number → (object : Option (List ℕ))
+        → slice_get objects number ≡ object → is_some (option_and_then (λ object. slice_get object (at % 8192))
+        object) ≡ true → Leads objects places at
     by_object number is_slot None is_object named = cc
     by_object number is_slot (Some object) is_object named =
         by_byte number is_slot object is_object (slice_get object (at % 8192)) refl named
@@ -66,7 +70,9 @@ module _ (objects : List (List ℕ)) (places : List (Option ℕ)) (at byte : ℕ
   -- the object has the byte at the offset
   same_object : object_byte (with_cell objects places at byte) (at % 8192) here.number ≡ Some byte
   same_object =
-      rw (written, slice_get-set_same objects here.number (slice_set here.object (at % 8192) byte) in_objects) (slice_get-set_same here.object (at % 8192) byte (slice_get_within here.object (at % 8192) here.old here.is_byte))
+      rw (written, slice_get-set_same objects here.number (slice_set here.object (at % 8192) byte) in_objects)
+      (slice_get-set_same here.object (at % 8192) byte (slice_get_within here.object (at % 8192) here.old
+      here.is_byte))
 
   -- and its other bytes still
   other_byte : (offset : ℕ) → offset ≢ at % 8192 → object_byte (with_cell objects places at byte) offset here.number ≡ object_byte objects offset here.number
@@ -84,10 +90,17 @@ module _ (objects : List (List ℕ)) (places : List (Option ℕ)) (at byte : ℕ
   cell_after : (address : ℕ) → object_cells (with_cell objects places at byte) places address ≡ put_cell (object_cells objects places) at byte address
   cell_after address = by_slot (slot_of places (address / 8192)) refl
     where
-      kept : (number : ℕ) → slot_of places (address / 8192) ≡ Some number → (slot_of places (address / 8192) ≡ Some here.number → address % 8192 ≡ at % 8192 → ⊥) → object_byte (with_cell objects places at byte) (address % 8192) number ≡ object_byte objects (address % 8192) number → object_cells (with_cell objects places at byte) places address ≡ put_cell (object_cells objects places) at byte address
+      kept : (number : ℕ) → slot_of places (address / 8192) ≡ Some number
+          → (slot_of places (address / 8192) ≡ Some here.number → address % 8192 ≡ at % 8192 → ⊥)
+          → object_byte (with_cell objects places at byte) (address % 8192) number ≡ object_byte objects
+          (address % 8192) number → object_cells (with_cell objects places at byte) places address ≡ put_cell
+          (object_cells objects places) at byte address
       kept number is differ same = rw (not_here address differ, is) same
 
-      by_offset : (number : ℕ) → slot_of places (address / 8192) ≡ Some number → number ≡ here.number → (address % 8192 ≡ at % 8192) ⊎ (address % 8192 ≢ at % 8192) → object_cells (with_cell objects places at byte) places address ≡ put_cell (object_cells objects places) at byte address
+      by_offset : (number : ℕ) → slot_of places (address / 8192) ≡ Some number → number ≡ here.number
+          → (address % 8192 ≡ at % 8192) ⊎ (address % 8192 ≢ at % 8192)
+          → object_cells (with_cell objects places at byte) places address ≡ put_cell (object_cells objects places) at
+          byte address
       by_offset number is same (inl offset) =
           let slot : address / 8192 ≡ at / 8192 = map.apart (address / 8192) (at / 8192) here.number (rw (← same) is) here.is_slot in
           let here_it_is : address ≡ at = omega arith in
@@ -95,7 +108,9 @@ module _ (objects : List (List ℕ)) (places : List (Option ℕ)) (at byte : ℕ
       by_offset number is same (inr offset) =
           kept number is (λ _ e. offset e) (rw same (other_byte (address % 8192) offset))
 
-      by_number : (number : ℕ) → slot_of places (address / 8192) ≡ Some number → (number ≡ here.number) ⊎ (number ≢ here.number) → object_cells (with_cell objects places at byte) places address ≡ put_cell (object_cells objects places) at byte address
+      by_number : (number : ℕ) → slot_of places (address / 8192) ≡ Some number → (number ≡ here.number) ⊎
+          (number ≢ here.number) → object_cells (with_cell objects places at byte) places address ≡ put_cell
+          (object_cells objects places) at byte address
       by_number number is (inl same) = by_offset number is same (cases_eq (address % 8192) (at % 8192))
       by_number number is (inr differ) =
           kept number is (λ other _. differ (cc (is, other))) (other_object number (address % 8192) differ)
@@ -111,10 +126,13 @@ module _ (objects : List (List ℕ)) (places : List (Option ℕ)) (at byte : ℕ
   }
 
 -- the cells of a map after a write at a named address
-pub cells_of-with_cell : (objects : List (List ℕ)) (places : List (Option ℕ)) (at byte : ℕ) → NamesObjects objects places → is_some (object_cells objects places at) ≡ true → object_cells (with_cell objects places at byte) places ≡ put_cell (object_cells objects places) at byte
+pub cells_of-with_cell : (objects : List (List ℕ)) (places : List (Option ℕ)) (at byte : ℕ) → NamesObjects objects
+    places → is_some (object_cells objects places at) ≡ true → object_cells (with_cell objects places at byte) places
+    ≡ put_cell (object_cells objects places) at byte
 cells_of-with_cell objects places at byte map named = λ i address. cell_after objects places at byte map (leads objects places at named) address i
 
-pub IsMap-with_cell : (objects : List (List ℕ)) (places : List (Option ℕ)) (at byte : ℕ) → NamesObjects objects places → is_some (object_cells objects places at) ≡ true → NamesObjects (with_cell objects places at byte) places
+pub IsMap-with_cell : (objects : List (List ℕ)) (places : List (Option ℕ)) (at byte : ℕ) → NamesObjects objects places
+    → is_some (object_cells objects places at) ≡ true → NamesObjects (with_cell objects places at byte) places
 IsMap-with_cell objects places at byte map named = map_after objects places at byte map (leads objects places at named)
 
 -- ---- the writes of an instruction
@@ -138,10 +156,15 @@ all_named_after cells at byte (write ∷ writes) named =
     rw (named_after cells at byte write.0 parts.0) (all_named_after cells at byte writes parts.1)
 
 -- the objects after the writes are a map's still, and its cells are those written
-pub with_writes-tied : (objects : List (List ℕ)) (places : List (Option ℕ)) (writes : List (ℕ × ℕ)) → NamesObjects objects places → all_named (object_cells objects places) writes ≡ true → NamesObjects (with_writes objects places writes) places × (object_cells (with_writes objects places writes) places ≡ write_cells (object_cells objects places) writes)
+pub with_writes-tied : (objects : List (List ℕ)) (places : List (Option ℕ)) (writes : List (ℕ × ℕ))
+    → NamesObjects objects places → all_named (object_cells objects places) writes ≡ true
+    → NamesObjects (with_writes objects places writes) places × (object_cells (with_writes objects places writes)
+    places ≡ write_cells (object_cells objects places) writes)
 with_writes-tied objects places [] map named = (map, refl)
 with_writes-tied objects places (write ∷ writes) map named =
     let parts = both_true (is_some (object_cells objects places write.0)) (all_named (object_cells objects places) writes) named in
     let first = cells_of-with_cell objects places write.0 write.1 map parts.0 in
-    let rest = with_writes-tied (with_cell objects places write.0 write.1) places writes (IsMap-with_cell objects places write.0 write.1 map parts.0) (rw first (all_named_after (object_cells objects places) write.0 write.1 writes parts.1)) in
+    let rest = with_writes-tied (with_cell objects places write.0 write.1) places writes
+    (IsMap-with_cell objects places write.0 write.1 map parts.0)
+    (rw first (all_named_after (object_cells objects places) write.0 write.1 writes parts.1)) in
     (rest.0, rest.1 ∙ ap (λ cells. write_cells cells writes) first)

@@ -12,7 +12,9 @@ use Rattle.memory_laws.specs.Renaming.{renamed_entry, renamed_modules}
 
 module _ (number : ℕ → ℕ) where
   -- a test that does not look at the group
-  some_entry-renamed : (test : ModuleEntry → Bool) → ((entry : ModuleEntry) → test (renamed_entry number entry) ≡ test entry) → (entries : List (Option ModuleEntry)) → some_entry test (renamed_modules number entries) ≡ some_entry test entries
+  some_entry-renamed : (test : ModuleEntry → Bool) → ((entry : ModuleEntry) → test (renamed_entry number entry) ≡ test
+      entry) → (entries : List (Option ModuleEntry)) → some_entry test (renamed_modules number entries) ≡ some_entry
+      test entries
   some_entry-renamed test same [] = refl
   some_entry-renamed test same (None ∷ entries) = some_entry-renamed test same entries
   some_entry-renamed test same (Some entry ∷ entries) =
@@ -55,15 +57,23 @@ module _ (number : ℕ → ℕ) where
       same (Some entry) = rw (is_shadowed-renamed entries entry.info) refl
 
   -- an entry that is put
-  pub with_entry-renamed : (entries : List (Option ModuleEntry)) (place : ℕ) (entry : ModuleEntry) → with_module_entry (renamed_modules number entries) place (renamed_entry number entry) ≡ renamed_modules number (with_module_entry entries place entry)
+  pub with_entry-renamed : (entries : List (Option ModuleEntry)) (place : ℕ) (entry : ModuleEntry) → with_module_entry
+      (renamed_modules number entries) place (renamed_entry number entry) ≡ renamed_modules number
+      (with_module_entry entries place entry)
   with_entry-renamed entries place entry = sym (map-set (option_map (renamed_entry number)) entries place (Some entry))
 
-  pub with_module-renamed : (entries : List (Option ModuleEntry)) (info : ModuleInfo) (group : List ℕ) (is_boot : Bool) → with_module (renamed_modules number entries) info (map number group) is_boot ≡ renamed_modules number (with_module entries info group is_boot)
+  pub with_module-renamed : (entries : List (Option ModuleEntry)) (info : ModuleInfo) (group : List ℕ)
+      (is_boot : Bool) → with_module (renamed_modules number entries) info (map number group) is_boot ≡
+      renamed_modules number (with_module entries info group is_boot)
   with_module-renamed entries info group is_boot =
-      ap (λ (free : Option ℕ). option_map_or (λ place. with_module_entry (renamed_modules number entries) place (new_entry info (map number group) is_boot)) free (renamed_modules number entries)) (position-is_none (renamed_entry number) entries)
+      ap (λ (free : Option ℕ). option_map_or (λ place. with_module_entry (renamed_modules number entries) place
+      (new_entry info (map number group) is_boot)) free (renamed_modules number entries))
+      (position-is_none (renamed_entry number) entries)
       ∙ by_place (free_number entries)
     where
-      by_place : (free : Option ℕ) → option_map_or (λ place. with_module_entry (renamed_modules number entries) place (new_entry info (map number group) is_boot)) free (renamed_modules number entries) ≡ renamed_modules number (option_map_or (λ place. with_module_entry entries place (new_entry info group is_boot)) free entries)
+      by_place : (free : Option ℕ) → option_map_or (λ place. with_module_entry (renamed_modules number entries) place
+          (new_entry info (map number group) is_boot)) free (renamed_modules number entries) ≡ renamed_modules number
+          (option_map_or (λ place. with_module_entry entries place (new_entry info group is_boot)) free entries)
       by_place None = refl
       by_place (Some place) = with_entry-renamed entries place (new_entry info group is_boot)
 
@@ -79,4 +89,6 @@ Enters-renamed number (broken fault) = broken fault
 Enters-renamed number {entries = entries} (refused {info = info} next why) = refused next (refusal_of-renamed number entries info ∙ why)
 Enters-renamed number {file} {group} {is_boot} {entries = entries} {outcome = outcome} (entered {info = info} next fits rest) =
     entered next (refusal_of-renamed number entries info ∙ fits)
-    (subst (λ list. EntersModules file (map number group) is_boot (info.at + info.size) list (renamed_outcome number outcome)) (sym (with_module-renamed number entries info group is_boot)) (Enters-renamed number rest))
+    (subst (λ list. EntersModules file (map number group) is_boot (info.at + info.size) list
+    (renamed_outcome number outcome)) (sym (with_module-renamed number entries info group is_boot))
+    (Enters-renamed number rest))

@@ -40,7 +40,9 @@ numbered-other (id ∷ ids) next number block others =
 pub map-numbered : (ids : List BlockId) (next : ℕ) (number : ℕ → ℕ) → AllPairs (λ a b. a ≢ b) ids → map (λ (id : BlockId). numbered ids next number id.0) ids ≡ range_with_len next (length ids)
 map-numbered [] next number different = refl
 map-numbered (id ∷ ids) next number different =
-    let apart : All (λ (other : BlockId). other.0 ≢ id.0) ids = All-weaker (λ other. id ≢ other) (λ other. other.0 ≢ id.0) (λ other differ same. differ (same_id id other (sym same))) ids (AllPairs-head (λ a b. a ≢ b) id ids different) in
+    let apart : All (λ (other : BlockId). other.0 ≢ id.0) ids = All-weaker (λ other. id ≢ other)
+    (λ other. other.0 ≢ id.0) (λ other differ same. differ (same_id id other (sym same))) ids
+    (AllPairs-head (λ a b. a ≢ b) id ids different) in
     let first : numbered ids (next + 1) (renumbered number id.0 next) id.0 ≡ next =
     numbered-other ids (next + 1) (renumbered number id.0 next) id.0 apart ∙ cond-true {A = ℕ} (id.0 == id.0) next (number id.0) (eq-eqb id.0 id.0 refl) in
     ap (λ (n : ℕ). n ∷ map (λ (other : BlockId). numbered ids (next + 1) (renumbered number id.0 next) other.0) ids) first
@@ -60,7 +62,8 @@ abbrev no_block : BlockId
 no_block = record { 0 = 0 }
 
 -- new blocks represent new objects, in order
-module _ (number : ℕ → ℕ) (before after : Blocks) (objects contents : List (List ℕ)) (group : List BlockId) (stand_for : RepresentObjects number before objects) (gains : GainsBlocks before group contents after) where
+module _ (number : ℕ → ℕ) (before after : Blocks) (objects contents : List (List ℕ)) (group : List BlockId)
+    (stand_for : RepresentObjects number before objects) (gains : GainsBlocks before group contents after) where
   abbrev later : ℕ → ℕ
   later = numbered group (length objects) number
 
@@ -163,15 +166,20 @@ shared_live pool block other here live =
       | inr differ ↦ omega (arith, get_or-set_other pool.counts block other (reference_count pool block + 1) 0 differ)
     ]
 
-pub StandFor-shared : (number : ℕ → ℕ) (pool : Blocks) (objects : List (List ℕ)) (block : ℕ) → RepresentObjects number pool objects → IsLive pool block → RepresentObjects number (pool_after_share pool block) objects
+pub StandFor-shared : (number : ℕ → ℕ) (pool : Blocks) (objects : List (List ℕ)) (block : ℕ) → RepresentObjects number
+    pool objects → IsLive pool block → RepresentObjects number (pool_after_share pool block) objects
 StandFor-shared number pool objects block stand_for here = record {
   same_bytes = λ other live. stand_for.same_bytes other (shared_live pool block other here live);
   apart = λ one other live live_too. stand_for.apart one other (shared_live pool block one here live) (shared_live pool block other here live_too);
 }
 
-pub StandFor-shared_all : (number : ℕ → ℕ) (pool : Blocks) (objects : List (List ℕ)) (ids : List BlockId) → RepresentObjects number pool objects → All (λ id. IsLive pool id.0) ids → RepresentObjects number (pool_after_sharing pool ids) objects
+pub StandFor-shared_all : (number : ℕ → ℕ) (pool : Blocks) (objects : List (List ℕ)) (ids : List BlockId)
+    → RepresentObjects number pool objects → All (λ id. IsLive pool id.0) ids → RepresentObjects number
+    (pool_after_sharing pool ids) objects
 StandFor-shared_all number pool objects [] stand_for live = stand_for
 StandFor-shared_all number pool objects (id ∷ ids) stand_for live =
     let here = All-head (λ (id : BlockId). IsLive pool id.0) id ids live in
-    let rest = All-weaker (λ (other : BlockId). IsLive pool other.0) (λ (other : BlockId). IsLive (pool_after_share pool id.0) other.0) (λ other old. omega (arith, (count_of-shared pool id.0 other.0).0)) ids (All-tail (λ (id : BlockId). IsLive pool id.0) id ids live) in
+    let rest = All-weaker (λ (other : BlockId). IsLive pool other.0) (λ (other : BlockId). IsLive
+    (pool_after_share pool id.0) other.0) (λ other old. omega (arith, (count_of-shared pool id.0 other.0).0)) ids
+    (All-tail (λ (id : BlockId). IsLive pool id.0) id ids live) in
     StandFor-shared_all number (pool_after_share pool id.0) objects ids (StandFor-shared number pool objects id.0 stand_for here) rest

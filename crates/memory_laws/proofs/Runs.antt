@@ -51,7 +51,8 @@ highest_upto slots eight len zero = by_test (cases_Bool (is_free_run slots 0 len
         subst (IsHighestUpto slots len 0) (sym (cond-true (is_free_run slots 0 len) (Some 0) None passed)) ((is_free_run-iff slots eight 0 len).0 passed, λ higher below run. below)
     by_test (inr failed) =
         subst (IsHighestUpto slots len 0) (sym (cond-false (is_free_run slots 0 len) (Some 0) None failed))
-        (λ first below run. let none : first ≡ 0 = omega arith in both_ways (is_free_run slots 0 len) failed ((is_free_run-iff slots eight 0 len).1 (subst (λ (k : ℕ). IsFreeRun slots k len) none run)))
+        (λ first below run. let none : first ≡ 0 = omega arith in both_ways (is_free_run slots 0 len) failed
+        ((is_free_run-iff slots eight 0 len).1 (subst (λ (k : ℕ). IsFreeRun slots k len) none run)))
 highest_upto slots eight len (suc last) = by_test (cases_Bool (is_free_run slots (suc last) len)) (highest_run_upto slots len last) (highest_upto slots eight len last)
   where
     not_here : is_free_run slots (suc last) len ≡ false → (first : ℕ) → first ≤ suc last → IsFreeRun slots first len → first ≤ last
@@ -65,9 +66,13 @@ highest_upto slots eight len (suc last) = by_test (cases_Bool (is_free_run slots
     later failed None none = λ first below run. none first (not_here failed first below run) run
     later failed (Some found) is = (is.0, λ higher below run. is.1 higher (not_here failed higher below run) run)
 
-    by_test : (is_free_run slots (suc last) len ≡ true) ⊎ (is_free_run slots (suc last) len ≡ false) → (found : Option ℕ) → IsHighestUpto slots len last found → IsHighestUpto slots len (suc last) (if is_free_run slots (suc last) len then Some (suc last) else found)
+    by_test : (is_free_run slots (suc last) len ≡ true) ⊎ (is_free_run slots (suc last) len ≡ false)
+        → (found : Option ℕ) → IsHighestUpto slots len last found → IsHighestUpto slots len (suc last)
+        (if is_free_run slots (suc last) len then Some (suc last) else found)
     by_test (inl passed) found is =
-        subst (IsHighestUpto slots len (suc last)) (sym (cond-true (is_free_run slots (suc last) len) (Some (suc last)) found passed)) ((is_free_run-iff slots eight (suc last) len).0 passed, λ higher below run. below)
+        subst (IsHighestUpto slots len (suc last))
+        (sym (cond-true (is_free_run slots (suc last) len) (Some (suc last)) found passed))
+        ((is_free_run-iff slots eight (suc last) len).0 passed, λ higher below run. below)
     by_test (inr failed) found is =
         subst (IsHighestUpto slots len (suc last)) (sym (cond-false (is_free_run slots (suc last) len) (Some (suc last)) found failed)) (later failed found is)
 
@@ -119,7 +124,9 @@ module _ (number : ℕ → ℕ) where
   put-renamed places new first =
       map-append rename (take first places) (new ++ drop (first + length new) places)
       ∙ ap (λ (back : List (Option ℕ)). map rename (take first places) ++ back) (map-append rename new (drop (first + length new) places))
-      ∙ (λ i. sym (take-map rename first places) i ++ (map rename new ++ (sym (drop-map rename (first + length new) places) ∙ ap (λ (k : ℕ). drop (first + k) (map rename places)) (sym (length-map new rename))) i))
+      ∙ (λ i. sym (take-map rename first places) i ++
+      (map rename new ++ (sym (drop-map rename (first + length new) places) ∙ ap (λ (k : ℕ). drop (first + k)
+      (map rename places)) (sym (length-map new rename))) i))
 
   filled-renamed : (ids : List BlockId) → map rename (filled_places ids) ≡ filled_places (map (λ (id : BlockId). number id.0) ids)
   filled-renamed [] = refl
@@ -148,7 +155,9 @@ module _ (number : ℕ → ℕ) where
       }
 
   -- a group
-  pub with_group-renamed : (slots : Slots BlockId) (first : ℕ) (ids : List BlockId) → renamed_map number (with_group slots first ids) ≡ with_group (renamed_map number slots) first (map (λ (id : BlockId). number id.0) ids)
+  pub with_group-renamed : (slots : Slots BlockId) (first : ℕ) (ids : List BlockId) → renamed_map number
+      (with_group slots first ids) ≡ with_group (renamed_map number slots) first (map (λ (id : BlockId). number id.0)
+      ids)
   with_group-renamed slots first ids =
       λ i. record {
         places = (put-renamed slots.places (filled_places ids) first ∙ ap (put_places (map rename slots.places) first) (filled-renamed ids)) i;

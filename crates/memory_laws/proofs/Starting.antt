@@ -53,7 +53,9 @@ free-giving pool [] = omega arith
 free-giving pool (id ∷ ids) = omega (arith, free-give pool id.0, free-giving (pool_after_give pool id.0) ids)
 
 -- each block that was counted once is free then
-free-alone : (pool : Blocks) (ids : List BlockId) → All (λ id. reference_count pool id.0 ≡ 1) ids → AllPairs (λ a b. a.0 ≢ b.0) ids → free_block_count (pool_after_giving pool ids) ≡ free_block_count pool + length ids
+free-alone : (pool : Blocks) (ids : List BlockId) → All (λ id. reference_count pool id.0 ≡ 1) ids
+    → AllPairs (λ a b. a.0 ≢ b.0) ids → free_block_count (pool_after_giving pool ids) ≡ free_block_count pool + length
+    ids
 free-alone pool [] once different = omega arith
 free-alone pool (id ∷ ids) once different =
     let one : reference_count pool id.0 ≡ 1 = All-head (λ (id : BlockId). reference_count pool id.0 ≡ 1) id ids once in
@@ -109,12 +111,16 @@ module _ (pool : Blocks) (maps : List (Slots BlockId)) (entries : List (Option M
   pub free-cleared : free_block_count pool + slots.low ≤ free_block_count (pool_after_giving pool (blocks_in slots.places))
   free-cleared =
       let rest = drop slots.low slots.places in
-      let whole : blocks_in slots.places ≡ blocks_in area ++ blocks_in rest = ap blocks_in (sym (take-append-drop slots.low slots.places)) ∙ filter_map-append (λ (place : Option BlockId). place) area rest in
+      let whole : blocks_in slots.places ≡ blocks_in area ++ blocks_in rest = ap blocks_in
+      (sym (take-append-drop slots.low slots.places)) ∙ filter_map-append (λ (place : Option BlockId). place) area
+      rest in
       let parts : pool_after_giving pool (blocks_in slots.places) ≡ pool_after_giving (pool_after_giving pool (blocks_in area)) (blocks_in rest) =
       ap (pool_after_giving pool) whole ∙ fold-append (λ (p : Blocks) (id : BlockId). pool_after_give p id.0) pool (blocks_in area) (blocks_in rest) in
       let once : All (λ (id : BlockId). reference_count pool id.0 ≡ 1) (blocks_in area) = λ k d inside. held.alone k (get_or (blocks_in area) k d) (omega (arith, area_many)) (area_block k d inside) in
       let different : AllPairs (λ (a b : BlockId). a.0 ≢ b.0) (blocks_in area) = λ i j d below inside same.
-      let again : i ≡ j = held.map.once i j (get_or (blocks_in area) j d) (area_block i d (omega arith) ∙ ap (λ (id : BlockId). Some id) (same_id (get_or (blocks_in area) i d) (get_or (blocks_in area) j d) same)) (area_block j d inside) in
+      let again : i ≡ j = held.map.once i j (get_or (blocks_in area) j d) (area_block i d (omega arith) ∙ ap
+      (λ (id : BlockId). Some id) (same_id (get_or (blocks_in area) i d) (get_or (blocks_in area) j d) same))
+      (area_block j d inside) in
       absurd (omega arith) in
       omega (
         arith,

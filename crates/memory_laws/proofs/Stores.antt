@@ -23,10 +23,13 @@ use Rattle.memory_laws.specs.Renaming.{RepresentObjects}
 -- ---- what writes do to one object
 
 -- an object that no slot names
-with_cell-other : (objects : List (List ℕ)) (places : List (Option ℕ)) (address byte other : ℕ) → ((slot : ℕ) → slot_of places slot ≡ Some other → ⊥) → slice_get (with_cell objects places address byte) other ≡ slice_get objects other
+with_cell-other : (objects : List (List ℕ)) (places : List (Option ℕ)) (address byte other : ℕ)
+    → ((slot : ℕ) → slot_of places slot ≡ Some other → ⊥) → slice_get (with_cell objects places address byte) other ≡
+    slice_get objects other
 with_cell-other objects places address byte other unnamed = by_slot (slot_of places (address / 8192)) refl
   where
-    by_object : (number : ℕ) → other ≢ number → (object : Option (List ℕ)) → slice_get objects number ≡ object → slice_get (with_object_byte objects (address % 8192) byte (Some number)) other ≡ slice_get objects other
+    by_object : (number : ℕ) → other ≢ number → (object : Option (List ℕ)) → slice_get objects number ≡ object
+        → slice_get (with_object_byte objects (address % 8192) byte (Some number)) other ≡ slice_get objects other
     by_object number apart None is = rw is refl
     by_object number apart (Some object) is = rw is (slice_get-set_other objects number other (slice_set object (address % 8192) byte) apart)
 
@@ -34,7 +37,9 @@ with_cell-other objects places address byte other unnamed = by_slot (slot_of pla
     by_slot None is = refl
     by_slot (Some number) is = by_object number (λ same. unnamed (address / 8192) (is ∙ ap Some (sym same))) (slice_get objects number) refl
 
-with_writes-other : (objects : List (List ℕ)) (places : List (Option ℕ)) (writes : List (ℕ × ℕ)) (other : ℕ) → ((slot : ℕ) → slot_of places slot ≡ Some other → ⊥) → slice_get (with_writes objects places writes) other ≡ slice_get objects other
+with_writes-other : (objects : List (List ℕ)) (places : List (Option ℕ)) (writes : List (ℕ × ℕ)) (other : ℕ)
+    → ((slot : ℕ) → slot_of places slot ≡ Some other → ⊥) → slice_get (with_writes objects places writes) other ≡
+    slice_get objects other
 with_writes-other objects places [] other unnamed = refl
 with_writes-other objects places (write ∷ writes) other unnamed =
     with_writes-other (with_cell objects places write.0 write.1) places writes other unnamed ∙ with_cell-other objects places write.0 write.1 other unnamed
@@ -48,7 +53,8 @@ IsObject-with_cell : (objects : List (List ℕ)) (places : List (Option ℕ)) (a
 unfolding IsObject
 IsObject-with_cell objects places address byte this size (bytes, there, long) = by_slot (slot_of places (address / 8192))
   where
-    by_place : (number : ℕ) (object : List ℕ) → slice_get objects number ≡ Some object → (this ≡ number) ⊎ (this ≢ number) → IsObject (slice_set objects number (slice_set object (address % 8192) byte)) this size
+    by_place : (number : ℕ) (object : List ℕ) → slice_get objects number ≡ Some object → (this ≡ number) ⊎
+        (this ≢ number) → IsObject (slice_set objects number (slice_set object (address % 8192) byte)) this size
     by_place number object is (inl same) =
         let now = slice_set object (address % 8192) byte in
         let it_is : bytes ≡ object = same_Some bytes object (sym there ∙ ap (λ n. slice_get objects n) same ∙ is) in
@@ -63,13 +69,16 @@ IsObject-with_cell objects places address byte this size (bytes, there, long) = 
     by_slot None = (bytes, there, long)
     by_slot (Some number) = by_object number (slice_get objects number) refl
 
-IsObject-with_writes : (objects : List (List ℕ)) (places : List (Option ℕ)) (writes : List (ℕ × ℕ)) (this size : ℕ) → IsObject objects this size → IsObject (with_writes objects places writes) this size
+IsObject-with_writes : (objects : List (List ℕ)) (places : List (Option ℕ)) (writes : List (ℕ × ℕ)) (this size : ℕ)
+    → IsObject objects this size → IsObject (with_writes objects places writes) this size
 IsObject-with_writes objects places [] this size is = is
 IsObject-with_writes objects places (write ∷ writes) this size is =
     IsObject-with_writes (with_cell objects places write.0 write.1) places writes this size (IsObject-with_cell objects places write.0 write.1 this size is)
 
 -- the byte of a slot's object at an offset
-cell_of_slot : (objects : List (List ℕ)) (places : List (Option ℕ)) (slot offset number : ℕ) (object : List ℕ) → offset < 8192 → slot_of places slot ≡ Some number → slice_get objects number ≡ Some object → object_cells objects places (8192 * slot + offset) ≡ slice_get object offset
+cell_of_slot : (objects : List (List ℕ)) (places : List (Option ℕ)) (slot offset number : ℕ) (object : List ℕ)
+    → offset < 8192 → slot_of places slot ≡ Some number → slice_get objects number ≡ Some object
+    → object_cells objects places (8192 * slot + offset) ≡ slice_get object offset
 cell_of_slot objects places slot offset number object within is_slot is_object =
     let in_slot : (8192 * slot + offset) / 8192 ≡ slot = omega arith in
     let at_offset : (8192 * slot + offset) % 8192 ≡ offset = omega arith in
@@ -157,12 +166,15 @@ module _ (number : ℕ → ℕ) (slots : Slots BlockId) (pool : Blocks) (objects
     apart = λ slot other object named again.
         let here = names slot object named in
         let there = names other object again in
-        let same : here.id ≡ there.id = same_id here.id there.id (stand_for.apart here.id.0 there.id.0 (names_live slot here.id here.place) (names_live other there.id there.place) (here.is ∙ sym there.is)) in
+        let same : here.id ≡ there.id = same_id here.id there.id (stand_for.apart here.id.0 there.id.0
+        (names_live slot here.id here.place) (names_live other there.id there.place) (here.is ∙ sym there.is)) in
         map.once slot other there.id (here.place ∙ ap Some same) there.place;
   }
 
   -- after the process has stored, blocks represent the objects with the same writes
-  module _ (map : IsSlotMap slots) (shape : IsPool pool) (after : Blocks) (beyond : SameBeyond slots pool after) (writes : List (ℕ × ℕ)) (named : all_named (object_cells objects places) writes ≡ true) (stored : block_cells slots after ≡ write_cells (block_cells slots pool) writes) where
+  module _ (map : IsSlotMap slots) (shape : IsPool pool) (after : Blocks) (beyond : SameBeyond slots pool after)
+      (writes : List (ℕ × ℕ)) (named : all_named (object_cells objects places) writes ≡ true)
+      (stored : block_cells slots after ≡ write_cells (block_cells slots pool) writes) where
     abbrev objects_after : List (List ℕ)
     objects_after = with_writes objects places writes
 
@@ -175,7 +187,8 @@ module _ (number : ℕ → ℕ) (slots : Slots BlockId) (pool : Blocks) (objects
     same_cells : object_cells objects_after places ≡ block_cells slots after
     same_cells = (with_writes-tied objects places writes (IsMap-renamed map) named).1 ∙ ap (λ cells. write_cells cells writes) cells_of-renamed ∙ sym stored
 
-    block_cell : (slot offset : ℕ) (id : BlockId) → offset < 8192 → block_at slots slot ≡ Some id → IsLive after id.0 → block_cells slots after (8192 * slot + offset) ≡ slice_get (block_bytes after id.0) offset
+    block_cell : (slot offset : ℕ) (id : BlockId) → offset < 8192 → block_at slots slot ≡ Some id → IsLive after id.0
+        → block_cells slots after (8192 * slot + offset) ≡ slice_get (block_bytes after id.0) offset
     block_cell slot offset id within is alive =
         let in_slot : (8192 * slot + offset) / 8192 ≡ slot = omega arith in
         let at_offset : (8192 * slot + offset) % 8192 ≡ offset = omega arith in
@@ -193,7 +206,9 @@ module _ (number : ℕ → ℕ) (slots : Slots BlockId) (pool : Blocks) (objects
         let object = IsObject-with_writes objects places writes (number id.0) 8192 (block_bytes pool id.0, stand_for.same_bytes id.0 was, length-block_bytes pool id.0 shape was) in
         object.1 ∙ ap Some (same_number_lists object.0 bytes (object.2 ∙ sym long) (λ k within.
         let small : k < 8192 = omega (arith, object.2) in
-        let cell = sym (cell_of_slot objects_after places slot k (number id.0) object.0 small (slot_of-place slot id is) object.1) ∙ ap (λ cells. cells (8192 * slot + k)) same_cells ∙ block_cell slot k id small is now in
+        let cell = sym (cell_of_slot objects_after places slot k (number id.0) object.0 small
+        (slot_of-place slot id is) object.1) ∙ ap (λ cells. cells (8192 * slot + k)) same_cells ∙ block_cell slot
+        k id small is now in
         same_Some (get_or object.0 k 0) (get_or bytes k 0) (sym (slice_get-get_or object.0 k 0 within) ∙ cell ∙ slice_get-get_or bytes k 0 (omega arith))))
 
     -- one that it does not name is as before

@@ -123,7 +123,9 @@ named_at_most_once (Some first ∷ places) once block =
     ]
 
 -- what is put takes the place of what stood there
-pub times-put : (block : ℕ) (places new : List (Option BlockId)) (first : ℕ) → times block (named_by (put_places places first new)) + times block (named_by (take (length new) (drop first places))) ≡ times block (named_by places) + times block (named_by new)
+pub times-put : (block : ℕ) (places new : List (Option BlockId)) (first : ℕ)
+    → times block (named_by (put_places places first new)) + times block
+    (named_by (take (length new) (drop first places))) ≡ times block (named_by places) + times block (named_by new)
 times-put block places new first =
     let front = take first places in
     let rest = drop first places in

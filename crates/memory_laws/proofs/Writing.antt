@@ -26,28 +26,49 @@ first_then cells at byte bytes =
     fun_ext (λ address.
     elim (cases_lt address at) [
       | inl below ↦
-          cond-false (is_in_range (at + 1) (length bytes) address) (slice_get bytes (address - (at + 1))) (put_cell cells at byte address) (and_left (nat_le (at + 1) address) (nat_lt address (at + 1 + length bytes)) (lt-leb (at + 1) address (omega arith)))
+          cond-false (is_in_range (at + 1) (length bytes) address) (slice_get bytes (address - (at + 1)))
+          (put_cell cells at byte address) (and_left (nat_le (at + 1) address)
+          (nat_lt address (at + 1 + length bytes)) (lt-leb (at + 1) address (omega arith)))
           ∙ cond-false (address == at) (Some byte) (cells address) (ne_eqb address at (λ same. absurd (omega arith)))
-          ∙ sym (cond-false (is_in_range at (length (byte ∷ bytes)) address) (slice_get (byte ∷ bytes) (address - at)) (cells address) (and_left (nat_le at address) (nat_lt address (at + length (byte ∷ bytes))) (lt-leb at address below)))
+          ∙ sym (cond-false (is_in_range at (length (byte ∷ bytes)) address) (slice_get (byte ∷ bytes) (address - at))
+          (cells address) (and_left (nat_le at address) (nat_lt address (at + length (byte ∷ bytes)))
+          (lt-leb at address below)))
       | inr low ↦
           elim (cases_eq address at) [
             | inl same ↦
                 let none : address - at ≡ 0 = omega arith in
-                cond-false (is_in_range (at + 1) (length bytes) address) (slice_get bytes (address - (at + 1))) (put_cell cells at byte address) (and_left (nat_le (at + 1) address) (nat_lt address (at + 1 + length bytes)) (lt-leb (at + 1) address (omega arith)))
+                cond-false (is_in_range (at + 1) (length bytes) address) (slice_get bytes (address - (at + 1)))
+                (put_cell cells at byte address) (and_left (nat_le (at + 1) address)
+                (nat_lt address (at + 1 + length bytes)) (lt-leb (at + 1) address (omega arith)))
                 ∙ cond-true (address == at) (Some byte) (cells address) (eq-eqb address at same)
                 ∙ sym (ap (slice_get (byte ∷ bytes)) none)
-                ∙ sym (cond-true (is_in_range at (length (byte ∷ bytes)) address) (slice_get (byte ∷ bytes) (address - at)) (cells address) (and_from (nat_le at address) (nat_lt address (at + length (byte ∷ bytes))) (le-leb at address low) (lt-ltb address (at + length (byte ∷ bytes)) (omega arith))))
+                ∙ sym (cond-true (is_in_range at (length (byte ∷ bytes)) address)
+                (slice_get (byte ∷ bytes) (address - at)) (cells address) (and_from (nat_le at address)
+                (nat_lt address (at + length (byte ∷ bytes))) (le-leb at address low)
+                (lt-ltb address (at + length (byte ∷ bytes)) (omega arith))))
             | inr apart ↦
                 elim (cases_lt address (at + length (byte ∷ bytes))) [
                   | inl inside ↦
                       let next : address - at ≡ suc (address - (at + 1)) = omega arith in
-                      cond-true (is_in_range (at + 1) (length bytes) address) (slice_get bytes (address - (at + 1))) (put_cell cells at byte address) (and_from (nat_le (at + 1) address) (nat_lt address (at + 1 + length bytes)) (le-leb (at + 1) address (omega arith)) (lt-ltb address (at + 1 + length bytes) (omega arith)))
+                      cond-true (is_in_range (at + 1) (length bytes) address) (slice_get bytes (address - (at + 1)))
+                      (put_cell cells at byte address) (and_from (nat_le (at + 1) address)
+                      (nat_lt address (at + 1 + length bytes)) (le-leb (at + 1) address (omega arith))
+                      (lt-ltb address (at + 1 + length bytes) (omega arith)))
                       ∙ sym (ap (slice_get (byte ∷ bytes)) next)
-                      ∙ sym (cond-true (is_in_range at (length (byte ∷ bytes)) address) (slice_get (byte ∷ bytes) (address - at)) (cells address) (and_from (nat_le at address) (nat_lt address (at + length (byte ∷ bytes))) (le-leb at address low) (lt-ltb address (at + length (byte ∷ bytes)) inside)))
+                      ∙ sym (cond-true (is_in_range at (length (byte ∷ bytes)) address)
+                      (slice_get (byte ∷ bytes) (address - at)) (cells address) (and_from (nat_le at address)
+                      (nat_lt address (at + length (byte ∷ bytes))) (le-leb at address low)
+                      (lt-ltb address (at + length (byte ∷ bytes)) inside)))
                   | inr past ↦
-                      cond-false (is_in_range (at + 1) (length bytes) address) (slice_get bytes (address - (at + 1))) (put_cell cells at byte address) (and_right (nat_le (at + 1) address) (nat_lt address (at + 1 + length bytes)) (le-ltb address (at + 1 + length bytes) (omega arith)))
+                      cond-false (is_in_range (at + 1) (length bytes) address) (slice_get bytes (address - (at + 1)))
+                      (put_cell cells at byte address) (and_right (nat_le (at + 1) address)
+                      (nat_lt address (at + 1 + length bytes)) (le-ltb address (at + 1 + length bytes)
+                      (omega arith)))
                       ∙ cond-false (address == at) (Some byte) (cells address) (ne_eqb address at apart)
-                      ∙ sym (cond-false (is_in_range at (length (byte ∷ bytes)) address) (slice_get (byte ∷ bytes) (address - at)) (cells address) (and_right (nat_le at address) (nat_lt address (at + length (byte ∷ bytes))) (le-ltb address (at + length (byte ∷ bytes)) past)))
+                      ∙ sym (cond-false (is_in_range at (length (byte ∷ bytes)) address)
+                      (slice_get (byte ∷ bytes) (address - at)) (cells address) (and_right (nat_le at address)
+                      (nat_lt address (at + length (byte ∷ bytes))) (le-ltb address (at + length (byte ∷ bytes))
+                      past)))
                 ]
           ]
     ])
@@ -73,7 +94,8 @@ named-from cells at (byte ∷ bytes) named =
 -- ---- the whole memory
 
 -- memory whose counts stay is sound still
-pub IsSound-written : (pool after : Blocks) (maps : List (Slots BlockId)) (entries : List (Option ModuleEntry)) → IsSound pool maps entries → IsPool after → after.counts ≡ pool.counts → IsSound after maps entries
+pub IsSound-written : (pool after : Blocks) (maps : List (Slots BlockId)) (entries : List (Option ModuleEntry))
+    → IsSound pool maps entries → IsPool after → after.counts ≡ pool.counts → IsSound after maps entries
 IsSound-written pool after maps entries sound shape same = record {
   shape = shape;
   processes = sound.processes;
@@ -90,7 +112,9 @@ IsSound-written pool after maps entries sound shape same = record {
   groups = sound.groups;
 }
 
-module _ (pool after : Blocks) (maps : List (Slots BlockId)) (entries : List (Option ModuleEntry)) (sound : IsSound pool maps entries) (process : ℕ) (within : process < 33) (beyond : SameBeyond (map_of pool maps entries sound process) pool after) where
+module _ (pool after : Blocks) (maps : List (Slots BlockId)) (entries : List (Option ModuleEntry))
+    (sound : IsSound pool maps entries) (process : ℕ) (within : process < 33)
+    (beyond : SameBeyond (map_of pool maps entries sound process) pool after) where
   abbrev slots : Slots BlockId
   slots = map_of pool maps entries sound process
 
@@ -101,12 +125,16 @@ module _ (pool after : Blocks) (maps : List (Slots BlockId)) (entries : List (Op
       ∙ ap (λ (s : Slots ℕ). object_cells tied.objects s.places) (map_at-memory_of tied.number pool maps entries tied.objects process (omega (arith, sound.processes)))
       ∙ cells_of-renamed tied.number slots pool tied.objects tied.represent (names_live pool maps entries sound process)
 
-  pub represent-written : (writes : List (ℕ × ℕ)) → all_named (map_cells slots pool) writes ≡ true → map_cells slots after ≡ write_cells (map_cells slots pool) writes → (m : MemoryState) → RepresentMemory pool maps entries m → RepresentMemory after maps entries (written m process writes)
+  pub represent-written : (writes : List (ℕ × ℕ)) → all_named (map_cells slots pool) writes ≡ true
+      → map_cells slots after ≡ write_cells (map_cells slots pool) writes → (m : MemoryState) → RepresentMemory pool
+      maps entries m → RepresentMemory after maps entries (written m process writes)
   represent-written writes named stored m tied =
       let live = names_live pool maps entries sound process in
       let held = held_at pool maps entries sound process within in
       let places = (renamed_map tied.number slots).places in
-      let named_objects : all_named (object_cells tied.objects places) writes ≡ true = ap (λ (cells : ℕ → Option ℕ). all_named cells writes) (cells_of-renamed tied.number slots pool tied.objects tied.represent live) ∙ named in
+      let named_objects : all_named (object_cells tied.objects places) writes ≡ true = ap
+      (λ (cells : ℕ → Option ℕ). all_named cells writes) (cells_of-renamed tied.number slots pool tied.objects
+      tied.represent live) ∙ named in
       record {
         number = tied.number;
         objects = with_writes tied.objects places writes;

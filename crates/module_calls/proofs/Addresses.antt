@@ -19,9 +19,13 @@ module _ (memory : Memory) (m : MemoryState) (tied : Represents memory m) (test 
   entries-64 = ap (λ (s : MemoryState). length s.modules) tied.is ∙ length-map memory.dir (option_map (renamed_entry tied.number)) ∙ memory.sound.numbers
 
   -- the first place that passes
-  pub first-passing : (number : ℕ) → number < 64 → true ≡ passes test (module_entry_at m.modules number) → ((k : ℕ) → k < number → passes test (module_entry_at m.modules k) ≡ false) → position (passes test) m.modules ≡ Some number
+  pub first-passing : (number : ℕ) → number < 64 → true ≡ passes test (module_entry_at m.modules number)
+      → ((k : ℕ) → k < number → passes test (module_entry_at m.modules k) ≡ false) → position (passes test) m.modules
+      ≡ Some number
   first-passing number within is before =
-      position-first (passes test) m.modules number None (omega (arith, entries-64)) (ap (passes test) (entry_or m.modules number) ∙ sym is) (λ k below. ap (passes test) (entry_or m.modules k) ∙ before k below)
+      position-first (passes test) m.modules number None (omega (arith, entries-64))
+      (ap (passes test) (entry_or m.modules number) ∙ sym is) (λ k below. ap (passes test) (entry_or m.modules k)
+      ∙ before k below)
 
   -- none passes
   pub none-passing : ((k : ℕ) → k < 64 → passes test (module_entry_at m.modules k) ≡ false) → position (passes test) m.modules ≡ None

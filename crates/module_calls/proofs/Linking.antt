@@ -44,11 +44,15 @@ module _ (m : Inner) (p : ℕ) (found : Entered) (count : ℕ) where
       let there = by_most (has_most_links found.entry) (mapped_group m.memory p found.entry.group) some in
       record { mapped = there.0; is = there.1; slot_is = there.2; goes = there.3 }
     where
-      by_full : (full : Bool) (mapped : Mapped) → Some slot ≡ (if full then None else Some mapped.slot) → (mapped.slot ≡ slot) × (refuses full E_MEMFUL (done (after_link m p found mapped count)) ≡ done (after_link m p found mapped count))
+      by_full : (full : Bool) (mapped : Mapped) → Some slot ≡ (if full then None else Some mapped.slot)
+          → (mapped.slot ≡ slot) × (refuses full E_MEMFUL (done (after_link m p found mapped count)) ≡ done
+          (after_link m p found mapped count))
       by_full true mapped some = absurd (none-some slot (sym some))
       by_full false mapped some = (sym (same_Some slot mapped.slot some), refl)
 
-      by_most : (most : Bool) (place : Option Mapped) → Some slot ≡ slot_by most place → (mapped : Mapped) × (place ≡ Some mapped) × (mapped.slot ≡ slot) × (next_by most place ≡ done (after_link m p found mapped count))
+      by_most : (most : Bool) (place : Option Mapped) → Some slot ≡ slot_by most place → (mapped : Mapped) ×
+          (place ≡ Some mapped) × (mapped.slot ≡ slot) × (next_by most place ≡ done (after_link m p found mapped
+          count))
       by_most true place some = absurd (none-some slot (sym some))
       by_most false None some = absurd (none-some slot (sym some))
       by_most false (Some mapped) some =

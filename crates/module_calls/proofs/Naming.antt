@@ -13,7 +13,9 @@ use Rattle.module_calls.specs.Named.{name_or_error, names_module, IsNamed, IsUnn
 
 -- there is no name
 pub named-error : (m : Inner) (p number : ℕ) → name_or_error (name_at (cells_at m p) (regs_at m p).x) ≡ Err number → IsUnnamed m p number
-named-error m p number is next = by_name (name_at (cells_at m p) (regs_at m p).x) is (λ name. needs (option_and_then (entered_at m.memory.modules) (found_module m.memory.modules name (regs_at m p).a)) E_MNF (λ found. next name found))
+named-error m p number is next = by_name (name_at (cells_at m p) (regs_at m p).x) is
+    (λ name. needs (option_and_then (entered_at m.memory.modules) (found_module m.memory.modules name
+    (regs_at m p).a)) E_MNF (λ found. next name found))
   where
     by_name : (read : Result (List ℕ) NameFault) → name_or_error read ≡ Err number → (then : List ℕ → CallResult) → reads_name read E_BNAM then ≡ refused number
     by_name (Ok name) is then = absurd (let no_error = is in cc)
@@ -27,8 +29,12 @@ name_read (Err Unreadable) name is = absurd (let no_name = is in cc)
 name_read (Err NoName) name is = absurd (let no_name = is in cc)
 
 module _ (m : Inner) (p : ℕ) (name : List ℕ) (read : name_or_error (name_at (cells_at m p) (regs_at m p).x) ≡ Ok name) where
-  goes_on : (next : List ℕ → Entered → CallResult) → names_module m p next ≡ needs (option_and_then (entered_at m.memory.modules) (found_module m.memory.modules name (regs_at m p).a)) E_MNF (λ found. next name found)
-  goes_on next = ap (λ (r : Result (List ℕ) NameFault). reads_name r E_BNAM (λ name. needs (option_and_then (entered_at m.memory.modules) (found_module m.memory.modules name (regs_at m p).a)) E_MNF (λ found. next name found))) (name_read _ name read)
+  goes_on : (next : List ℕ → Entered → CallResult) → names_module m p next ≡ needs
+      (option_and_then (entered_at m.memory.modules) (found_module m.memory.modules name (regs_at m p).a)) E_MNF
+      (λ found. next name found)
+  goes_on next = ap (λ (r : Result (List ℕ) NameFault). reads_name r E_BNAM
+      (λ name. needs (option_and_then (entered_at m.memory.modules) (found_module m.memory.modules name
+      (regs_at m p).a)) E_MNF (λ found. next name found))) (name_read _ name read)
 
   -- no module is found
   pub named-nothing : found_module m.memory.modules name (regs_at m p).a ≡ None → IsUnnamed m p E_MNF

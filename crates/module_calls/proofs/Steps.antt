@@ -8,17 +8,23 @@ use Rattle.proc_state.specs.declared.state.ProcState.{ProcState}
 use Rattle.proc_state.specs.Tie.{Represents, Answers}
 
 -- a test that does not refuse
-pub refuses-not : (m : Inner) (test : Bool) (number : ℕ) (next : CallResult) (outcome : Result (Unit {0}) ℕ) (new : ProcState) → test ≡ false → Answers m next outcome new → Answers m (refuses test number next) outcome new
+pub refuses-not : (m : Inner) (test : Bool) (number : ℕ) (next : CallResult) (outcome : Result (Unit {0}) ℕ)
+    (new : ProcState) → test ≡ false → Answers m next outcome new → Answers m (refuses test number next) outcome new
 refuses-not m test number next outcome new passed answers =
     subst (λ (t : Bool). Answers m (refuses t number next) outcome new) (sym passed) answers
 
 -- memory was changed, and the call goes on
-pub changes-then : (m : Inner) (change : Result MemoryState MemoryFault) (next : MemoryState → Inner) (mid new : ProcState) → Answers m (changes change (λ memory. done (with_memory m memory))) (Ok tt) mid → ((memory : MemoryState) → Represents mid (with_memory m memory) → Represents new (next memory)) → Answers m (changes change (λ memory. done (next memory))) (Ok tt) new
+pub changes-then : (m : Inner) (change : Result MemoryState MemoryFault) (next : MemoryState → Inner)
+    (mid new : ProcState) → Answers m (changes change (λ memory. done (with_memory m memory))) (Ok tt) mid
+    → ((memory : MemoryState) → Represents mid (with_memory m memory) → Represents new (next memory))
+    → Answers m (changes change (λ memory. done (next memory))) (Ok tt) new
 changes-then m (Ok memory) next mid new answers step = (refl, step memory answers.1)
 changes-then m (Err fault) next mid new answers step = absurd (let no_ok = answers.0 in cc)
 
 -- a call is refused with the number that a step gave
-pub refused-answers : (m : Inner) (call : CallResult) (number : ℕ) (outcome : Result (Unit {0}) ℕ) (new : ProcState) → (x : ℕ) × (outcome ≡ Err x) × (x ≡ number) → call ≡ refused number → Represents new m → Answers m call outcome new
+pub refused-answers : (m : Inner) (call : CallResult) (number : ℕ) (outcome : Result (Unit {0}) ℕ) (new : ProcState)
+    → (x : ℕ) × (outcome ≡ Err x) × (x ≡ number) → call ≡ refused number → Represents new m → Answers m call outcome
+    new
 refused-answers m call number outcome new gave is stands =
     subst (λ (c : CallResult). Answers m c outcome new) (sym is) (gave.1 ∙ ap Err gave.2, stands)
 

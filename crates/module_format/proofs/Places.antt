@@ -34,7 +34,8 @@ all_zeros bytes from zeros =
 pub not_all_zeros : (bytes : List ℕ) (from at : ℕ) → from ≤ at → at < length bytes → get_or bytes at 0 ≢ 0 → All (λ byte. byte ≡ 0) (drop from bytes) → ⊥
 not_all_zeros bytes from at after within other all =
     let behind : from + (at - from) ≡ at = omega arith in
-    other (sym (ap (λ (k : ℕ). get_or bytes k 0) behind) ∙ sym (get_or-drop from bytes (at - from) 0) ∙ All-get_or (λ (byte : ℕ). byte ≡ 0) (drop from bytes) (at - from) 0 (simp length-drop (omega arith)) all)
+    other (sym (ap (λ (k : ℕ). get_or bytes k 0) behind) ∙ sym (get_or-drop from bytes (at - from) 0) ∙ All-get_or
+    (λ (byte : ℕ). byte ≡ 0) (drop from bytes) (at - from) 0 (simp length-drop (omega arith)) all)
 
 -- what stands at a place before the end
 before_end : (file : List ℕ) (from at : ℕ) → at ≡ next_place file from → at < length file

@@ -32,7 +32,9 @@ word-whole n = omega arith
 crc-whole : (n : ℕ) → big_number 3 (crc_bytes n) ≡ n
 crc-whole n = omega arith
 
-rules-kept : (header parity crc : Bool) → header ≡ true → parity ≡ true → crc ≡ true → (if header then (if parity then (if crc then None else Some BadCrc) else Some BadParity) else Some BadSync) ≡ None
+rules-kept : (header parity crc : Bool) → header ≡ true → parity ≡ true → crc ≡ true
+    → (if header then (if parity then (if crc then None else Some BadCrc) else Some BadParity) else Some BadSync) ≡
+    None
 rules-kept header parity crc h p c = simp (h, p, c)
 
 module _ (name : List ℕ) (kind attr entry storage : ℕ) (code : List ℕ) where
@@ -143,7 +145,26 @@ module _ (name : List ℕ) (kind attr entry storage : ℕ) (code : List ℕ) whe
 
   parity-kept : size < 65536 → kind < 256 → attr < 256 → keeps_parity_rule whole ≡ true
   parity-kept short kind_fits attr_fits =
-      eq-eqb _ 255 (with_parity (fold bit_xor 0 (header_front size kind attr)) (xor-below 0 (header_front size kind attr) (omega arith) ((omega arith), ((omega arith), ((omega arith), ((omega arith), ((omega arith), ((omega (arith, header-by (is_program_kind kind))), (kind_fits, (attr_fits, tt))))))))))
+      eq-eqb _ 255 (with_parity (fold bit_xor 0 (header_front size kind attr))
+      (xor-below 0 (header_front size kind attr) (omega arith) (
+        (omega arith),
+        (
+          (omega arith),
+          (
+            (omega arith),
+            (
+              (omega arith),
+              (
+                (omega arith),
+                (
+                  (omega (arith, header-by (is_program_kind kind))),
+                  (kind_fits, (attr_fits, tt)),
+                ),
+              ),
+            ),
+          ),
+        ),
+      )))
 
   crc-kept : keeps_crc_rule whole ≡ true
   crc-kept =
@@ -153,7 +174,9 @@ module _ (name : List ℕ) (kind attr entry storage : ℕ) (code : List ℕ) whe
 
   pub made_module-is : IsName name → BeginsWithin name head code → size ≤ 57344 → kind < 256 → attr < 256 → IsModule whole
   made_module-is is begins short kind_fits attr_fits =
-      let header_kept : keeps_header_rule whole ≡ true = and_from (has_sync whole && has_size whole && has_module_name whole) (has_entry whole) (and_from (has_sync whole && has_size whole) (has_module_name whole) (and_from (has_sync whole) (has_size whole) sync-kept (size-kept is)) (name-kept is)) (entry-kept begins) in
+      let header_kept : keeps_header_rule whole ≡ true = and_from (has_sync whole && has_size whole && has_module_name
+      whole) (has_entry whole) (and_from (has_sync whole && has_size whole) (has_module_name whole)
+      (and_from (has_sync whole) (has_size whole) sync-kept (size-kept is)) (name-kept is)) (entry-kept begins) in
       record {
         whole = size-is ∙ sym length-made_module;
         accepted = rules-kept (keeps_header_rule whole) (keeps_parity_rule whole) (keeps_crc_rule whole) header_kept (parity-kept (omega arith) kind_fits attr_fits) crc-kept;

@@ -16,11 +16,16 @@ module _ (names : List (List ℕ)) where
 
   long-step : (x : ℕ) (xs : List ℕ) (words : List (List ℕ)) → Between words → Waits words → Between ((45 ∷ 45 ∷ x ∷ xs) ∷ words)
   long-step x xs words between waits so_far dash =
-      by (list_any (bytes_eq (before_first is_equals (x ∷ xs))) names && not (is_given so_far (before_first is_equals (x ∷ xs)))) (list_any is_equals (x ∷ xs)) (bytes_eq (after_first is_equals (45 ∷ 45 ∷ x ∷ xs)) []) refl
+      by (list_any (bytes_eq (before_first is_equals (x ∷ xs))) names && not
+      (is_given so_far (before_first is_equals (x ∷ xs)))) (list_any is_equals (x ∷ xs))
+      (bytes_eq (after_first is_equals (45 ∷ 45 ∷ x ∷ xs)) []) refl
     where
       answer : (new equals empty : Bool) → Option Given
       answer new equals empty =
-          cond new (cond equals (cond empty None (given names None words (with_option so_far (before_first is_equals (x ∷ xs)) (after_first is_equals (45 ∷ 45 ∷ x ∷ xs))))) (given names (Some (before_first is_equals (x ∷ xs))) words so_far)) None
+          cond new (cond equals (cond empty None
+          (given names None words (with_option so_far (before_first is_equals (x ∷ xs))
+          (after_first is_equals (45 ∷ 45 ∷ x ∷ xs))))) (given names (Some (before_first is_equals (x ∷ xs)))
+          words so_far)) None
 
       by : (new equals empty : Bool) → list_any is_equals (x ∷ xs) ≡ equals → answer new equals empty ≡ None
       by false equals empty e = refl

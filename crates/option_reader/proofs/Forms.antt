@@ -8,7 +8,9 @@ is_dash : (b : ℕ) → (b == 45) ≡ true → 45 ≡ b
 is_dash b e = grind (arith, nat_tests)
 
 -- by cases: empty, `-`, `--`, begins with `--`, with one `-`, or with another byte
-module _ (M : List ℕ → Type 0) (empty : M []) (dash : M (45 ∷ [])) (dashes : M (45 ∷ 45 ∷ [])) (long : (x : ℕ) (xs : List ℕ) → M (45 ∷ 45 ∷ x ∷ xs)) (short : (x : ℕ) (xs : List ℕ) → (x == 45) ≡ false → M (45 ∷ x ∷ xs)) (plain : (b : ℕ) (bs : List ℕ) → (b == 45) ≡ false → M (b ∷ bs)) where
+module _ (M : List ℕ → Type 0) (empty : M []) (dash : M (45 ∷ [])) (dashes : M (45 ∷ 45 ∷ []))
+    (long : (x : ℕ) (xs : List ℕ) → M (45 ∷ 45 ∷ x ∷ xs)) (short : (x : ℕ) (xs : List ℕ) → (x == 45) ≡ false
+    → M (45 ∷ x ∷ xs)) (plain : (b : ℕ) (bs : List ℕ) → (b == 45) ≡ false → M (b ∷ bs)) where
   two : (bs : List ℕ) → M (45 ∷ 45 ∷ bs)
   two [] = dashes
   two (x ∷ xs) = long x xs

@@ -54,7 +54,9 @@ none_required (name ∷ names) rows = none_required names rows
 no_check : (names : List Text) (rows : List Row) → check_fault (shape_with names) rows false ≡ []
 no_check names rows = rw (none_required names rows) refl
 
-none_entered : (names : List Text) (stop : Option (Text × List Text)) → (is_some (entered (record { top = shape_with names; subs = [] }) stop) ≡ false) × (entered_fault (record { top = shape_with names; subs = [] }) stop ≡ [])
+none_entered : (names : List Text) (stop : Option (Text × List Text))
+    → (is_some (entered (record { top = shape_with names; subs = [] }) stop) ≡ false) ×
+    (entered_fault (record { top = shape_with names; subs = [] }) stop ≡ [])
 none_entered names None = (refl, refl)
 none_entered names (Some stop) = (refl, refl)
 
@@ -81,8 +83,13 @@ module _ (names : List Text) (words : List Text) where
       let stop = (walk (rules_with names) [] nothing_held words).stopped in
       let rows = (settled (rules_with names) end).rows in
       let none = none_entered names stop in
-      ap₂ (λ inside below. or_else (walk_fault (shape_with names) [] start words) (or_else below (or_else (settle_fault (rules_with names) false end) (or_else (defaults_fault rows (rules_with names)) (check_fault (shape_with names) (fold with_default rows (rules_with names)) inside))))) none.0 none.1
-      ∙ ap₂ (λ defaults check. or_else (walk_fault (shape_with names) [] start words) (or_else (settle_fault (rules_with names) false end) (or_else defaults check))) (no_defaults_with names rows) (no_check names (fold with_default rows (rules_with names)))
+      ap₂ (λ inside below. or_else (walk_fault (shape_with names) [] start words)
+      (or_else below (or_else (settle_fault (rules_with names) false end)
+      (or_else (defaults_fault rows (rules_with names)) (check_fault (shape_with names)
+      (fold with_default rows (rules_with names)) inside))))) none.0 none.1
+      ∙ ap₂ (λ defaults check. or_else (walk_fault (shape_with names) [] start words)
+      (or_else (settle_fault (rules_with names) false end) (or_else defaults check)))
+      (no_defaults_with names rows) (no_check names (fold with_default rows (rules_with names)))
       ∙ ap (or_else (walk_fault (shape_with names) [] start words)) (or_else-nil (settle_fault (rules_with names) false end))
 
   fault-is : fault_of (app_with names) words ≡ verdict names start words
@@ -96,7 +103,9 @@ module _ (names : List Text) (words : List Text) where
 -- ---- the answer
 
 -- an `Ok` answer gives what the words give, and each row has a value
-pub taken : (names words : List Text) (rows : List Row) → All (λ name. name ≢ []) names → All IsUtf8 words → has_dash_value false words ≡ false → fault_of (app_with names) words ≡ [] → rows ≡ matches_of (app_with names) words
+pub taken : (names words : List Text) (rows : List Row) → All (λ name. name ≢ []) names → All IsUtf8 words
+    → has_dash_value false words ≡ false → fault_of (app_with names) words ≡ [] → rows ≡ matches_of (app_with names)
+    words
     → (Some (given_of rows) ≡ words_give names words) × All HasValue rows
 taken names words rows named texts no_dash quiet is = by (words_give names words) (words-agree names named words no_dash texts)
   where
@@ -111,7 +120,9 @@ among-fault kind [] h e = h
 among-fault kind (other ∷ kinds) h e = subst IsFault e tt
 
 -- an error that is not want of memory comes only where the words are refused
-pub refused : (names words : List Text) (error : Error) → All (λ name. name ≢ []) names → All IsUtf8 words → has_dash_value false words ≡ false → HasKind (fault_of (app_with names) words) error → kind_of error ≢ OutOfMemory
+pub refused : (names words : List Text) (error : Error) → All (λ name. name ≢ []) names → All IsUtf8 words
+    → has_dash_value false words ≡ false → HasKind (fault_of (app_with names) words) error
+    → kind_of error ≢ OutOfMemory
     → None ≡ words_give names words
 refused names words error named texts no_dash has other = by (words_give names words) (words-agree names named words no_dash texts)
   where

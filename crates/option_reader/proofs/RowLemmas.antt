@@ -97,7 +97,9 @@ module _ (word : Text) where
 -- ---- what was given
 
 -- the options of a row with a value
-one_option : (row : Row) (values : List Text) → row.values ≡ values → 0 < length values → bytes_eq row.id [] ≡ false → (value : Text) × (option_of row ≡ record { name = row.id; value = value } ∷ []) × (slice_get row.values 0 ≡ Some value)
+one_option : (row : Row) (values : List Text) → row.values ≡ values → 0 < length values → bytes_eq row.id [] ≡ false
+    → (value : Text) × (option_of row ≡ record { name = row.id; value = value } ∷ []) × (slice_get row.values 0 ≡ Some
+    value)
 one_option row [] is some named = absurd (omega arith)
 one_option row (value ∷ values) is some named = (value, rw (named, is) refl, rw is refl)
 

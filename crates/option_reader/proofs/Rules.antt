@@ -94,7 +94,9 @@ and-false true = refl
 and-false false = refl
 
 -- the option of this name
-found : (p : Rule → Bool) (name : Text) (names : List Text) → ((other : Text) → p (option_built other) ≡ bytes_eq other name) → find p (map option_built names) ≡ cond (list_any (bytes_eq name) names) (Some (option_built name)) None
+found : (p : Rule → Bool) (name : Text) (names : List Text) → ((other : Text) → p (option_built other) ≡ bytes_eq
+    other name) → find p (map option_built names) ≡ cond (list_any (bytes_eq name) names) (Some (option_built name))
+    None
 found p name [] same = refl
 found p name (other ∷ names) same = by (found p name names same) (bytes_eq name other) refl
   where

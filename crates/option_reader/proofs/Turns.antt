@@ -66,7 +66,9 @@ module _ (names : List Text) where
   pub verdict-step : (w after : Walk) (word : Text) (words : List Text) → faults w word ≡ [] → Goes w word after → verdict w (word ∷ words) ≡ verdict after words
   unfolding walk_fault
   verdict-step w after word words quiet goes =
-      ap (λ kinds. or_else (or_else kinds (walk_fault (shape_with names) [] (walked (rules_with names) [] w word) words)) (settle_fault (rules_with names) false (fold (walked (rules_with names) []) (walked (rules_with names) [] w word) words).held)) quiet
+      ap (λ kinds. or_else (or_else kinds (walk_fault (shape_with names) [] (walked (rules_with names) [] w word)
+      words)) (settle_fault (rules_with names) false (fold (walked (rules_with names) [])
+      (walked (rules_with names) [] w word) words).held)) quiet
       ∙ ap (λ v. verdict v words) goes
 
   pub verdict-end : (rows : List Row) (pending : Pending) (waiting : Waiting) (is_trailing : Bool) → verdict (at rows pending waiting is_trailing) [] ≡ pending_fault rows pending
@@ -79,7 +81,10 @@ module _ (names : List Text) where
 
   pub refused-later : (w after : Walk) (word : Text) (words : List Text) → Goes w word after → IsFault (verdict after words) → IsFault (verdict w (word ∷ words))
   unfolding walk_fault
-  refused-later w after word words goes h = fault_past (turn_fault (shape_with names) [] w word) (walk_fault (shape_with names) [] (walked (rules_with names) [] w word) words) (settle_fault (rules_with names) false (fold (walked (rules_with names) []) (walked (rules_with names) [] w word) words).held) (subst (λ v. IsFault (verdict v words)) (sym goes) h)
+  refused-later w after word words goes h = fault_past (turn_fault (shape_with names) [] w word)
+      (walk_fault (shape_with names) [] (walked (rules_with names) [] w word) words) (settle_fault (rules_with names)
+      false (fold (walked (rules_with names) []) (walked (rules_with names) [] w word) words).held)
+      (subst (λ v. IsFault (verdict v words)) (sym goes) h)
 
   -- ---- one word
 
@@ -89,7 +94,9 @@ module _ (names : List Text) where
   no_subcommand positional word = refl
 
   -- `--`
-  pub dashes_turn : (rows : List Row) (pending : Pending) (waiting : Waiting) → (faults (at rows pending waiting false) (45 ∷ 45 ∷ []) ≡ []) × Goes (at rows pending waiting false) (45 ∷ 45 ∷ []) (at rows pending waiting true)
+  pub dashes_turn : (rows : List Row) (pending : Pending) (waiting : Waiting)
+      → (faults (at rows pending waiting false) (45 ∷ 45 ∷ []) ≡ []) × Goes (at rows pending waiting false)
+      (45 ∷ 45 ∷ []) (at rows pending waiting true)
   unfolding walked
   dashes_turn rows pending idle = (refl, refl)
   dashes_turn rows pending (option name) = (refl, refl)
@@ -120,7 +127,9 @@ module _ (names : List Text) where
       (rw (is.0, is.1, is.2) refl, rw (is.0, is.1, is.2, known, bytes-refl name) refl)
 
   -- an option with its value
-  pub equals_turn : (rows : List Row) (pending : Pending) (waiting : Waiting) (word name value : Text) → bytes_eq word (45 ∷ 45 ∷ []) ≡ false → long_of word ≡ Some (name, Some value) → arg_by_long (rules_with names) name ≡ Some (option_built name)
+  pub equals_turn : (rows : List Row) (pending : Pending) (waiting : Waiting) (word name value : Text)
+      → bytes_eq word (45 ∷ 45 ∷ []) ≡ false → long_of word ≡ Some (name, Some value) → arg_by_long (rules_with names)
+      name ≡ Some (option_built name)
       → (faults (at rows pending waiting false) word ≡ or_else (or_else (pending_fault rows pending) (use_fault false (option_built name) (value ∷ []) (rows_with rows pending))) [])
       × Goes (at rows pending waiting false) word (at (used (option_built name) (value ∷ []) (rows_with rows pending)) None idle false)
   unfolding walked
@@ -128,20 +137,27 @@ module _ (names : List Text) where
       (rw (no_subcommand waiting word, other, is, known) refl, rw (no_subcommand waiting word, other, is, known) refl)
 
   -- an option that waits for its value
-  pub waits_turn : (rows : List Row) (pending : Pending) (waiting : Waiting) (word name : Text) → bytes_eq word (45 ∷ 45 ∷ []) ≡ false → long_of word ≡ Some (name, None) → arg_by_long (rules_with names) name ≡ Some (option_built name)
-      → (faults (at rows pending waiting false) word ≡ or_else (pending_fault rows pending) []) × Goes (at rows pending waiting false) word (at (rows_with rows pending) (Some (name, [])) (option name) false)
+  pub waits_turn : (rows : List Row) (pending : Pending) (waiting : Waiting) (word name : Text)
+      → bytes_eq word (45 ∷ 45 ∷ []) ≡ false → long_of word ≡ Some (name, None) → arg_by_long (rules_with names) name
+      ≡ Some (option_built name)
+      → (faults (at rows pending waiting false) word ≡ or_else (pending_fault rows pending) []) × Goes
+      (at rows pending waiting false) word (at (rows_with rows pending) (Some (name, [])) (option name) false)
   unfolding walked
   waits_turn rows pending waiting word name other is known =
       (rw (no_subcommand waiting word, other, is, known) refl, rw (no_subcommand waiting word, other, is, known) refl)
 
   -- an option that there is not
-  pub unknown_turn : (rows : List Row) (pending : Pending) (waiting : Waiting) (word name : Text) (value : Option Text) → bytes_eq word (45 ∷ 45 ∷ []) ≡ false → long_of word ≡ Some (name, value) → arg_by_long (rules_with names) name ≡ None
+  pub unknown_turn : (rows : List Row) (pending : Pending) (waiting : Waiting) (word name : Text)
+      (value : Option Text) → bytes_eq word (45 ∷ 45 ∷ []) ≡ false → long_of word ≡ Some (name, value)
+      → arg_by_long (rules_with names) name ≡ None
       → IsFault (faults (at rows pending waiting false) word)
   unknown_turn rows pending waiting word name value other is missing =
       rw (no_subcommand waiting word, other, is, missing) tt
 
   -- a word with one `-`
-  pub short_turn : (rows : List Row) (pending : Pending) (waiting : Waiting) (word : Text) (x : ℕ) (xs : Text) (char : ℕ) → bytes_eq word (45 ∷ 45 ∷ []) ≡ false → long_of word ≡ None → short_of word ≡ Some (x ∷ xs) → slice_get (chars (x ∷ xs)) 0 ≡ Some char
+  pub short_turn : (rows : List Row) (pending : Pending) (waiting : Waiting) (word : Text) (x : ℕ) (xs : Text)
+      (char : ℕ) → bytes_eq word (45 ∷ 45 ∷ []) ≡ false → long_of word ≡ None → short_of word ≡ Some (x ∷ xs)
+      → slice_get (chars (x ∷ xs)) 0 ≡ Some char
       → IsFault (faults (at rows pending waiting false) word)
   unfolding flags_fault
   short_turn rows pending waiting word x xs char other long short first =
@@ -163,7 +179,9 @@ module _ (names : List Text) where
       by false e = rw e tt
 
   module _ (name : Text) (known : arg_by_id (rules_with names) name ≡ Some (option_built name)) where
-    pub pending-option : (rows : List Row) (values : List Text) → (pending_fault rows (Some (name, values)) ≡ use_fault false (option_built name) values rows) × (rows_with rows (Some (name, values)) ≡ used (option_built name) values rows)
+    pub pending-option : (rows : List Row) (values : List Text)
+        → (pending_fault rows (Some (name, values)) ≡ use_fault false (option_built name) values rows) ×
+        (rows_with rows (Some (name, values)) ≡ used (option_built name) values rows)
     pending-option rows values = (rw known refl, rw known refl)
 
     pub pending-none : (rows : List Row) → IsFault (pending_fault rows (Some (name, [])))

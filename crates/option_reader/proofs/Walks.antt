@@ -35,7 +35,8 @@ module _ (names : List Text) where
   Agrees None w words = IsFault (verdict names w words)
   Agrees (Some words_given) w words = (verdict names w words ≡ []) × AreRowsOf (rows_at_end names w words) words_given
 
-  agrees-step : (answer : Option Given) (w after : Walk) (word : Text) (words : List Text) → faults names w word ≡ [] → Goes names w word after → Agrees answer after words → Agrees answer w (word ∷ words)
+  agrees-step : (answer : Option Given) (w after : Walk) (word : Text) (words : List Text) → faults names w word ≡ []
+      → Goes names w word after → Agrees answer after words → Agrees answer w (word ∷ words)
   agrees-step None w after word words quiet goes h = subst IsFault (sym (verdict-step names w after word words quiet goes)) h
   agrees-step (Some so_far) w after word words quiet goes h =
       (verdict-step names w after word words quiet goes ∙ h.0, subst (λ v. AreRowsOf (rows_at_end names v words) so_far) (sym goes) h.1)
@@ -48,9 +49,14 @@ module _ (names : List Text) where
   settles-argument rows so_far word are = (refl, argument_joins word rows so_far are)
 
   -- behind `--`
-  trailing : (words : List Text) (rows : List Row) (pending : Pending) (waiting : Waiting) (so_far : Given) → Settles rows pending so_far → Agrees (Some (with_arguments so_far words)) (at rows pending waiting true) words
-  trailing [] rows pending waiting so_far settles =
-      (verdict-end names rows pending waiting true ∙ settles.0, subst (λ arguments. AreRowsOf (rows_with names rows pending) (record so_far { arguments = arguments })) (sym (append-nil so_far.arguments)) settles.1)
+  trailing : (words : List Text) (rows : List Row) (pending : Pending) (waiting : Waiting) (so_far : Given)
+      → Settles rows pending so_far → Agrees (Some (with_arguments so_far words)) (at rows pending waiting true) words
+  trailing [] rows pending waiting so_far settles = (
+    verdict-end names rows pending waiting true ∙ settles.0,
+    subst
+        (λ arguments. AreRowsOf (rows_with names rows pending) (record so_far { arguments = arguments }))
+        (sym (append-nil so_far.arguments)) settles.1,
+  )
   trailing (word ∷ words) rows pending waiting so_far settles =
       let turn = trailing_turn names rows pending waiting word in
       let after = at (rows_with names rows pending) (Some ([], word ∷ [])) positional true in
@@ -60,12 +66,15 @@ module _ (names : List Text) where
 
   -- ---- words that are refused
 
-  bad-trailing : (words : List Text) (rows : List Row) (pending : Pending) (waiting : Waiting) → IsFault (pending_fault names rows pending) → IsFault (verdict names (at rows pending waiting true) words)
+  bad-trailing : (words : List Text) (rows : List Row) (pending : Pending) (waiting : Waiting)
+      → IsFault (pending_fault names rows pending) → IsFault (verdict names (at rows pending waiting true) words)
   bad-trailing [] rows pending waiting bad = subst IsFault (sym (verdict-end names rows pending waiting true)) bad
   bad-trailing (word ∷ words) rows pending waiting bad =
       refused-now names (at rows pending waiting true) word words (subst IsFault (sym (trailing_turn names rows pending waiting word).0) bad)
 
-  bad-short : (rows : List Row) (pending : Pending) (waiting : Waiting) (x : ℕ) (xs : Text) (words : List Text) → (x == 45) ≡ false → IsUtf8 (45 ∷ x ∷ xs) → IsFault (verdict names (at rows pending waiting false) ((45 ∷ x ∷ xs) ∷ words))
+  bad-short : (rows : List Row) (pending : Pending) (waiting : Waiting) (x : ℕ) (xs : Text) (words : List Text)
+      → (x == 45) ≡ false → IsUtf8 (45 ∷ x ∷ xs) → IsFault (verdict names (at rows pending waiting false)
+      ((45 ∷ x ∷ xs) ∷ words))
   bad-short rows pending waiting x xs words other text =
       let is = short_is x xs other in
       let char = flag_char x xs text in
@@ -73,7 +82,9 @@ module _ (names : List Text) where
       (short_turn names rows pending waiting (45 ∷ x ∷ xs) x xs char.0 is.2 is.0 is.1 char.1)
 
   -- `--name` or `--name=value`, where what is pending is bad
-  bad-long : (rows : List Row) (pending : Pending) (waiting : Waiting) (x : ℕ) (xs : Text) (words : List Text) → IsFault (pending_fault names rows pending) → IsFault (verdict names (at rows pending waiting false) ((45 ∷ 45 ∷ x ∷ xs) ∷ words))
+  bad-long : (rows : List Row) (pending : Pending) (waiting : Waiting) (x : ℕ) (xs : Text) (words : List Text)
+      → IsFault (pending_fault names rows pending) → IsFault (verdict names (at rows pending waiting false)
+      ((45 ∷ 45 ∷ x ∷ xs) ∷ words))
   bad-long rows pending waiting x xs words bad = refused-now names here word words (by (list_any (bytes_eq name) names) (list_any is_equals (x ∷ xs)) refl refl)
     where
       word : Text
@@ -85,13 +96,22 @@ module _ (names : List Text) where
       here : Walk
       here = at rows pending waiting false
 
-      by : (known equals : Bool) → list_any (bytes_eq (before_first is_equals (x ∷ xs))) names ≡ known → list_any is_equals (x ∷ xs) ≡ equals → IsFault (faults names (at rows pending waiting false) (45 ∷ 45 ∷ x ∷ xs))
-      by false equals e f = unknown_turn names rows pending waiting (45 ∷ 45 ∷ x ∷ xs) (before_first is_equals (x ∷ xs)) (cond (list_any is_equals (x ∷ xs)) (Some (after_first is_equals (x ∷ xs))) None) refl refl (long_found names (before_first is_equals (x ∷ xs)) false e)
+      by : (known equals : Bool) → list_any (bytes_eq (before_first is_equals (x ∷ xs))) names ≡ known
+          → list_any is_equals (x ∷ xs) ≡ equals → IsFault (faults names (at rows pending waiting false)
+          (45 ∷ 45 ∷ x ∷ xs))
+      by false equals e f = unknown_turn names rows pending waiting (45 ∷ 45 ∷ x ∷ xs)
+          (before_first is_equals (x ∷ xs)) (cond (list_any is_equals (x ∷ xs))
+          (Some (after_first is_equals (x ∷ xs))) None) refl refl (long_found names (before_first is_equals (x ∷ xs))
+          false e)
       by true true e f =
-          subst IsFault (sym (equals_turn names rows pending waiting (45 ∷ 45 ∷ x ∷ xs) (before_first is_equals (x ∷ xs)) (after_first is_equals (x ∷ xs)) refl (rw f refl) (long_found names (before_first is_equals (x ∷ xs)) true e)).0)
+          subst IsFault (sym (equals_turn names rows pending waiting (45 ∷ 45 ∷ x ∷ xs)
+          (before_first is_equals (x ∷ xs)) (after_first is_equals (x ∷ xs)) refl (rw f refl)
+          (long_found names (before_first is_equals (x ∷ xs)) true e)).0)
           (fault_first _ [] (fault_first (pending_fault names rows pending) _ bad))
       by true false e f =
-          subst IsFault (sym (waits_turn names rows pending waiting (45 ∷ 45 ∷ x ∷ xs) (before_first is_equals (x ∷ xs)) refl (rw f refl) (long_found names (before_first is_equals (x ∷ xs)) true e)).0)
+          subst IsFault (sym (waits_turn names rows pending waiting (45 ∷ 45 ∷ x ∷ xs)
+          (before_first is_equals (x ∷ xs)) refl (rw f refl) (long_found names (before_first is_equals (x ∷ xs))
+          true e)).0)
           (fault_first _ [] bad)
 
   -- a value of what is pending is refused, and is used whatever follows
@@ -103,12 +123,15 @@ module _ (names : List Text) where
     bad-word = by_form (λ word. IsUtf8 word → IsFault (verdict names (at rows pending waiting false) (word ∷ words)))
         (λ text. bad-plain [] plain_empty)
         (λ text. bad-plain (45 ∷ []) plain_dash)
-        (λ text. refused-later names (at rows pending waiting false) (at rows pending waiting true) (45 ∷ 45 ∷ []) words (dashes_turn names rows pending waiting).1 (bad-trailing words rows pending waiting bad))
+        (λ text. refused-later names (at rows pending waiting false) (at rows pending waiting true) (45 ∷ 45 ∷ [])
+        words (dashes_turn names rows pending waiting).1 (bad-trailing words rows pending waiting bad))
         (λ x xs text. bad-long rows pending waiting x xs words bad)
         (λ x xs other text. bad-short rows pending waiting x xs words other text)
         (λ b bs other text. bad-plain (b ∷ bs) (plain_other b bs other))
 
-  bad-pending : (words : List Text) (rows : List Row) (pending : Pending) (waiting : Waiting) → IsFree waiting → IsFault (pending_fault names rows pending) → All IsUtf8 words → IsFault (verdict names (at rows pending waiting false) words)
+  bad-pending : (words : List Text) (rows : List Row) (pending : Pending) (waiting : Waiting) → IsFree waiting
+      → IsFault (pending_fault names rows pending) → All IsUtf8 words
+      → IsFault (verdict names (at rows pending waiting false) words)
   bad-pending [] rows pending waiting free bad texts = subst IsFault (sym (verdict-end names rows pending waiting false)) bad
   bad-pending (word ∷ words) rows pending waiting free bad texts = bad-word rows pending waiting free bad words word (All-head IsUtf8 word words texts)
 
@@ -125,7 +148,8 @@ module _ (names : List Text) where
   module _ (rows : List Row) (name : Text) (is : IsName name) (words : List Text) where
     waits-dashes : IsFault (verdict names (at rows (Some (name, [])) (option name) false) ((45 ∷ 45 ∷ []) ∷ words))
     waits-dashes =
-        refused-later names (at rows (Some (name, [])) (option name) false) (at rows (Some (name, [])) (option name) true) (45 ∷ 45 ∷ []) words (dashes_turn names rows (Some (name, [])) (option name)).1
+        refused-later names (at rows (Some (name, [])) (option name) false) (at rows (Some (name, [])) (option name)
+        true) (45 ∷ 45 ∷ []) words (dashes_turn names rows (Some (name, [])) (option name)).1
         (bad-trailing words rows (Some (name, [])) (option name) (pending-none names name (known name is) rows))
 
     waits-long : (x : ℕ) (xs : Text) → IsFault (verdict names (at rows (Some (name, [])) (option name) false) ((45 ∷ 45 ∷ x ∷ xs) ∷ words))
@@ -135,7 +159,9 @@ module _ (names : List Text) where
     waits-short x xs other text = bad-short rows (Some (name, [])) (option name) x xs words other text
 
     -- the next word is its value, which is refused when it is used
-    waits-bad : (word : Text) → IsPlainWord word → All IsUtf8 words → IsFault (use_fault false (option_built name) (word ∷ []) rows) → IsFault (verdict names (at rows (Some (name, [])) (option name) false) (word ∷ words))
+    waits-bad : (word : Text) → IsPlainWord word → All IsUtf8 words
+        → IsFault (use_fault false (option_built name) (word ∷ []) rows)
+        → IsFault (verdict names (at rows (Some (name, [])) (option name) false) (word ∷ words))
     waits-bad word plain texts bad =
         refused-later names (at rows (Some (name, [])) (option name) false) (at rows (Some (name, word ∷ [])) idle false) word words (value_turn names rows name word (known name is) plain).1
         (bad-pending words rows (Some (name, word ∷ [])) idle tt (subst IsFault (sym (pending-option names name (known name is) rows (word ∷ [])).0) bad) texts)
@@ -144,7 +170,8 @@ module _ (names : List Text) where
   waits-end rows name is = subst IsFault (sym (verdict-end names rows (Some (name, [])) (option name) false)) (pending-none names name (known name is) rows)
 
   -- the option was given before
-  waits-again : (words : List Text) (rows : List Row) (name : Text) → IsName name → has_row name rows ≡ true → All IsUtf8 words → IsFault (verdict names (at rows (Some (name, [])) (option name) false) words)
+  waits-again : (words : List Text) (rows : List Row) (name : Text) → IsName name → has_row name rows ≡ true
+      → All IsUtf8 words → IsFault (verdict names (at rows (Some (name, [])) (option name) false) words)
   waits-again [] rows name is there texts = waits-end rows name is
   waits-again (word ∷ words) rows name is there texts =
       let later = All-tail IsUtf8 word words texts in
@@ -170,15 +197,21 @@ module _ (names : List Text) where
 
 module _ (names : List Text) (named : All (λ name. name ≢ []) names) where
   -- the word is an argument
-  between-argument : (word : Text) (words : List Text) → Between names words → (rows : List Row) (pending : Pending) (waiting : Waiting) (so_far : Given) → IsFree waiting → Settles names rows pending so_far → IsPlainWord word
+  between-argument : (word : Text) (words : List Text) → Between names words → (rows : List Row) (pending : Pending)
+      (waiting : Waiting) (so_far : Given) → IsFree waiting → Settles names rows pending so_far → IsPlainWord word
       → has_dash_value false words ≡ false → All IsUtf8 words → Agrees names (given names None words (with_arguments so_far (word ∷ []))) (at rows pending waiting false) (word ∷ words)
   between-argument word words ih rows pending waiting so_far free settles plain no_dash texts =
       let turn = plain_turn names rows pending waiting word free plain in
-      agrees-step names (given names None words (with_arguments so_far (word ∷ []))) (at rows pending waiting false) (at (rows_with names rows pending) (Some ([], word ∷ [])) positional false) word words (turn.0 ∙ settles.0) turn.1
-      (ih (rows_with names rows pending) (Some ([], word ∷ [])) positional (with_arguments so_far (word ∷ [])) tt (settles-argument names (rows_with names rows pending) so_far word settles.1) no_dash texts)
+      agrees-step names (given names None words (with_arguments so_far (word ∷ []))) (at rows pending waiting false)
+      (at (rows_with names rows pending) (Some ([], word ∷ [])) positional false) word words (turn.0 ∙ settles.0)
+      turn.1
+      (ih (rows_with names rows pending) (Some ([], word ∷ [])) positional (with_arguments so_far (word ∷ [])) tt
+      (settles-argument names (rows_with names rows pending) so_far word settles.1) no_dash texts)
 
   -- the word is `--name` or `--name=value`
-  module _ (x : ℕ) (xs : Text) (words : List Text) (between : Between names words) (waits : Waits names words) (rows : List Row) (pending : Pending) (waiting : Waiting) (so_far : Given) (settles : Settles names rows pending so_far) (texts : All IsUtf8 words) where
+  module _ (x : ℕ) (xs : Text) (words : List Text) (between : Between names words) (waits : Waits names words)
+      (rows : List Row) (pending : Pending) (waiting : Waiting) (so_far : Given) (settles : Settles names rows pending
+      so_far) (texts : All IsUtf8 words) where
     abbrev long_word : Text
     long_word = 45 ∷ 45 ∷ x ∷ xs
 
@@ -201,12 +234,16 @@ module _ (names : List Text) (named : All (λ name. name ≢ []) names) where
     answer-is : given names None (long_word ∷ words) so_far ≡ answer long_value (list_any (bytes_eq long_name) names) (is_given so_far long_name) (list_any is_equals (x ∷ xs)) (bytes_eq long_value [])
     answer-is = ap (λ behind. answer behind (list_any (bytes_eq long_name) names) (is_given so_far long_name) (list_any is_equals (x ∷ xs)) (bytes_eq behind [])) (value_behind (x ∷ xs))
 
-    new-option : list_any (bytes_eq long_name) names ≡ true → is_given so_far long_name ≡ false → has_dash_value false (long_word ∷ words) ≡ false → (equals empty : Bool) → list_any is_equals (x ∷ xs) ≡ equals → bytes_eq long_value [] ≡ empty
+    new-option : list_any (bytes_eq long_name) names ≡ true → is_given so_far long_name ≡ false → has_dash_value false
+        (long_word ∷ words) ≡ false → (equals empty : Bool) → list_any is_equals (x ∷ xs) ≡ equals
+        → bytes_eq long_value [] ≡ empty
         → Agrees names (answer long_value true false equals empty) here (long_word ∷ words)
     new-option k a no_dash true true e f =
         refused-now names here long_word words
         (subst IsFault (sym (equals_turn names rows pending waiting long_word long_name long_value refl (rw e refl) (long_found names long_name true k)).0)
-        (fault_first _ [] (fault_second (pending_fault names rows pending) _ (subst (λ v. IsFault (use_fault false (option_built long_name) (v ∷ []) now)) (sym (same_bytes long_value [] f)) (use-empty names long_name now)))))
+        (fault_first _ [] (fault_second (pending_fault names rows pending) _
+        (subst (λ v. IsFault (use_fault false (option_built long_name) (v ∷ []) now))
+        (sym (same_bytes long_value [] f)) (use-empty names long_name now)))))
     new-option k a no_dash true false e f =
         let turn = equals_turn names rows pending waiting long_word long_name long_value refl (rw e refl) (long_found names long_name true k) in
         let is = name_is names long_name named k in
@@ -214,13 +251,19 @@ module _ (names : List Text) (named : All (λ name. name ≢ []) names) where
         let after = used (option_built long_name) (long_value ∷ []) now in
         agrees-step names (given names None words (with_option so_far long_name long_value)) here (at after None idle false) long_word words
         (turn.0 ∙ or_nil _ _ settles.0 (use-quiet names long_name long_value now new (not_empty long_value f))) turn.1
-        (between after None idle (with_option so_far long_name long_value) tt (refl, option_joins long_name long_value now so_far is new settles.1) (ap (λ b. has_dash_value (not b) words) (sym e) ∙ no_dash) texts)
+        (between after None idle (with_option so_far long_name long_value) tt (
+          refl,
+          option_joins long_name long_value
+              now so_far is new settles.1,
+        ) (ap (λ b. has_dash_value (not b) words) (sym e) ∙ no_dash) texts)
     new-option k a no_dash false empty e f =
         let turn = waits_turn names rows pending waiting long_word long_name refl (rw e refl) (long_found names long_name true k) in
-        agrees-step names (given names (Some long_name) words so_far) here (at now (Some (long_name, [])) (option long_name) false) long_word words (turn.0 ∙ ap (λ kinds. or_else kinds []) settles.0) turn.1
+        agrees-step names (given names (Some long_name) words so_far) here (at now (Some (long_name, []))
+        (option long_name) false) long_word words (turn.0 ∙ ap (λ kinds. or_else kinds []) settles.0) turn.1
         (waits now long_name so_far (name_is names long_name named k, k) settles.1 a (ap (λ b. has_dash_value (not b) words) (sym e) ∙ no_dash) texts)
 
-    old-option : list_any (bytes_eq long_name) names ≡ true → is_given so_far long_name ≡ true → (equals : Bool) → list_any is_equals (x ∷ xs) ≡ equals → IsFault (verdict names here (long_word ∷ words))
+    old-option : list_any (bytes_eq long_name) names ≡ true → is_given so_far long_name ≡ true → (equals : Bool)
+        → list_any is_equals (x ∷ xs) ≡ equals → IsFault (verdict names here (long_word ∷ words))
     old-option k a true e =
         let there = sym (is_given-row long_name (name_is names long_name named k) now so_far settles.1) ∙ a in
         refused-now names here long_word words
@@ -229,16 +272,22 @@ module _ (names : List Text) (named : All (λ name. name ≢ []) names) where
     old-option k a false e =
         let is = name_is names long_name named k in
         let there = sym (is_given-row long_name is now so_far settles.1) ∙ a in
-        refused-later names here (at now (Some (long_name, [])) (option long_name) false) long_word words (waits_turn names rows pending waiting long_word long_name refl (rw e refl) (long_found names long_name true k)).1
+        refused-later names here (at now (Some (long_name, [])) (option long_name) false) long_word words
+        (waits_turn names rows pending waiting long_word long_name refl (rw e refl) (long_found names long_name
+        true k)).1
         (waits-again names words now long_name (is, k) there texts)
 
     between-long : has_dash_value false (long_word ∷ words) ≡ false → Agrees names (given names None (long_word ∷ words) so_far) here (long_word ∷ words)
     between-long no_dash = subst (λ o. Agrees names o here (long_word ∷ words)) (sym answer-is) (by (list_any (bytes_eq long_name) names) (is_given so_far long_name) refl refl)
       where
-        by : (known again : Bool) → list_any (bytes_eq long_name) names ≡ known → is_given so_far long_name ≡ again → Agrees names (answer long_value (list_any (bytes_eq long_name) names) (is_given so_far long_name) (list_any is_equals (x ∷ xs)) (bytes_eq long_value [])) here (long_word ∷ words)
+        by : (known again : Bool) → list_any (bytes_eq long_name) names ≡ known → is_given so_far long_name ≡ again
+            → Agrees names (answer long_value (list_any (bytes_eq long_name) names) (is_given so_far long_name)
+            (list_any is_equals (x ∷ xs)) (bytes_eq long_value [])) here (long_word ∷ words)
         by false again k a =
             subst (λ b. Agrees names (answer long_value b (is_given so_far long_name) (list_any is_equals (x ∷ xs)) (bytes_eq long_value [])) here (long_word ∷ words)) (sym k)
-            (refused-now names here long_word words (unknown_turn names rows pending waiting long_word long_name (cond (list_any is_equals (x ∷ xs)) (Some long_value) None) refl refl (long_found names long_name false k)))
+            (refused-now names here long_word words (unknown_turn names rows pending waiting long_word long_name
+            (cond (list_any is_equals (x ∷ xs)) (Some long_value) None) refl refl (long_found names long_name
+            false k)))
         by true true k a =
             subst (λ b. Agrees names (answer long_value b (is_given so_far long_name) (list_any is_equals (x ∷ xs)) (bytes_eq long_value [])) here (long_word ∷ words)) (sym k)
             (subst (λ b. Agrees names (answer long_value true b (list_any is_equals (x ∷ xs)) (bytes_eq long_value [])) here (long_word ∷ words)) (sym a)
@@ -257,7 +306,9 @@ module _ (names : List Text) (named : All (λ name. name ≢ []) names) where
       (λ text none. between-argument [] words between rows pending waiting so_far free settles plain_empty none later)
       (λ text none. between-argument (45 ∷ []) words between rows pending waiting so_far free settles plain_dash none later)
       (λ text none.
-      agrees-step names (Some (with_arguments so_far words)) (at rows pending waiting false) (at rows pending waiting true) (45 ∷ 45 ∷ []) words (dashes_turn names rows pending waiting).0 (dashes_turn names rows pending waiting).1
+      agrees-step names (Some (with_arguments so_far words)) (at rows pending waiting false)
+      (at rows pending waiting true) (45 ∷ 45 ∷ []) words (dashes_turn names rows pending waiting).0
+      (dashes_turn names rows pending waiting).1
       (trailing names words rows pending waiting so_far settles))
       (λ x xs text none. between-long x xs words between waits rows pending waiting so_far settles later none)
       (λ x xs other text none.
@@ -274,7 +325,9 @@ module _ (names : List Text) (named : All (λ name. name ≢ []) names) where
   waits-step word words between rows name so_far is are new no_dash texts =
       let later = All-tail IsUtf8 word words texts in
       let row = sym (is_given-row name is.0 rows so_far are) ∙ new in
-      by_form (λ word. IsUtf8 word → has_dash_value true (word ∷ words) ≡ false → Agrees names (given names (Some name) (word ∷ words) so_far) (at rows (Some (name, [])) (option name) false) (word ∷ words))
+      by_form (λ word. IsUtf8 word → has_dash_value true (word ∷ words) ≡ false
+      → Agrees names (given names (Some name) (word ∷ words) so_far) (at rows (Some (name, [])) (option name)
+      false) (word ∷ words))
       (λ text none. waits-bad names rows name is words [] plain_empty later (use-empty names name rows))
       (λ text none. absurd (true≢false none))
       (λ text none. waits-dashes names rows name is words)
@@ -287,9 +340,15 @@ module _ (names : List Text) (named : All (λ name. name ≢ []) names) where
       let takes : given names (Some name) ((b ∷ bs) ∷ words) so_far ≡ given names None words (with_option so_far name (b ∷ bs)) = simp other refl in
       let past : has_dash_value true ((b ∷ bs) ∷ words) ≡ has_dash_value false words = simp (other, dash_apart b other) refl in
       subst (λ o. Agrees names o (at rows (Some (name, [])) (option name) false) ((b ∷ bs) ∷ words)) (sym takes)
-      (agrees-step names (given names None words (with_option so_far name value)) (at rows (Some (name, [])) (option name) false) (at rows (Some (name, value ∷ [])) idle false) value words turn.0 turn.1
-      (between rows (Some (name, value ∷ [])) idle (with_option so_far name value) tt
-      (pending.0 ∙ use-quiet names name value rows row (not_empty value refl), subst (λ all. AreRowsOf all (with_option so_far name value)) (sym pending.1) (option_joins name value rows so_far is.0 row are))
+      (agrees-step names (given names None words (with_option so_far name value))
+      (at rows (Some (name, [])) (option name) false) (at rows (Some (name, value ∷ [])) idle false) value words
+      turn.0 turn.1
+      (between rows (Some (name, value ∷ [])) idle (with_option so_far name value) tt (
+        pending.0 ∙ use-quiet names name value rows row (not_empty value refl),
+        subst
+            (λ all. AreRowsOf all (with_option so_far name value)) (sym pending.1) (option_joins name value rows so_far
+            is.0 row are),
+      )
       (sym past ∙ none) later)))
       word (All-head IsUtf8 word words texts) no_dash
 

@@ -57,9 +57,13 @@ module _ (files : Files) (boot : RunWords) (before after : World) (accepted : Is
 
   not-refused : (other : Setup) → SetsUpBoot files boot (length before.devices.terms) other → (fault : BootFault) → Refuses other.file other.blocks fault → ⊥
   not-refused other it fault refuses =
-      accepted.starts fault (subst (λ (file : List ℕ). Refuses file accepted.setup.blocks fault) (one-file other it) (subst (λ (blocks : ℕ). Refuses other.file blocks fault) (it.words.blocks ∙ sym accepted.sets.words.blocks) refuses))
+      accepted.starts fault (subst (λ (file : List ℕ). Refuses file accepted.setup.blocks fault) (one-file other it)
+      (subst (λ (blocks : ℕ). Refuses other.file blocks fault) (it.words.blocks ∙ sym accepted.sets.words.blocks)
+      refuses))
 
-  one-run : (setup : Setup) (lives : Bool) → SetsUpBoot files boot (length before.devices.terms) setup → (ran : RunsToEnd setup boot.files lives before after) → (status : ℕ) → status ≡ (if lives then 5 else 0) → IsOneRun files boot before after status
+  one-run : (setup : Setup) (lives : Bool) → SetsUpBoot files boot (length before.devices.terms) setup
+      → (ran : RunsToEnd setup boot.files lives before after) → (status : ℕ) → status ≡ (if lives then 5 else 0)
+      → IsOneRun files boot before after status
   one-run setup lives sets ran status is = record {
     setup = setup;
     sets = sets;
@@ -96,7 +100,8 @@ module _ (files : Files) (boot : RunWords) (before after : World) (accepted : Is
     by-end (BadText Script line) call comes is = absurd (ok-err accepted.setup.keys line (sym accepted.sets.words.texts.script ∙ comes))
     by-end (BadText input line) call comes is = absurd (unbroken line comes)
     by-end (BadImage number fault) call comes is =
-        let volume : IsVolume comes.1.image = volume-at number (images_of files boot.files) comes.1.image comes.1.is (subst (λ (images : List (List ℕ)). All IsVolume images) accepted.sets.images accepted.sets.volumes) in
+        let volume : IsVolume comes.1.image = volume-at number (images_of files boot.files) comes.1.image comes.1.is
+        (subst (λ (images : List (List ℕ)). All IsVolume images) accepted.sets.images accepted.sets.volumes) in
         absurd (no_image_breach comes.1.image volume.0 volume.1 comes.1.broken.broken)
     by-end CannotWriteFile call comes is = absurd call.may
     by-end (Refused number) call comes is = absurd call.may
@@ -108,7 +113,10 @@ module _ (files : Files) (boot : RunWords) (before after : World) (accepted : Is
     by-end NoFirst call comes is = absurd (not-refused comes.0 comes.1 comes.2.0 comes.2.1)
     by-end TooLarge call comes is = absurd (not-refused comes.0 comes.1 comes.2.0 comes.2.1)
 
-pub is-one-run : (words : List (List ℕ)) (boot : RunWords) (files : Files) (before after : World) (noted notes : Notes) (status : ℕ) → command_of words ≡ Some (BootCommand boot) → TopCall words before after noted notes status → before.files ≡ Some files → All IsObserved before.devices.terms → IsAccepted files boot (length before.devices.terms) → ¬ Rose before.faults after.faults → BootIsOneRun files boot before after status
+pub is-one-run : (words : List (List ℕ)) (boot : RunWords) (files : Files) (before after : World)
+    (noted notes : Notes) (status : ℕ) → command_of words ≡ Some (BootCommand boot) → TopCall words before after noted
+    notes status → before.files ≡ Some files → All IsObserved before.devices.terms → IsAccepted files boot
+    (length before.devices.terms) → ¬ Rose before.faults after.faults → BootIsOneRun files boot before after status
 is-one-run words boot files before after noted notes status spelled call told observed accepted kept =
     by-end files boot before after accepted kept observed status report.end report.call comes report.status_is
   where

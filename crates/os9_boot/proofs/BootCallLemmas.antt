@@ -50,7 +50,8 @@ use Rattle.os9_boot.proofs.NameLemmas.{names-none}
 -- ---- worlds
 
 -- a line on the error stream changes no world
-pub err-only : {Host : Type 0} (members : Ghosts Host) (before after : Host) (devices : Outside) → ChangesErrOnly members before after → world_of members after devices ≡ world_of members before devices
+pub err-only : {Host : Type 0} (members : Ghosts Host) (before after : Host) (devices : Outside)
+    → ChangesErrOnly members before after → world_of members after devices ≡ world_of members before devices
 err-only members before after devices changed =
     rw (changed.files, changed.out, changed.faults, changed.name, changed.in_read) refl
 
@@ -129,7 +130,9 @@ wanting-leaves (DebugCommand debug) before after same = tt
 -- ---- commands that end before anything ran
 
 -- nothing was changed
-pub unchanged : (command : Command) (before after : World) (end : End) → after ≡ before → (meaning command).may end → (meaning command).devices before after end → FailsAsTold command end before after → (meaning command).comes before after end → CommandCall command before after end
+pub unchanged : (command : Command) (before after : World) (end : End) → after ≡ before → (meaning command).may end
+    → (meaning command).devices before after end → FailsAsTold command end before after → (meaning command).comes
+    before after end → CommandCall command before after end
 unchanged command before after end same may left told comes = record {
   comes = comes;
   may = may;
@@ -166,7 +169,8 @@ nothing-may (DebugCommand debug) = tt
 -- memory was out
 pub out-of-memory : (command : Command) (before after : World) → after ≡ before → CommandCall command before after NoMemory
 out-of-memory command before after same =
-    unchanged command before after NoMemory same (nothing-may command) (wanting-leaves command before after (still-silent before after same)) (kept-counts before after same) (nothing-comes command before after same)
+    unchanged command before after NoMemory same (nothing-may command) (wanting-leaves command before after
+    (still-silent before after same)) (kept-counts before after same) (nothing-comes command before after same)
 
 unread-comes : (command : Command) (input : Input) (name : List ℕ) (before after : World) → (meaning command).file_name input ≡ Some name → (meaning command).comes before after (CannotRead input)
 unread-comes (RunCommand run) input name before after named =
@@ -184,7 +188,10 @@ unread-comes (DebugCommand debug) input name before after named =
     of-any before.files (λ files. DebugComesTo files debug before after (CannotRead input)) (λ files. tt)
 
 -- a file could not be read
-pub could-not-read : (command : Command) (input : Input) (name : List ℕ) (before after : World) → (meaning command).file_name input ≡ Some name → (meaning command).may (CannotRead input) → FailsToReadFile name before after → after.files ≡ before.files → after.out ≡ before.out → after.devices ≡ before.devices → CommandCall command before after (CannotRead input)
+pub could-not-read : (command : Command) (input : Input) (name : List ℕ) (before after : World)
+    → (meaning command).file_name input ≡ Some name → (meaning command).may (CannotRead input) → FailsToReadFile name
+    before after → after.files ≡ before.files → after.out ≡ before.out → after.devices ≡ before.devices
+    → CommandCall command before after (CannotRead input)
 could-not-read command input name before after named may failed files out devices = record {
   comes = unread-comes command input name before after named;
   may = may;
@@ -194,7 +201,9 @@ could-not-read command input name before after named may failed files out device
 }
 
 -- a read of its files ended it
-pub stopped-call : (command : Command) (before after : World) (end : End) → ((input : Input) → (meaning command).may (CannotRead input)) → StopsAtRead (meaning command).file_name before after end → CommandCall command before after end
+pub stopped-call : (command : Command) (before after : World) (end : End)
+    → ((input : Input) → (meaning command).may (CannotRead input)) → StopsAtRead (meaning command).file_name before
+    after end → CommandCall command before after end
 stopped-call command before after (CannotRead input) may (name, named, could) =
     could-not-read command input name before after named (may input) could.failed could.files could.out could.devices
 stopped-call command before after NoMemory may same = out-of-memory command before after same
@@ -273,19 +282,26 @@ ended-after command before between after end same call = subst (λ world. Comman
 -- ---- the top call
 
 -- the line was written to the error stream, as far as the answer says
-pub reported : {Host Value : Type 0} (members : Ghosts Host) (line : List ℕ) (answer : Result Value HostFault) (before after : Host) → WritesErr members line answer before after → Reports line (notes_of members before) (notes_of members after)
+pub reported : {Host Value : Type 0} (members : Ghosts Host) (line : List ℕ) (answer : Result Value HostFault)
+    (before after : Host) → WritesErr members line answer before after → Reports line (notes_of members before)
+    (notes_of members after)
 reported {Value = Value} members line answer before after wrote = record {
   told = by answer wrote;
   read_kept = wrote.others.read;
   written_kept = wrote.others.written;
 }
   where
-    by : (answer : Result Value HostFault) → WritesErr members line answer before after → GainsLine line (notes_of members before) (notes_of members after) ⊎ LosesLine line (notes_of members before) (notes_of members after)
+    by : (answer : Result Value HostFault) → WritesErr members line answer before after
+        → GainsLine line (notes_of members before) (notes_of members after) ⊎ LosesLine line (notes_of members before)
+        (notes_of members after)
     by (Ok value) wrote = inl (record { gained = wrote.whole; no_fault = wrote.count_kept })
     by (Err fault) wrote = inr (record { gained = wrote.prefix; fault = wrote.fault_counted })
 
 -- a command was done, and then only the error stream was written
-pub command-reported : (command : Command) (before between after : World) (noted done notes : Notes) (end : End) (answer : ℕ) → after ≡ between → answer ≡ status_number end → CommandCall command before between end → NotesFiles command end noted done → Reports (end_line command end) done notes → CommandReport command before after noted notes answer
+pub command-reported : (command : Command) (before between after : World) (noted done notes : Notes) (end : End)
+    (answer : ℕ) → after ≡ between → answer ≡ status_number end → CommandCall command before between end
+    → NotesFiles command end noted done → Reports (end_line command end) done notes → CommandReport command before
+    after noted notes answer
 command-reported command before between after noted done notes end answer same is call files line = record {
   end = end;
   status_is = is;

@@ -68,14 +68,26 @@ module _ (before : World) (boot : RunWords) (read : BootFiles) (has : IfSome bef
   module _ (after : World) (same : after ≡ before) where
     script-refused : (line : ℕ) → keys_of (length before.devices.terms) read.script.items ≡ Err line → CommandCall (BootCommand boot) before after (BadText ScriptInput line)
     script-refused line refused =
-        unchanged (BootCommand boot) before after (BadText ScriptInput line) same tt (still-silent before after same) (kept-counts before after same) (of-files (λ files. BootComesTo files boot before after (BadText ScriptInput line)) (λ files has. rw (← has.script) refused))
+        unchanged (BootCommand boot) before after (BadText ScriptInput line) same tt (still-silent before after same)
+        (kept-counts before after same) (of-files (λ files. BootComesTo files boot before after
+        (BadText ScriptInput line)) (λ files has. rw (← has.script) refused))
 
-    slices-refused : (keys : List ScriptKey) (line : ℕ) → keys_of (length before.devices.terms) read.script.items ≡ Ok keys → slices_of read.slices.items ≡ Err line → CommandCall (BootCommand boot) before after (BadText SlicesInput line)
+    slices-refused : (keys : List ScriptKey) (line : ℕ) → keys_of (length before.devices.terms) read.script.items ≡ Ok
+        keys → slices_of read.slices.items ≡ Err line → CommandCall (BootCommand boot) before after
+        (BadText SlicesInput line)
     slices-refused keys line given refused =
-        unchanged (BootCommand boot) before after (BadText SlicesInput line) same tt (still-silent before after same) (kept-counts before after same) (of-files (λ files. BootComesTo files boot before after (BadText SlicesInput line)) (λ files has. record { keys = keys; accepted = rw (← has.script) given; refused = rw (← has.slices) refused }))
+        unchanged (BootCommand boot) before after (BadText SlicesInput line) same tt (still-silent before after same)
+        (kept-counts before after same) (of-files (λ files. BootComesTo files boot before after
+        (BadText SlicesInput line)) (λ files has. record {
+          keys = keys;
+          accepted = rw (← has.script) given;
+          refused = rw (← has.slices) refused;
+        }))
 
     -- a text was refused
-    pub boot-texts-refused : (terminals : ℕ) (end : End) → terminals ≡ length before.devices.terms → RefusesTexts terminals read.script.items read.slices.items end → CommandCall (BootCommand boot) before after end
+    pub boot-texts-refused : (terminals : ℕ) (end : End) → terminals ≡ length before.devices.terms
+        → RefusesTexts terminals read.script.items read.slices.items end → CommandCall (BootCommand boot) before after
+        end
     boot-texts-refused terminals NoMemory count refused = out-of-memory (BootCommand boot) before after same
     boot-texts-refused terminals (BadText ScriptInput line) count refused = script-refused line (rw (← count) refused)
     boot-texts-refused terminals (BadText SlicesInput line) count refused =
@@ -90,9 +102,13 @@ module _ (before : World) (boot : RunWords) (read : BootFiles) (has : IfSome bef
     -- the images were refused
     pub boot-refused : (after : World) (end : End) → after ≡ before → RefusesImages read.images end → CommandCall (BootCommand boot) before after end
     boot-refused after (BadImage number fault) same refused =
-        unchanged (BootCommand boot) before after (BadImage number fault) same tt (still-silent before after same) (kept-counts before after same) (of-files (λ files. BootComesTo files boot before after (BadImage number fault)) (λ files has. ((keys, slices, accepted files has), rw (← has.images) refused)))
+        unchanged (BootCommand boot) before after (BadImage number fault) same tt (still-silent before after same)
+        (kept-counts before after same) (of-files (λ files. BootComesTo files boot before after
+        (BadImage number fault)) (λ files has. ((keys, slices, accepted files has), rw (← has.images) refused)))
     boot-refused after BadBounds same refused =
-        unchanged (BootCommand boot) before after BadBounds same tt (still-silent before after same) (kept-counts before after same) (of-files (λ files. BootComesTo files boot before after BadBounds) (λ files has. ((keys, slices, accepted files has), rw (← has.images) refused)))
+        unchanged (BootCommand boot) before after BadBounds same tt (still-silent before after same)
+        (kept-counts before after same) (of-files (λ files. BootComesTo files boot before after BadBounds)
+        (λ files has. ((keys, slices, accepted files has), rw (← has.images) refused)))
     boot-refused after NoMemory same refused = out-of-memory (BootCommand boot) before after same
     boot-refused after end same refused = absurd refused
 
@@ -116,7 +132,9 @@ module _ (before : World) (boot : RunWords) (read : BootFiles) (has : IfSome bef
         file = is;
       }
 
-      pub boot-ended : length read.images ≡ length boot.files → (images : List (List ℕ)) (mid after : World) (end : RunEnd) (answer : End) → RunsImages setup images before mid end → EndsBoot boot.files images end answer mid after → CommandCall (BootCommand boot) before after answer
+      pub boot-ended : length read.images ≡ length boot.files → (images : List (List ℕ)) (mid after : World)
+          (end : RunEnd) (answer : End) → RunsImages setup images before mid end → EndsBoot boot.files images end
+          answer mid after → CommandCall (BootCommand boot) before after answer
       boot-ended many images mid after end answer run ends =
           let it = machine-ends setup boot.files images before mid after end answer run ends in
           record {

@@ -25,7 +25,9 @@ all-of names written end writes (inl is) = absurd (omega (arith, is))
 all-of names written end writes (inr is) = absurd (omega (arith, is))
 
 -- or neither that, nor that of a failed write, nor of want of memory
-none-of : (names written : List (List ℕ)) (end : End) → BootWrites names end written → ¬ IsOfWholeRun (status_number end) → status_number end ≢ status_number CannotWrite → status_number end ≢ status_number NoMemory → written ≡ []
+none-of : (names written : List (List ℕ)) (end : End) → BootWrites names end written
+    → ¬ IsOfWholeRun (status_number end) → status_number end ≢ status_number CannotWrite → status_number end ≢
+    status_number NoMemory → written ≡ []
 none-of names written Ended writes unended sure enough = absurd (unended (inl refl))
 none-of names written Living writes unended sure enough = absurd (unended (inr refl))
 none-of names written (CannotWriteImage number) writes unended sure enough = absurd (sure refl)
@@ -41,7 +43,8 @@ front-of names written (CannotWriteImage number) writes =
 front-of names written NoMemory writes = writes
 front-of names written end writes = (names, sym (ap (λ written. written ++ names) writes))
 
-of-report : (boot : RunWords) (before after : World) (noted notes : Notes) (status : ℕ) → CommandReport (BootCommand boot) before after noted notes status → WritesByStatus boot.files status noted notes
+of-report : (boot : RunWords) (before after : World) (noted notes : Notes) (status : ℕ)
+    → CommandReport (BootCommand boot) before after noted notes status → WritesByStatus boot.files status noted notes
 of-report boot before after noted notes status report =
     let written = report.files.written in
     let is : notes.written ≡ noted.written ++ written = report.line.written_kept ∙ ap (λ (notes : Notes). notes.written) report.files.noted in
@@ -57,6 +60,10 @@ of-report boot before after noted notes status report =
           is ∙ ap (λ names. noted.written ++ names) (none-of boot.files written report.end report.files.writes unended sure enough) ∙ append-nil noted.written;
     }
 
-pub writes-by-status : (words : List (List ℕ)) (boot : RunWords) (before after : World) (noted notes : Notes) (status : ℕ) → command_of words ≡ Some (BootCommand boot) → TopCall words before after noted notes status → WritesByStatus boot.files status noted notes
+pub writes-by-status : (words : List (List ℕ)) (boot : RunWords) (before after : World) (noted notes : Notes)
+    (status : ℕ) → command_of words ≡ Some (BootCommand boot) → TopCall words before after noted notes status
+    → WritesByStatus boot.files status noted notes
 writes-by-status words boot before after noted notes status spelled call =
-    of-report boot before after noted notes status (subst (λ (found : Option Command). MatchOption found (WordsReport before after noted notes status) (λ command. CommandReport command before after noted notes status)) spelled call)
+    of-report boot before after noted notes status
+    (subst (λ (found : Option Command). MatchOption found (WordsReport before after noted notes status)
+    (λ command. CommandReport command before after noted notes status)) spelled call)

@@ -73,7 +73,10 @@ ended asm before after NoMemory may same = record {
 ended asm before after end may stops = absurd stops
 
 -- SOURCE could not be read
-pub read-ended : (asm : AsmWords) (before after : Outside → World) (end : End) → ((devices : Outside) (name_of : Input → Option (List ℕ)) → name_of Source ≡ Some asm.source → StopsAtRead name_of (before devices) (after devices) end) → (devices : Outside) → AsmCall asm (before devices) (after devices) end
+pub read-ended : (asm : AsmWords) (before after : Outside → World) (end : End)
+    → ((devices : Outside) (name_of : Input → Option (List ℕ)) → name_of Source ≡ Some asm.source
+    → StopsAtRead name_of (before devices) (after devices) end) → (devices : Outside) → AsmCall asm (before devices)
+    (after devices) end
 read-ended asm before after end stops devices =
     ended asm (before devices) (after devices) end (may-stop asm.source (before devices) (after devices) end (stops devices (only-source asm.source) refl)) (stops devices (asm_file_name asm) refl)
 

@@ -30,7 +30,9 @@ module _ (before after : World) (image bytes : List ℕ) (read : IfSome before.f
   -- the image has a fault
   pub image-faulted : (fault : CheckFault) → IsFault bytes fault.rule fault.lsn → after ≡ before → CommandCall (CheckCommand image) before after (BadImage 0 fault)
   image-faulted fault is same =
-      unchanged (CheckCommand image) before after (BadImage 0 fault) same refl (record { out = still-silent before after same; devices = ap (λ (w : World). w.devices) same }) (kept-counts before after same) (of-image (λ bytes. CheckComesTo bytes before after (BadImage 0 fault)) is)
+      unchanged (CheckCommand image) before after (BadImage 0 fault) same refl
+      (record { out = still-silent before after same; devices = ap (λ (w : World). w.devices) same })
+      (kept-counts before after same) (of-image (λ bytes. CheckComesTo bytes before after (BadImage 0 fault)) is)
 
   module _ (tree : Tree) (is : IsTreeOf bytes tree) where
     counts : tree_line tree ≡ counts_of (image_geometry bytes) is.volume

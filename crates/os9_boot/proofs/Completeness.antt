@@ -19,7 +19,10 @@ use Rattle.os9_boot.specs.Meaning.{meaning}
 use Rattle.os9_boot.specs.TopCall.{CommandReport, Reports, TopCall, WordsReport, words_status}
 
 -- a drive failed
-drive-rose : (command : Command) (before after : World) (drive number : ℕ) → (meaning command).may (DriveFailed drive number) → (meaning command).devices before after (DriveFailed drive number) → Rose (drive_at (drive_states before.devices.drives) drive).faults (drive_at (drive_states after.devices.drives) drive).faults
+drive-rose : (command : Command) (before after : World) (drive number : ℕ) → (meaning command).may
+    (DriveFailed drive number) → (meaning command).devices before after (DriveFailed drive number)
+    → Rose (drive_at (drive_states before.devices.drives) drive).faults (drive_at (drive_states after.devices.drives)
+    drive).faults
 drive-rose (Run run) before after drive number may left = absurd may
 drive-rose (Boot boot) before after drive number may left = left.failed.rose
 drive-rose (Check image) before after drive number may left = left.out.failed.rose

@@ -32,7 +32,10 @@ debug-call : (debug : DebugWords) (before after : World) (end : End) → Command
 debug-call debug before after end call =
     record { comes = call.comes; may = call.may; devices = call.devices; host = call.host; files = call.files }
 
-pub shows-one-run : (words : List (List ℕ)) (debug : DebugWords) (files : Files) (before after : World) (noted notes : Notes) (status : ℕ) → command_of words ≡ Some (Debug debug) → TopCall words before after noted notes status → status ≡ status_number Ended → IsFaultless files debug before after → ShowsOneCourse files debug before after
+pub shows-one-run : (words : List (List ℕ)) (debug : DebugWords) (files : Files) (before after : World)
+    (noted notes : Notes) (status : ℕ) → command_of words ≡ Some (Debug debug) → TopCall words before after noted
+    notes status → status ≡ status_number Ended → IsFaultless files debug before after → ShowsOneCourse files debug
+    before after
 shows-one-run words debug files before after noted notes status spelled call done faultless =
     shows-one files debug before after faultless
     (subst (DebugCall debug before after) (is-done report.end report.call.may (sym report.status_is ∙ done)) (debug-call debug before after report.end report.call))
@@ -59,7 +62,9 @@ failed-at : (command : Command) (before after : World) (end : End) (n : ℕ) →
 failed-at command before after (TerminalFailed number) n call is = (number, failed-if-told command before after number call)
 failed-at command before after end n call is = absurd (omega (arith, is))
 
-pub failed-by-status : (words : List (List ℕ)) (before after : World) (noted notes : Notes) (status n : ℕ) → TopCall words before after noted notes status → status ≡ status_number (TerminalFailed n) → (number : ℕ) × TerminalRose number before.devices after.devices
+pub failed-by-status : (words : List (List ℕ)) (before after : World) (noted notes : Notes) (status n : ℕ)
+    → TopCall words before after noted notes status → status ≡ status_number (TerminalFailed n)
+    → (number : ℕ) × TerminalRose number before.devices after.devices
 failed-by-status words before after noted notes status n call told = by (command_of words) call
   where
     no-words : ((status ≡ words_status) × Reports words_line noted notes) ⊎ ((status ≡ status_number NoMemory) × Reports no_memory_line noted notes) → OneRose before after

@@ -89,7 +89,9 @@ fails-then number names before mid after kept (name, named, failed) =
 files-then : (fact : Files → Files → Type 0) (before mid after : World) → mid.files ≡ before.files → IfObserved fact mid.files after.files → IfObserved fact before.files after.files
 files-then fact before mid after kept wrote = subst (λ files. IfObserved fact files after.files) kept wrote
 
-outcome-after : (setup : Setup) (t : State) (written : List ℕ) (images : List (List ℕ)) (before mid after : World) → after.devices ≡ mid.devices → HasOutcome setup t written images before mid → HasOutcome setup t written images before after
+outcome-after : (setup : Setup) (t : State) (written : List ℕ) (images : List (List ℕ)) (before mid after : World)
+    → after.devices ≡ mid.devices → HasOutcome setup t written images before mid → HasOutcome setup t written images
+    before after
 outcome-after setup t written images before mid after same outcome = record {
   s = outcome.s;
   starts = outcome.starts;
@@ -103,7 +105,9 @@ outcome-after setup t written images before mid after same outcome = record {
 
 -- ---- a run that came to its end
 
-module _ (setup : Setup) (names images : List (List ℕ)) (before mid after : World) (lives : Bool) (begun : ℕ) (ran : All IsObserved before.devices.terms → EndsWithImages setup lives begun images before mid) (still : mid.files ≡ before.files) (out : after.out ≡ mid.out) (devices : after.devices ≡ mid.devices) where
+module _ (setup : Setup) (names images : List (List ℕ)) (before mid after : World) (lives : Bool) (begun : ℕ)
+    (ran : All IsObserved before.devices.terms → EndsWithImages setup lives begun images before mid)
+    (still : mid.files ≡ before.files) (out : after.out ≡ mid.out) (devices : after.devices ≡ mid.devices) where
   to-end : IfObserved (WritesAll names images) mid.files after.files → All IsObserved before.devices.terms → RunsToEnd setup names lives before after
   to-end wrote observed =
       let it = ran observed in
@@ -149,13 +153,16 @@ module _ (setup : Setup) (names images : List (List ℕ)) (before mid after : Wo
     changed : IfObserved (WritesAll names images) mid.files after.files → IfObserved (ChangesOnly names) before.files after.files
     changed wrote = all-change names images before.files after.files (files-then (WritesAll names images) before mid after still wrote)
 
-pub ended : (setup : Setup) (names images : List (List ℕ)) (before mid after : World) (begun : ℕ) (answer : End) → RunsImages setup images before mid (Run.Ended begun) → WritesBack names images Ended answer mid after → MachineEnds setup names before after answer
+pub ended : (setup : Setup) (names images : List (List ℕ)) (before mid after : World) (begun : ℕ) (answer : End)
+    → RunsImages setup images before mid (Run.Ended begun) → WritesBack names images Ended answer mid after
+    → MachineEnds setup names before after answer
 ended setup names images before mid after begun answer run wrote = by wrote.files
   where
     kept : HasNoFault before mid
     kept = run.no_fault (λ is. cc is)
 
-    by : ((answer ≡ Ended) × HasNoFault mid after × IfObserved (WritesAll names images) mid.files after.files) ⊎ ((number : ℕ) × StopsAt names images number answer mid after) → MachineEnds setup names before after answer
+    by : ((answer ≡ Ended) × HasNoFault mid after × IfObserved (WritesAll names images) mid.files after.files) ⊎
+        ((number : ℕ) × StopsAt names images number answer mid after) → MachineEnds setup names before after answer
     by (inl (is, sure, all)) = rw is (record {
       kind = tt;
       comes = to-end setup names images before mid after false begun run.gives run.files_kept wrote.out_kept wrote.devices_kept all;
@@ -166,13 +173,16 @@ ended setup names images before mid after begun answer run wrote = by wrote.file
     by (inr (number, stopped)) =
         stops setup names images before mid after false begun run.gives run.files_kept wrote.out_kept wrote.devices_kept kept answer number stopped
 
-pub living : (setup : Setup) (names images : List (List ℕ)) (before mid after : World) (begun : ℕ) (answer : End) → RunsImages setup images before mid (Run.Living begun) → WritesBack names images Living answer mid after → MachineEnds setup names before after answer
+pub living : (setup : Setup) (names images : List (List ℕ)) (before mid after : World) (begun : ℕ) (answer : End)
+    → RunsImages setup images before mid (Run.Living begun) → WritesBack names images Living answer mid after
+    → MachineEnds setup names before after answer
 living setup names images before mid after begun answer run wrote = by wrote.files
   where
     kept : HasNoFault before mid
     kept = run.no_fault (λ is. cc is)
 
-    by : ((answer ≡ Living) × HasNoFault mid after × IfObserved (WritesAll names images) mid.files after.files) ⊎ ((number : ℕ) × StopsAt names images number answer mid after) → MachineEnds setup names before after answer
+    by : ((answer ≡ Living) × HasNoFault mid after × IfObserved (WritesAll names images) mid.files after.files) ⊎
+        ((number : ℕ) × StopsAt names images number answer mid after) → MachineEnds setup names before after answer
     by (inl (is, sure, all)) = rw is (record {
       kind = tt;
       comes = to-end setup names images before mid after true begun run.gives run.files_kept wrote.out_kept wrote.devices_kept all;
@@ -185,7 +195,8 @@ living setup names images before mid after begun answer run wrote = by wrote.fil
 
 -- ---- a machine that did not start, or not run to its end
 
-refused : (setup : Setup) (names images : List (List ℕ)) (before mid : World) (fault : BootFault) → RunsImages setup images before mid (Run.Refused fault) → MachineEnds setup names before mid (boot_end fault)
+refused : (setup : Setup) (names images : List (List ℕ)) (before mid : World) (fault : BootFault)
+    → RunsImages setup images before mid (Run.Refused fault) → MachineEnds setup names before mid (boot_end fault)
 refused setup names images before mid OutOfMemory run = record {
   kind = tt;
   comes = inl (still-undone before mid run.unrun);
@@ -215,7 +226,9 @@ refused setup names images before mid TooLargeFault run = record {
   files = run.files_kept;
 }
 
-failed-to-mount : (setup : Setup) (names images : List (List ℕ)) (before mid : World) (drive number : ℕ) → RunsImages setup images before mid (Run.DriveFailed drive number) → MachineEnds setup names before mid (DriveFailed drive number)
+failed-to-mount : (setup : Setup) (names images : List (List ℕ)) (before mid : World) (drive number : ℕ)
+    → RunsImages setup images before mid (Run.DriveFailed drive number) → MachineEnds setup names before mid
+    (DriveFailed drive number)
 failed-to-mount setup names images before mid drive number run = record {
   kind = tt;
   comes = run.judged;
@@ -250,7 +263,9 @@ out-of-memory-then setup names images before mid run = record {
     by (inr first) = inr (λ observed. inl (record { first = record { images = images; first = first }; files = run.files_kept }))
 
 -- a machine has run, and its images were written where it came to its end
-pub machine-ends : (setup : Setup) (names images : List (List ℕ)) (before mid after : World) (end : RunEnd) (answer : End) → RunsImages setup images before mid end → EndsBoot names images end answer mid after → MachineEnds setup names before after answer
+pub machine-ends : (setup : Setup) (names images : List (List ℕ)) (before mid after : World) (end : RunEnd)
+    (answer : End) → RunsImages setup images before mid end → EndsBoot names images end answer mid after
+    → MachineEnds setup names before after answer
 machine-ends setup names images before mid after (Run.Ended begun) answer run ends =
     ended setup names images before mid after begun answer run ends
 machine-ends setup names images before mid after (Run.Living begun) answer run ends =
@@ -285,6 +300,7 @@ ends-alone images Run.OutputFailed world = (refl, refl)
 ends-alone images Run.NoMemory world = (refl, refl)
 
 -- a run that begins in the same world
-pub runs-after : (setup : Setup) (images : List (List ℕ)) (before between after : World) (end : RunEnd) → between ≡ before → RunsImages setup images between after end → RunsImages setup images before after end
+pub runs-after : (setup : Setup) (images : List (List ℕ)) (before between after : World) (end : RunEnd)
+    → between ≡ before → RunsImages setup images between after end → RunsImages setup images before after end
 runs-after setup images before between after end same run =
     subst (λ world. RunsImages setup images world after end) same run

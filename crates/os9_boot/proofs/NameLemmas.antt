@@ -174,7 +174,9 @@ stress-names seed end first next same =
     behind Stress.OutputFailed = tt
     behind Stress.NoMemory = tt
 
-behind-writes : (names images : List (List ℕ)) (end answer : End) (before after : World) → IsBehindReads end → ((answer ≡ end) × HasNoFault before after × IfObserved (WritesAll names images) before.files after.files) ⊎ ((number : ℕ) × StopsAt names images number answer before after) → IsBehindReads answer
+behind-writes : (names images : List (List ℕ)) (end answer : End) (before after : World) → IsBehindReads end
+    → ((answer ≡ end) × HasNoFault before after × IfObserved (WritesAll names images) before.files after.files) ⊎
+    ((number : ℕ) × StopsAt names images number answer before after) → IsBehindReads answer
 behind-writes names images end answer before after behind (inl (is, sure, all)) = rw is behind
 behind-writes names images end answer before after behind (inr (number, (wrote, inl (is, failed)))) = rw is tt
 behind-writes names images end answer before after behind (inr (number, (wrote, inr (is, sure)))) = rw is tt
@@ -207,6 +209,8 @@ module _ (names : List (List ℕ)) (before after : Notes) where
       record { written = take count names; writes = (drop count names, sym (take-append-drop count names)); noted = noted }
 
 -- none was written
-pub back-none : (names : List (List ℕ)) (notes : Notes) (end : RunEnd) (answer : End) → ((begun : ℕ) → end ≡ Run.Ended begun → ⊥) → ((begun : ℕ) → end ≡ Run.Living begun → ⊥) → answer ≡ ends_run end → NotesBack names answer notes notes
+pub back-none : (names : List (List ℕ)) (notes : Notes) (end : RunEnd) (answer : End)
+    → ((begun : ℕ) → end ≡ Run.Ended begun → ⊥) → ((begun : ℕ) → end ≡ Run.Living begun → ⊥) → answer ≡ ends_run end
+    → NotesBack names answer notes notes
 back-none names notes end answer ended living told =
     subst (λ answer. NotesBack names answer notes notes) (sym told) (record { written = []; writes = run-unwritten names end ended living; noted = written-none notes })

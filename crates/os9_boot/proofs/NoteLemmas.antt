@@ -37,7 +37,13 @@ module _ (asm : AsmWords) (first mid : Notes) (read : HasRead (asm_inputs asm) f
   -- the source was refused
   pub notes-refused : (source : List ℕ) (end : End) → RefusesSource source end → NotesAsm asm end first mid
   notes-refused source (BadSource line error) is = record { read = asm_inputs asm; reads = refl; written = []; writes = refl; noted = none-behind (asm_inputs asm) first mid read }
-  notes-refused source NoMemory is = record { read = asm_inputs asm; reads = ([], sym (append-nil (asm_inputs asm))); written = []; writes = (asm_outputs asm, refl); noted = none-behind (asm_inputs asm) first mid read }
+  notes-refused source NoMemory is = record {
+    read = asm_inputs asm;
+    reads = ([], sym (append-nil (asm_inputs asm)));
+    written = [];
+    writes = (asm_outputs asm, refl);
+    noted = none-behind (asm_inputs asm) first mid read;
+  }
   notes-refused source end is = absurd is
 
   written-behind : (next : Notes) (outputs : List (List ℕ)) → HasWritten outputs mid next → next ≡ having_written outputs (having_read (asm_inputs asm) first)
@@ -46,6 +52,20 @@ module _ (asm : AsmWords) (first mid : Notes) (read : HasRead (asm_inputs asm) f
   -- its module was written
   pub notes-written : (bytes : List ℕ) (end : End) (before after : World) (next : Notes) → WritesOut asm bytes end before after → NotesOut asm end mid next → NotesAsm asm end first next
   notes-written bytes Ended before after next wrote out = record { read = asm_inputs asm; reads = refl; written = out.written; writes = out.writes; noted = written-behind next out.written out.noted }
-  notes-written bytes CannotWriteFile before after next wrote out = record { read = asm_inputs asm; reads = refl; written = out.written; writes = out.writes; noted = written-behind next out.written out.noted }
-  notes-written bytes NoMemory before after next wrote out = record { read = asm_inputs asm; reads = ([], sym (append-nil (asm_inputs asm))); written = out.written; writes = out.writes; noted = written-behind next out.written out.noted }
+  notes-written bytes CannotWriteFile before after next wrote out = record {
+    read = asm_inputs asm;
+    reads = refl;
+    written = out.written;
+    writes = out.writes;
+    noted = written-behind next out.written out.noted;
+  }
+  notes-written bytes NoMemory before after next wrote out = record {
+    read = asm_inputs asm;
+    reads =
+        ([], sym (append-nil (asm_inputs asm)));
+    written = out.written;
+    writes = out.writes;
+    noted = written-behind next
+        out.written out.noted;
+  }
   notes-written bytes end before after next wrote out = absurd wrote.ends

@@ -46,13 +46,21 @@ free-for words devices unloaded room = record {
 }
 
 -- one drive more
-pub empty-more : {Table : Type 0} {Driver : Table → Type 0} (members : (table : Table) → Ghosts (Driver table)) (drives : List (DynBox Table Global Driver)) (drive : DynBox Table Global Driver) → IsEmpty (boxed_drive_view members drive) → All IsEmpty (drive_views members drives) → All IsEmpty (drive_views members (drives ++ drive ∷ []))
+pub empty-more : {Table : Type 0} {Driver : Table → Type 0} (members : (table : Table) → Ghosts (Driver table))
+    (drives : List (DynBox Table Global Driver)) (drive : DynBox Table Global Driver)
+    → IsEmpty (boxed_drive_view members drive) → All IsEmpty (drive_views members drives)
+    → All IsEmpty (drive_views members (drives ++ drive ∷ []))
 empty-more members [] drive is empty = All-cons IsEmpty (boxed_drive_view members drive) [] is empty
 empty-more members (first ∷ drives) drive is empty =
-    All-cons IsEmpty (boxed_drive_view members first) (drive_views members (drives ++ drive ∷ [])) (All-head IsEmpty (boxed_drive_view members first) (drive_views members drives) empty) (empty-more members drives drive is (All-tail IsEmpty (boxed_drive_view members first) (drive_views members drives) empty))
+    All-cons IsEmpty (boxed_drive_view members first) (drive_views members (drives ++ drive ∷ []))
+    (All-head IsEmpty (boxed_drive_view members first) (drive_views members drives) empty)
+    (empty-more members drives drive is (All-tail IsEmpty (boxed_drive_view members first)
+    (drive_views members drives) empty))
 
 -- four drives without images
-pub four-drives : {Table : Type 0} {Driver : Table → Type 0} (members : (table : Table) → Ghosts (Driver table)) (drives : List (DynBox Table Global Driver)) → length drives ≡ 4 → All IsEmpty (drive_views members drives) → HaveRoom 4 (drive_views members drives)
+pub four-drives : {Table : Type 0} {Driver : Table → Type 0} (members : (table : Table) → Ghosts (Driver table))
+    (drives : List (DynBox Table Global Driver)) → length drives ≡ 4 → All IsEmpty (drive_views members drives)
+    → HaveRoom 4 (drive_views members drives)
 four-drives members drives count empty = record {
   enough = rw length-map (omega (arith, count));
   few = rw length-map (omega (arith, count));

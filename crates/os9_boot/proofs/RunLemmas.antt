@@ -68,14 +68,29 @@ module _ (before : World) (run : RunWords) (read : RunFiles) (has : IfSome befor
   module _ (after : World) (same : after ≡ before) where
     script-refused : (line : ℕ) → keys_of (length before.devices.terms) read.script.items ≡ Err line → CommandCall (RunCommand run) before after (BadText ScriptInput line)
     script-refused line refused =
-        unchanged (RunCommand run) before after (BadText ScriptInput line) same tt (still-silent before after same) (kept-counts before after same) (of-files (λ files. RunComesTo files run before after (BadText ScriptInput line)) (λ files has. rw (← has.script) refused))
+        unchanged (RunCommand run) before after (BadText ScriptInput line) same tt (still-silent before after same)
+        (kept-counts before after same)
+        (of-files (λ files. RunComesTo files run before after (BadText ScriptInput line))
+        (λ files has. rw (← has.script) refused))
 
-    slices-refused : (keys : List ScriptKey) (line : ℕ) → keys_of (length before.devices.terms) read.script.items ≡ Ok keys → slices_of read.slices.items ≡ Err line → CommandCall (RunCommand run) before after (BadText SlicesInput line)
+    slices-refused : (keys : List ScriptKey) (line : ℕ) → keys_of (length before.devices.terms) read.script.items ≡ Ok
+        keys → slices_of read.slices.items ≡ Err line → CommandCall (RunCommand run) before after
+        (BadText SlicesInput line)
     slices-refused keys line given refused =
-        unchanged (RunCommand run) before after (BadText SlicesInput line) same tt (still-silent before after same) (kept-counts before after same) (of-files (λ files. RunComesTo files run before after (BadText SlicesInput line)) (λ files has. record { keys = keys; accepted = rw (← has.script) given; refused = rw (← has.slices) refused }))
+        unchanged (RunCommand run) before after (BadText SlicesInput line) same tt (still-silent before after same)
+        (kept-counts before after same)
+        (of-files (λ files. RunComesTo files run before after (BadText SlicesInput line))
+        (λ files has. record {
+          keys = keys;
+          accepted = rw (← has.script) given;
+          refused = rw (← has.slices)
+              refused;
+        }))
 
     -- a text was refused
-    pub run-texts-refused : (terminals : ℕ) (end : End) → terminals ≡ length before.devices.terms → RefusesTexts terminals read.script.items read.slices.items end → CommandCall (RunCommand run) before after end
+    pub run-texts-refused : (terminals : ℕ) (end : End) → terminals ≡ length before.devices.terms
+        → RefusesTexts terminals read.script.items read.slices.items end → CommandCall (RunCommand run) before after
+        end
     run-texts-refused terminals NoMemory count refused = out-of-memory (RunCommand run) before after same
     run-texts-refused terminals (BadText ScriptInput line) count refused = script-refused line (rw (← count) refused)
     run-texts-refused terminals (BadText SlicesInput line) count refused =

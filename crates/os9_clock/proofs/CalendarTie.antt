@@ -44,7 +44,9 @@ year-is year late =
 
 epoch_day-is : (x : DateTime) → pos 1900 ≤ℤ x.date.year → epoch_day x.date +ℤ pos 4_371_953 ≡ pos (day_count (pos 1900) 1 1 + day_number (civil_of x))
 epoch_day-is x late =
-    let count : day_count x.date.year x.date.month x.date.day ≡ day_count (pos 1900) 1 1 + day_number (civil_of x) = ap (λ year. day_count year x.date.month x.date.day) (year-is x.date.year late) ∙ day_count-is (unsigned_abs (x.date.year -ℤ pos 1900)) x.date.month x.date.day x.date.day_in.0 in
+    let count : day_count x.date.year x.date.month x.date.day ≡ day_count (pos 1900) 1 1 + day_number (civil_of x) =
+    ap (λ year. day_count year x.date.month x.date.day) (year-is x.date.year late) ∙ day_count-is
+    (unsigned_abs (x.date.year -ℤ pos 1900)) x.date.month x.date.day x.date.day_in.0 in
     omega (arith, signed_arith, days_from_civil-day_count x.date.year x.date.month x.date.day, count)
 
 year-most : (years : ℕ) → year_days (1900 + years) ≤ 366
@@ -71,7 +73,9 @@ later-year a b later late =
     (λ same. omega (arith, signed_arith))
 
 -- the seconds between two times
-pub seconds-between : (a b : DateTime) (seconds : ℕ) → pos 1900 ≤ℤ a.date.year → pos 1900 ≤ℤ b.date.year → a.time.subsec_nanosecond ≡ 0 → civil_nanos b ≡ civil_nanos a +ℤ (pos seconds *ℤ pos 1_000_000_000) → second_number (civil_of b) ≡ second_number (civil_of a) + seconds
+pub seconds-between : (a b : DateTime) (seconds : ℕ) → pos 1900 ≤ℤ a.date.year → pos 1900 ≤ℤ b.date.year
+    → a.time.subsec_nanosecond ≡ 0 → civil_nanos b ≡ civil_nanos a +ℤ (pos seconds *ℤ pos 1_000_000_000)
+    → second_number (civil_of b) ≡ second_number (civil_of a) + seconds
 seconds-between a b seconds from_a from_b whole later =
     omega (arith, signed_arith, civil_nanos-parts a, civil_nanos-parts b, epoch_day-is a from_a, epoch_day-is b from_b)
 
@@ -114,10 +118,25 @@ parts-of t is =
     }
 
 pub is_date : (t : CivilTime) → AreParts t → t.years ≤ 255 → IsDate (pos (1900 + t.years)) (pos t.month) (pos t.day)
-is_date t parts years = (((omega (arith, signed_arith)), (omega (arith, signed_arith))), ((omega (arith, signed_arith)), (omega (arith, signed_arith))), ((omega (arith, signed_arith)), (omega (arith, signed_arith, parts.day_most))))
+is_date t parts years = (
+  ((omega (arith, signed_arith)), (omega (arith, signed_arith))),
+  ((omega (arith, signed_arith)), (omega (arith, signed_arith))),
+  (
+    (omega (arith, signed_arith)),
+    (omega (arith, signed_arith, parts.day_most)),
+  ),
+)
 
 pub is_clock : (t : CivilTime) → AreParts t → IsTime (pos t.hour) (pos t.minute) (pos t.second) (pos 0)
-is_clock t parts = (((omega (arith, signed_arith)), (omega (arith, signed_arith))), ((omega (arith, signed_arith)), (omega (arith, signed_arith))), ((omega (arith, signed_arith)), (omega (arith, signed_arith))), ((omega (arith, signed_arith)), (omega (arith, signed_arith))))
+is_clock t parts = (
+  ((omega (arith, signed_arith)), (omega (arith, signed_arith))),
+  (
+    (omega (arith, signed_arith)),
+    (omega (arith, signed_arith)),
+  ),
+  ((omega (arith, signed_arith)), (omega (arith, signed_arith))),
+  ((omega (arith, signed_arith)), (omega (arith, signed_arith))),
+)
 
 -- the library's time is civil
 pub civil_of-is : (x : DateTime) → pos 1900 ≤ℤ x.date.year → is_civil (civil_of x) ≡ true
@@ -138,7 +157,8 @@ civil_of-is x late =
     (le-leb x.time.second 59 (omega (arith, x.time.second_in)))
 
 -- the civil time of a library's time with a packet's parts
-pub civil_of-packet : (t : TimePacket) (x : DateTime) → IsYmd (pos (1900 + t.year)) (pos t.month) (pos t.day) x.date → IsHms (pos t.hour) (pos t.minute) (pos t.second) (pos 0) x.time → civil_of x ≡ packet_time t
+pub civil_of-packet : (t : TimePacket) (x : DateTime) → IsYmd (pos (1900 + t.year)) (pos t.month) (pos t.day) x.date
+    → IsHms (pos t.hour) (pos t.minute) (pos t.second) (pos 0) x.time → civil_of x ≡ packet_time t
 civil_of-packet t x date time =
     let years : unsigned_abs (x.date.year -ℤ pos 1900) ≡ t.year = (let whole = year-is x.date.year (omega (arith, signed_arith, date.0)) in omega (arith, signed_arith, date.0)) in
     let month : x.date.month ≡ t.month = omega (arith, signed_arith, date.1) in
@@ -172,7 +192,10 @@ can_add x seconds late early few =
     (omega (arith, signed_arith), omega (arith, signed_arith))
 
 -- what the addition gives
-pub after-is : (t : TimePacket) (seconds : ℕ) (a b : DateTime) (packet : TimePacket) → IsYmd (pos (1900 + t.year)) (pos t.month) (pos t.day) a.date → IsHms (pos t.hour) (pos t.minute) (pos t.second) (pos 0) a.time → civil_nanos b ≡ civil_nanos a +ℤ (pos seconds *ℤ pos 1_000_000_000) → packet ≡ time_packet (civil_of b) → IsAfter t seconds packet
+pub after-is : (t : TimePacket) (seconds : ℕ) (a b : DateTime) (packet : TimePacket) → IsYmd (pos (1900 + t.year))
+    (pos t.month) (pos t.day) a.date → IsHms (pos t.hour) (pos t.minute) (pos t.second) (pos 0) a.time
+    → civil_nanos b ≡ civil_nanos a +ℤ (pos seconds *ℤ pos 1_000_000_000) → packet ≡ time_packet (civil_of b)
+    → IsAfter t seconds packet
 after-is t seconds a b packet date time later given =
     let from_a : pos 1900 ≤ℤ a.date.year = omega (arith, signed_arith, date.0) in
     let after : civil_nanos a ≤ℤ civil_nanos b = omega (arith, signed_arith) in

@@ -83,9 +83,15 @@ module _ (debug : DebugWords) (before : World) (read : DebugFiles) (has : IfSome
       files = ap (λ (w : World). w.files) same;
     }
 
-    slices-refused : (keys : List ScriptKey) (line : ℕ) → keys_of (length before.devices.terms) read.script.items ≡ Ok keys → slices_of read.slices.items ≡ Err line → DebugCall debug before mid (BadText Slices line)
+    slices-refused : (keys : List ScriptKey) (line : ℕ) → keys_of (length before.devices.terms) read.script.items ≡ Ok
+        keys → slices_of read.slices.items ≡ Err line → DebugCall debug before mid (BadText Slices line)
     slices-refused keys line given refused = record {
-      comes = of-files (λ files. DebugComesTo files debug before mid (BadText Slices line)) (λ files has. record { keys = keys; accepted = rw (← has.script) given; refused = rw (← has.slices) refused });
+      comes = of-files (λ files. DebugComesTo files debug before mid (BadText Slices line))
+          (λ files has. record {
+            keys = keys;
+            accepted = rw (← has.script) given;
+            refused = rw (← has.slices) refused;
+          });
       may = tt;
       devices = silent-same before mid same;
       host = no-fault-same before mid same;
@@ -110,7 +116,14 @@ module _ (debug : DebugWords) (before : World) (read : DebugFiles) (has : IfSome
       pub commands-refused : (end : End) → RefusesCommands read.commands.items end → DebugCall debug before mid end
       commands-refused NoMemory refused = out-of-memory debug before mid same
       commands-refused (BadText Commands line) refused = record {
-        comes = of-files (λ files. DebugComesTo files debug before mid (BadText Commands line)) (λ files has. record { keys = keys; slices = slices; texts = texts files has; refused = rw (← has.commands) refused });
+        comes = of-files (λ files. DebugComesTo files debug before mid (BadText Commands line))
+            (λ files has. record {
+              keys = keys;
+              slices = slices;
+              texts = texts files has;
+              refused = rw
+                  (← has.commands) refused;
+            });
         may = tt;
         devices = silent-same before mid same;
         host = no-fault-same before mid same;
@@ -120,13 +133,19 @@ module _ (debug : DebugWords) (before : World) (read : DebugFiles) (has : IfSome
 
       -- ---- a session was had
 
-      module _ (machine : Machine) (commands : List Command) (accepted : commands_of read.commands.items ≡ Ok commands) (blocks : machine.blocks ≡ debug.run.blocks) (time : machine.time ≡ debug.run.start) (file : machine.file.now ≡ read.modules.items) (keys_are : machine.keys.now ≡ keys) (slices_are : machine.slices.now ≡ slices) (after : World) where
+      module _ (machine : Machine) (commands : List Command) (accepted : commands_of read.commands.items ≡ Ok
+          commands) (blocks : machine.blocks ≡ debug.run.blocks) (time : machine.time ≡ debug.run.start)
+          (file : machine.file.now ≡ read.modules.items) (keys_are : machine.keys.now ≡ keys)
+          (slices_are : machine.slices.now ≡ slices) (after : World) where
         had : (then_ : Machine → List Command → Type 0) → then_ machine commands → (files : Files) → HasDebugFiles files debug read → SessionThen files debug (length before.devices.terms) then_
         had then_ rest files has = record {
           machine = machine;
           commands = commands;
           has = record {
-            texts = subst (λ (keys : List ScriptKey). HaveTexts files debug.run (length before.devices.terms) keys machine.slices.now) (sym keys_are) (subst (λ (slices : List ℕ). HaveTexts files debug.run (length before.devices.terms) keys slices) (sym slices_are) (texts files has));
+            texts = subst (λ (keys : List ScriptKey). HaveTexts files debug.run (length before.devices.terms) keys
+                machine.slices.now) (sym keys_are)
+                (subst (λ (slices : List ℕ). HaveTexts files debug.run (length before.devices.terms) keys slices)
+                (sym slices_are) (texts files has));
             commands_are = rw (← has.commands) accepted;
             name = has.modules.0;
             modules = has.modules.1;

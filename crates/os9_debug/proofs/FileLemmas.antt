@@ -37,7 +37,12 @@ module _ (debug : DebugWords) where
       by end stops = absurd stops
 
 -- the four files were read
-pub has-files : (told : Option Files) (debug : DebugWords) (read : DebugFiles) (name : List ℕ) → slice_get debug.run.files 0 ≡ Some name → IfSome told (λ files. read.script.items ≡ script_of files debug.run) → IfSome told (λ files. read.slices.items ≡ file_contents files debug.run.slices) → IfSome told (λ files. read.commands.items ≡ file_contents files debug.commands) → IfSome told (λ files. read.modules.items ≡ file_contents files name) → IfSome told (λ files. HasDebugFiles files debug read)
+pub has-files : (told : Option Files) (debug : DebugWords) (read : DebugFiles) (name : List ℕ)
+    → slice_get debug.run.files 0 ≡ Some name → IfSome told (λ files. read.script.items ≡ script_of files debug.run)
+    → IfSome told (λ files. read.slices.items ≡ file_contents files debug.run.slices)
+    → IfSome told (λ files. read.commands.items ≡ file_contents files debug.commands)
+    → IfSome told (λ files. read.modules.items ≡ file_contents files name)
+    → IfSome told (λ files. HasDebugFiles files debug read)
 has-files None debug read name is script slices commands modules = tt
 has-files (Some files) debug read name is script slices commands modules =
     record { script = script; slices = slices; commands = commands; modules = (name, is, modules) }

@@ -37,7 +37,9 @@ use Rattle.debug_session.proofs.Starting.{no-volumes}
 ticks : (terminals : ℕ) (keys : List ScriptKey) → AreKeys terminals keys → All HasTick keys
 ticks terminals keys are = All-weaker (IsKey terminals) HasTick (λ key is. let early = is.early in omega (arith, early)) keys are.each
 
-pub can-start : (machine : Machine) (run : RunWords) (terminals : ℕ) (devices : Outside) → IsRun run → machine.blocks ≡ run.blocks → machine.time ≡ run.start → AreKeys terminals machine.keys.now → length machine.slices.now < LAST_TICK → AreFree 0 devices → CanStart machine devices
+pub can-start : (machine : Machine) (run : RunWords) (terminals : ℕ) (devices : Outside) → IsRun run
+    → machine.blocks ≡ run.blocks → machine.time ≡ run.start → AreKeys terminals machine.keys.now
+    → length machine.slices.now < LAST_TICK → AreFree 0 devices → CanStart machine devices
 can-start machine run terminals devices is blocks time keys few free = record {
   can_run = record {
     least = subst (λ (count : ℕ). 8 ≤ count) (sym blocks) is.machine.blocks.0;
@@ -60,7 +62,9 @@ empty-again before mid after many gone = record {
   empty = subst (λ (drives : List DriveView). All IsEmpty drives) (sym gone) (empty-without mid);
 }
 
-module _ (machine : Machine) (commands : List Command) (before mid : World) (left : Outside) (empty : All IsEmpty before.devices.drives) (gone : left.drives ≡ map without_media mid.devices.drives) (terms : left.terms ≡ mid.devices.terms) where
+module _ (machine : Machine) (commands : List Command) (before mid : World) (left : Outside)
+    (empty : All IsEmpty before.devices.drives) (gone : left.drives ≡ map without_media mid.devices.drives)
+    (terms : left.terms ≡ mid.devices.terms) where
   abbrev after : World
   after = record mid { devices = left }
 

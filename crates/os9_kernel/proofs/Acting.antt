@@ -56,7 +56,11 @@ module _ (old : Kernel) (p : Pid) (act : Act) (next : DoesNext old p act) (befor
   cost-is = rw (chosen-is, acts-so) refl
 
   -- the kernel then, with this clock and these terminals
-  pub represents-then : (new : Kernel) (after : Outside) (inner : Inner) (files : Files) (clock : Clock) (terms : List TerminalState) → new.chosen ≡ old.chosen → RepresentsProcesses new.processes inner → StandsFor new.files after.drives files → clock ≡ new.clock → terms ≡ after.terms → IsRunning (record s { inner = inner; files = files; clock = clock; terms = terms }) → Represents new after (record s { inner = inner; files = files; clock = clock; terms = terms })
+  pub represents-then : (new : Kernel) (after : Outside) (inner : Inner) (files : Files) (clock : Clock)
+      (terms : List TerminalState) → new.chosen ≡ old.chosen → RepresentsProcesses new.processes inner
+      → StandsFor new.files after.drives files → clock ≡ new.clock → terms ≡ after.terms
+      → IsRunning (record s { inner = inner; files = files; clock = clock; terms = terms }) → Represents new after
+      (record s { inner = inner; files = files; clock = clock; terms = terms })
   represents-then new after inner files clock terms same there stands clock_is terms_are running = record {
     inner = there;
     files = stands;
@@ -71,17 +75,27 @@ module _ (old : Kernel) (p : Pid) (act : Act) (next : DoesNext old p act) (befor
     running = running;
   }
 
-  pub event-then : (new : Kernel) (after : Outside) (end : EventEnd) (inner : Inner) (files : Files) (clock : Clock) (terms : List TerminalState) → new.chosen ≡ old.chosen → RepresentsProcesses new.processes inner → StandsFor new.files after.drives files → clock ≡ new.clock → terms ≡ after.terms → Acts (act_in_machine act) s p.0 end (record s { inner = inner; files = files; clock = clock; terms = terms }) → (t : State) × Event s end t × Represents new after t
+  pub event-then : (new : Kernel) (after : Outside) (end : EventEnd) (inner : Inner) (files : Files) (clock : Clock)
+      (terms : List TerminalState) → new.chosen ≡ old.chosen → RepresentsProcesses new.processes inner
+      → StandsFor new.files after.drives files → clock ≡ new.clock → terms ≡ after.terms → Acts (act_in_machine act) s
+      p.0 end (record s { inner = inner; files = files; clock = clock; terms = terms }) → (t : State) × Event s end t
+      × Represents new after t
   event-then new after end inner files clock terms same there stands clock_is terms_are acts =
       let t : State = record s { inner = inner; files = files; clock = clock; terms = terms } in
       let event : Event s end t = (p.0, chosen-is, lives-there, subst (λ (a : MachineAct). Acts a s p.0 end t) (sym acts-so) acts) in
       (t, event, represents-then new after inner files clock terms same there stands clock_is terms_are (event-running s t end event tied.running))
 
   -- where the clock and the devices are as they were
-  pub represents-here : (new : Kernel) (inner : Inner) (files : Files) → new.chosen ≡ old.chosen → new.clock ≡ old.clock → RepresentsProcesses new.processes inner → StandsFor new.files before.drives files → IsRunning (record s { inner = inner; files = files }) → Represents new before (record s { inner = inner; files = files })
+  pub represents-here : (new : Kernel) (inner : Inner) (files : Files) → new.chosen ≡ old.chosen
+      → new.clock ≡ old.clock → RepresentsProcesses new.processes inner → StandsFor new.files before.drives files
+      → IsRunning (record s { inner = inner; files = files }) → Represents new before
+      (record s { inner = inner; files = files })
   represents-here new inner files same clock there stands running =
       represents-then new before inner files s.clock s.terms same there stands (clock-is ∙ sym clock) terms-are running
 
-  pub event-here : (new : Kernel) (end : EventEnd) (inner : Inner) (files : Files) → new.chosen ≡ old.chosen → new.clock ≡ old.clock → RepresentsProcesses new.processes inner → StandsFor new.files before.drives files → Acts (act_in_machine act) s p.0 end (record s { inner = inner; files = files }) → (t : State) × Event s end t × Represents new before t
+  pub event-here : (new : Kernel) (end : EventEnd) (inner : Inner) (files : Files) → new.chosen ≡ old.chosen
+      → new.clock ≡ old.clock → RepresentsProcesses new.processes inner → StandsFor new.files before.drives files
+      → Acts (act_in_machine act) s p.0 end (record s { inner = inner; files = files }) → (t : State) × Event s end t
+      × Represents new before t
   event-here new end inner files same clock there stands acts =
       event-then new before end inner files s.clock s.terms same there stands (clock-is ∙ sym clock) terms-are acts

@@ -50,7 +50,9 @@ module _ (s : State) (p code : ℕ) (call : PathCall) (running : IsRunning s) (n
           may-attempt processes s.inner s.files.io (length s.terms) p code device process tied running.kept running.on next (code-there code call coded ∙ is)
 
 -- the process may attempt its call
-pub may-attempt-here : (old : Kernel) (p : Pid) (code : ℕ) → DoesNext old p (Attempt code) → (before : Outside) (s : State) → RepresentsState old before s → (call : PathCall) → path_call_of code ≡ Some call → MayAttempt call old.processes old.files p.0 (length before.terms)
+pub may-attempt-here : (old : Kernel) (p : Pid) (code : ℕ) → DoesNext old p (Attempt code) → (before : Outside)
+    (s : State) → RepresentsState old before s → (call : PathCall) → path_call_of code ≡ Some call
+    → MayAttempt call old.processes old.files p.0 (length before.terms)
 may-attempt-here old p code next before s tied call is_call =
     subst (λ (terms : List TerminalState). MayAttempt call old.processes old.files p.0 (length terms)) (terms-are old p (Attempt code) next before s tied)
     (may-attempt-call s p.0 code call tied.running (acts-so old p (Attempt code) next before s tied) is_call old.processes old.files next.process.1 tied.inner tied.files.io)

@@ -55,7 +55,9 @@ keeps-step step asker files end before after drive kept unasked =
     by_deed (changes it) left none = absurd (none it refl)
 
 -- an attempt of a call on a path
-module _ (old : Kernel) (p : Pid) (code : ℕ) (next : DoesNext old p (Attempt code)) (before : Outside) (s : State) (tied : Represents old before s) (call : PathCall) (serves : service_of code ≡ on_paths call) (now : TimePacket) (is_now : IsNow s.clock s.inner.tick now) where
+module _ (old : Kernel) (p : Pid) (code : ℕ) (next : DoesNext old p (Attempt code)) (before : Outside) (s : State)
+    (tied : Represents old before s) (call : PathCall) (serves : service_of code ≡ on_paths call) (now : TimePacket)
+    (is_now : IsNow s.clock s.inner.tick now) where
   abbrev step : FileStep
   step = file_step call (asker_of s.inner p.0 now) s.files (length before.terms)
 

@@ -77,7 +77,9 @@ map-one f g same (t ∷ terminals) (suc n) = ap (λ terminals. f t ∷ terminals
 
 module _ (io : Io) (p : ℕ) where
   -- the end with these terminals and these calls
-  end-apart : (terminals : List Terminal) (calls : List (Option Kept)) → map (forgotten (pid p)) terminals ≡ map (forgotten (pid p)) io.terminals → slice_set calls p None ≡ slice_set io.calls p None → io_ended (apart io terminals calls) p ≡ io_ended io p
+  end-apart : (terminals : List Terminal) (calls : List (Option Kept)) → map (forgotten (pid p)) terminals ≡ map
+      (forgotten (pid p)) io.terminals → slice_set calls p None ≡ slice_set io.calls p None
+      → io_ended (apart io terminals calls) p ≡ io_ended io p
   end-apart terminals calls forgets keeps =
       let there : closed_below (apart io terminals calls) p PROCESS_PATHS ≡ apart (closed_below io p PROCESS_PATHS) terminals calls = closed-apart terminals calls io p PROCESS_PATHS in
       let here : closed_below io p PROCESS_PATHS ≡ apart (closed_below io p PROCESS_PATHS) io.terminals io.calls = closed-apart io.terminals io.calls io p PROCESS_PATHS in

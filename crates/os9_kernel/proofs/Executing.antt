@@ -21,7 +21,9 @@ pub data AreDone (process : ℕ) : ℕ → MemoryState → Regs → MemoryState 
       → AreDone process (count + 1) m regs t last
 
 module _ (process : ℕ) where
-  one : (k : ℕ) (r next after : Regs) (m held t : MemoryState) (outcome : Outcome) → next_outcome m process r ≡ outcome → LeavesMemory process outcome Next r m next held → AreDone process k held next t after → AreDone process (k + 1) m r t after
+  one : (k : ℕ) (r next after : Regs) (m held t : MemoryState) (outcome : Outcome) → next_outcome m process r ≡
+      outcome → LeavesMemory process outcome Next r m next held → AreDone process k held next t after
+      → AreDone process (k + 1) m r t after
   one k r next after m held t (Done effect) is (stops, registers, memory) rest =
       first effect is
       (subst (λ (x : MemoryState). AreDone process k x effect.regs t after) memory

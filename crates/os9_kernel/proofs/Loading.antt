@@ -53,20 +53,26 @@ begun_on Load left p result = left
 begun_on Fork left p result = files_after_fork left p result
 begun_on Chain left p result = left
 
-pub serves-load : (call : LoadCall) (s : State) (now : TimePacket) (p : ℕ) (result : CallResult) (left : Files) → AttemptsLoad call s.inner (asker_of s.inner p now) s.files (length s.terms) p result left → Serves (load_in_machine call) s now p result (with_files s (begun_on call left p result))
+pub serves-load : (call : LoadCall) (s : State) (now : TimePacket) (p : ℕ) (result : CallResult) (left : Files)
+    → AttemptsLoad call s.inner (asker_of s.inner p now) s.files (length s.terms) p result left
+    → Serves (load_in_machine call) s now p result (with_files s (begun_on call left p result))
 serves-load Load s now p result left it = (left, it, refl)
 serves-load Fork s now p result left it = (left, it, refl)
 serves-load Chain s now p result left it = (left, it, refl)
 
 -- the processes that a call leaves have the same tick
-pub load-tick : (call : LoadCall) (m : Inner) (asker : Asker) (old : Files) (terms p : ℕ) (result : CallResult) (new : Files) → IsLiving m.records p → AttemptsLoad call m asker old terms p result new → (after_attempt m p result).tick ≡ m.tick
+pub load-tick : (call : LoadCall) (m : Inner) (asker : Asker) (old : Files) (terms p : ℕ) (result : CallResult)
+    (new : Files) → IsLiving m.records p → AttemptsLoad call m asker old terms p result new
+    → (after_attempt m p result).tick ≡ m.tick
 load-tick Load m asker old terms p result new lives it = (load-over m asker old terms p result new it).tick
 load-tick Fork m asker old terms p result new lives it =
     (over-by m p _ result (fork-over m asker old terms p result new lives it) (λ t child. (child.aside, child.tick))).tick
 load-tick Chain m asker old terms p result new lives it = (chain-over m asker old terms p result new it).tick
 
 -- an attempt of the call that this one is
-pub loads-as : (call one : LoadCall) (m : Inner) (was : Files) (now : TimePacket) (terms p : ℕ) (end : CallEnd) (before after : Standing) → call ≡ one → LoadsSo one m was now terms p end before after → LoadsSo call m was now terms p end before after
+pub loads-as : (call one : LoadCall) (m : Inner) (was : Files) (now : TimePacket) (terms p : ℕ) (end : CallEnd)
+    (before after : Standing) → call ≡ one → LoadsSo one m was now terms p end before after → LoadsSo call m was now
+    terms p end before after
 loads-as call one m was now terms p end before after is it =
     subst (λ (call : LoadCall). LoadsSo call m was now terms p end before after) (sym is) it
 
@@ -91,7 +97,8 @@ answers-so m p (refused number) processes over (end, there) = let no : Wait ≡ 
 answers-so m p (waits t) processes over told = over
 answers-so m p (ends status) processes over told = over
 
-load-answers : (m : Inner) (asker : Asker) (old : Files) (terms p : ℕ) (result : CallResult) (new : Files) (processes : ProcState) → LoadAttempts m asker old terms p result new → Comes m p result Wait processes → ⊥
+load-answers : (m : Inner) (asker : Asker) (old : Files) (terms p : ℕ) (result : CallResult) (new : Files)
+    (processes : ProcState) → LoadAttempts m asker old terms p result new → Comes m p result Wait processes → ⊥
 load-answers m asker old terms p result new processes it told =
     answers-so m p result processes (goes-answers m p it.reading result it.comes) told
 
@@ -120,15 +127,21 @@ module _ (m : Inner) (io : Io) (p : ℕ) (processes : ProcState) (kept : AreKept
   child-by (ends status) child told = absurd child
 
 -- it may begin
-pub child-begins : (call : LoadCall) (m : Inner) (was : Files) (now : TimePacket) (terms p : ℕ) (before after : Standing) → AreKept m was.io → length m.records ≡ 33 → IsLiving m.records p → call ≡ Fork → LoadsSo call m was now terms p Done before after → MayBegin after.files.io (number_in_a after.processes.table p)
+pub child-begins : (call : LoadCall) (m : Inner) (was : Files) (now : TimePacket) (terms p : ℕ)
+    (before after : Standing) → AreKept m was.io → length m.records ≡ 33 → IsLiving m.records p → call ≡ Fork
+    → LoadsSo call m was now terms p Done before after → MayBegin after.files.io (number_in_a after.processes.table p)
 child-begins Load m was now terms p before after kept long lives is it = cc
 child-begins Fork m was now terms p before after kept long lives is it =
     let same : was.io ≡ after.files.io = sym (fork-leaves m (asker_of m p now) was terms p it.result it.left it.attempted).io ∙ it.stands.io in
-    subst (λ (io : Io). MayBegin io (number_in_a after.processes.table p)) same (child-by m was.io p after.processes kept long it.result (fork-over m (asker_of m p now) was terms p it.result it.left lives it.attempted) it.comes)
+    subst (λ (io : Io). MayBegin io (number_in_a after.processes.table p)) same (child-by m was.io p after.processes
+    kept long it.result (fork-over m (asker_of m p now) was terms p it.result it.left lives it.attempted)
+    it.comes)
 child-begins Chain m was now terms p before after kept long lives is it = cc
 
 -- the files then are those of the machine
-fork-tied : (m : Inner) (p : ℕ) (left : Files) (processes : ProcState) (result : CallResult) (end : CallEnd) → Comes m p result end processes → files_begun Fork end left p (number_in_a processes.table p) ≡ files_after_fork left p result
+fork-tied : (m : Inner) (p : ℕ) (left : Files) (processes : ProcState) (result : CallResult) (end : CallEnd)
+    → Comes m p result end processes → files_begun Fork end left p (number_in_a processes.table p) ≡ files_after_fork
+    left p result
 fork-tied m p left processes (done t) end (is, there) =
     ap (λ (end : CallEnd). files_begun Fork end left p (number_in_a processes.table p)) is
     ∙ ap (files_started left p) (number-tied t p processes there)
@@ -139,7 +152,9 @@ fork-tied m p left processes (waits t) end (is, there) =
 fork-tied m p left processes (ends status) end (is, there) =
     ap (λ (end : CallEnd). files_begun Fork end left p (number_in_a processes.table p)) is
 
-pub begun-tied : (call : LoadCall) (m : Inner) (p : ℕ) (left : Files) (processes : ProcState) (result : CallResult) (end : CallEnd) → Comes m p result end processes → files_begun call end left p (number_in_a processes.table p) ≡ begun_on call left p result
+pub begun-tied : (call : LoadCall) (m : Inner) (p : ℕ) (left : Files) (processes : ProcState) (result : CallResult)
+    (end : CallEnd) → Comes m p result end processes → files_begun call end left p (number_in_a processes.table p) ≡
+    begun_on call left p result
 begun-tied Load m p left processes result end told = refl
 begun-tied Fork m p left processes result end told = fork-tied m p left processes result end told
 begun-tied Chain m p left processes result end told = refl
@@ -153,11 +168,17 @@ loads-rest Load m was now terms p before after it is =
 loads-rest Fork m was now terms p before after it is = cc
 loads-rest Chain m was now terms p before after it is = cc
 
-rests-by : (kernel : Kernel) (code p : ℕ) (call : ProcCall) → call_of code ≡ Some call → waits_for call (slice_index_or kernel.processes.own.items p no_own) ≡ None → IfSome (wait_for kernel code p) (λ wait. wait_at (member_of kernel.processes.sched.members p) ≡ Some wait)
+rests-by : (kernel : Kernel) (code p : ℕ) (call : ProcCall) → call_of code ≡ Some call
+    → waits_for call (slice_index_or kernel.processes.own.items p no_own) ≡ None → IfSome (wait_for kernel code p)
+    (λ wait. wait_at (member_of kernel.processes.sched.members p) ≡ Some wait)
 rests-by kernel code p call coded none =
-    subst (λ (wait : Option Waiting). IfSome wait (λ wait. wait_at (member_of kernel.processes.sched.members p) ≡ Some wait)) (sym (ap (λ (call : Option ProcCall). wait_by call (slice_index_or kernel.processes.own.items p no_own) (io_waits_for kernel.files.io p)) coded ∙ none)) tt
+    subst (λ (wait : Option Waiting). IfSome wait (λ wait. wait_at (member_of kernel.processes.sched.members p) ≡ Some
+    wait)) (sym (ap (λ (call : Option ProcCall). wait_by call (slice_index_or kernel.processes.own.items p no_own)
+    (io_waits_for kernel.files.io p)) coded ∙ none)) tt
 
-pub rests-there : (kernel : Kernel) (code p : ℕ) (call : LoadCall) → service_of code ≡ load_in_machine call → call ≢ Load → IfSome (wait_for kernel code p) (λ wait. wait_at (member_of kernel.processes.sched.members p) ≡ Some wait)
+pub rests-there : (kernel : Kernel) (code p : ℕ) (call : LoadCall) → service_of code ≡ load_in_machine call
+    → call ≢ Load → IfSome (wait_for kernel code p) (λ wait. wait_at (member_of kernel.processes.sched.members p) ≡
+    Some wait)
 rests-there kernel code p Load serves other = absurd (other refl)
 rests-there kernel code p Fork serves other = rests-by kernel code p Call.Fork (process-served code Call.Fork serves) refl
 rests-there kernel code p Chain serves other = rests-by kernel code p Call.Chain (process-served code Call.Chain serves) refl

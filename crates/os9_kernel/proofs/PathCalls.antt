@@ -93,6 +93,8 @@ effect-tick m p effect = by_end effect.end
     by_end (fails number) = refl
     by_end (keeps kept) = refl
 
-pub attempt-tick : (call : PathCall) (m : Inner) (files : Files) (now : TimePacket) (p : ℕ) (result : CallResult) (new : Files) (before after : List TerminalState) → FileAttempts call m files now p result new before after → (after_attempt m p result).tick ≡ m.tick
+pub attempt-tick : (call : PathCall) (m : Inner) (files : Files) (now : TimePacket) (p : ℕ) (result : CallResult)
+    (new : Files) (before after : List TerminalState) → FileAttempts call m files now p result new before after
+    → (after_attempt m p result).tick ≡ m.tick
 attempt-tick call m files now p result new before after it =
     ap (λ (result : CallResult). (after_attempt m p result).tick) it.result_is ∙ effect-tick m p (io_effect it.effect)

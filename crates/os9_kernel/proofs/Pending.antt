@@ -54,10 +54,12 @@ module _ (old : Kernel) (p : Pid) where
 
   pub delivery-pending : (signal : ℕ) → DoesNext old p (Delivery signal) → 1 ≤ pending old
   delivery-pending signal next =
-      let some = of-delivery (slice_index_or old.processes.own.items p.0 no_own).call (record_at old.processes.table p.0).signal (is_waiting (record_at old.processes.table p.0).life) signal next.next in
+      let some = of-delivery (slice_index_or old.processes.own.items p.0 no_own).call (record_at old.processes.table
+      p.0).signal (is_waiting (record_at old.processes.table p.0).life) signal next.next in
       omega (arith, some, pending-is old next.chosen)
 
   -- an attempt behind which the process goes on leaves at most a signal
-  pub attempt-lowers : (code : ℕ) → DoesNext old p (Attempt code) → (new : Kernel) → new.chosen ≡ old.chosen → (slice_index_or new.processes.own.items p.0 no_own).call ≡ None → pending new < pending old
+  pub attempt-lowers : (code : ℕ) → DoesNext old p (Attempt code) → (new : Kernel) → new.chosen ≡ old.chosen
+      → (slice_index_or new.processes.own.items p.0 no_own).call ≡ None → pending new < pending old
   attempt-lowers code next new same none =
       omega (arith, pending-is new (same ∙ next.chosen), no_call-few new.processes p.0 none, attempt-pending code next)

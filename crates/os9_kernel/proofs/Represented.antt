@@ -49,7 +49,9 @@ no-call new t p regs within tied =
     ∙ ap (λ (o : Own). o.call) (get_or-set_same t.own p own no_own inside)
 
 -- the kernel represents the state with terminals without bytes, where these are taken
-pub represents-emptied : (kernel : Kernel) (devices : Outside) (s : State) → RepresentsState kernel devices s → RepresentsState kernel (record devices { terms = terminals_emptied devices.terms }) (record s { terms = terminals_emptied s.terms })
+pub represents-emptied : (kernel : Kernel) (devices : Outside) (s : State) → RepresentsState kernel devices s
+    → RepresentsState kernel (record devices { terms = terminals_emptied devices.terms })
+    (record s { terms = terminals_emptied s.terms })
 represents-emptied kernel devices s tied = record {
   inner = tied.inner;
   files = tied.files;

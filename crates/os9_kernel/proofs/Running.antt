@@ -42,13 +42,27 @@ module _ (s : State) (p : ℕ) (chosen : s.chosen ≡ Some p) (lives : IsLiving 
     pub cost-one : cost (state_at memory regs) ≡ 1
     cost-one = rw (chosen, acts-still) refl
 
-    pub instruction-event : (outcome : Outcome) → next_outcome memory p regs ≡ outcome → Event (state_at memory regs) (instruction_end outcome) (record s { inner = after_instruction (inner_at s.inner p memory regs) p outcome; files = files_after_instruction s.files p outcome })
+    pub instruction-event : (outcome : Outcome) → next_outcome memory p regs ≡ outcome → Event (state_at memory regs)
+        (instruction_end outcome) (record s {
+          inner = after_instruction (inner_at s.inner p memory regs) p outcome;
+          files = files_after_instruction s.files p outcome;
+        })
     instruction-event outcome is = (
       p,
       chosen,
       lives-set s.inner.records p lives regs,
-      subst (λ (a : MachineAct). Acts a (state_at memory regs) p (instruction_end outcome) (record s { inner = after_instruction (inner_at s.inner p memory regs) p outcome; files = files_after_instruction s.files p outcome })) (sym acts-still)
-          (sym (ap instruction_end (outcome-is ∙ is)), (λ i. record s { inner = after_instruction (inner_at s.inner p memory regs) p (sym (outcome-is ∙ is) i); files = files_after_instruction s.files p (sym (outcome-is ∙ is) i) })),
+      subst (λ (a : MachineAct). Acts a (state_at memory regs) p (instruction_end outcome)
+          (record s {
+            inner = after_instruction (inner_at s.inner p memory regs) p outcome;
+            files =
+                files_after_instruction s.files p outcome;
+          })) (sym acts-still) (
+            sym (ap instruction_end (outcome-is ∙ is)),
+            (λ i. record s {
+              inner = after_instruction (inner_at s.inner p memory regs) p (sym (outcome-is ∙ is) i);
+              files = files_after_instruction s.files p (sym (outcome-is ∙ is) i);
+            }),
+          ),
     )
 
     -- one that is done leaves other memory and registers
@@ -58,7 +72,9 @@ module _ (s : State) (p : ℕ) (chosen : s.chosen ≡ Some p) (lives : IsLiving 
         (instruction-event (Done effect) is)
 
   -- those that are done, and then others
-  pub done-then : {count : ℕ} {memory now : MemoryState} {regs after : Regs} → AreDone p count memory regs now after → (others : ℕ) (end : EventEnd) (t : State) → Instructions (state_at now after) others end t → Instructions (state_at memory regs) (count + others) end t
+  pub done-then : {count : ℕ} {memory now : MemoryState} {regs after : Regs} → AreDone p count memory regs now after
+      → (others : ℕ) (end : EventEnd) (t : State) → Instructions (state_at now after) others end t
+      → Instructions (state_at memory regs) (count + others) end t
   done-then (none {m = memory} {regs = regs}) others end t rest =
       let all : others ≡ 0 + others = omega arith in
       subst (λ n. Instructions (state_at memory regs) n end t) all rest

@@ -30,7 +30,8 @@ served-process false None (Some other) path call is = cc
 served-process false None None (Some other) call is = cc
 served-process false None None None call is = cc
 
-served-path : (load : Bool) (process : Option ProcCall) (time : Option TimeCall) (path : Option PathCall) (call : PathCall) → served load process time path ≡ on_paths call → (process ≡ None) × (path ≡ Some call)
+served-path : (load : Bool) (process : Option ProcCall) (time : Option TimeCall) (path : Option PathCall)
+    (call : PathCall) → served load process time path ≡ on_paths call → (process ≡ None) × (path ≡ Some call)
 served-path true process time path call is = cc
 served-path false (Some other) time path call is = cc
 served-path false None (Some other) path call is = cc

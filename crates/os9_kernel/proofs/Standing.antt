@@ -11,7 +11,10 @@ use Rattle.file_state.specs.declared.state.FileState.{FileState}
 use Rattle.os9_kernel.proofs.Ending.{ended-interrupted}
 
 -- the call of a process is broken off
-pub stands-interrupted : (state : FileState) (views : List DriveView) (files : Files) (p : ℕ) (new : Io) → new ≡ io_interrupted state.io p → StandsFor state views files → StandsFor (record { io = new; disks = state.disks; directories = state.directories }) views (with_io files (io_interrupted files.io p))
+pub stands-interrupted : (state : FileState) (views : List DriveView) (files : Files) (p : ℕ) (new : Io)
+    → new ≡ io_interrupted state.io p → StandsFor state views files
+    → StandsFor (record { io = new; disks = state.disks; directories = state.directories }) views
+    (with_io files (io_interrupted files.io p))
 stands-interrupted state views files p new is stands =
     stands-with_io state views files (io_interrupted files.io p) new (ap (λ (io : Io). io_interrupted io p) stands.io ∙ sym is) stands
 

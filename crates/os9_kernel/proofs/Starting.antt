@@ -23,12 +23,27 @@ use Rattle.wait_laws.proofs.RunningLaws.{start-running}
 abbrev pub ProcessesStart : List ℕ → ℕ → ProcState → Type 0
 ProcessesStart file blocks processes = (m : Inner) × StartsProcesses file blocks m × RepresentsProcesses processes m
 
-pub kernel-starts : (config : Config) (file : List ℕ) (images : List (List ℕ)) (after : Outside) (kernel : Kernel) → ProcessesStart file config.blocks kernel.processes → StartedOn images kernel.files after.drives → kernel.clock ≡ first_clock config.time → kernel.chosen ≡ None → is_time_packet config.time ≡ true → 0 < length after.terms → length after.terms ≤ 4 → IsStarted config file images after kernel
+pub kernel-starts : (config : Config) (file : List ℕ) (images : List (List ℕ)) (after : Outside) (kernel : Kernel)
+    → ProcessesStart file config.blocks kernel.processes → StartedOn images kernel.files after.drives
+    → kernel.clock ≡ first_clock config.time → kernel.chosen ≡ None → is_time_packet config.time ≡ true
+    → 0 < length after.terms → length after.terms ≤ 4 → IsStarted config file images after kernel
 kernel-starts config file images after kernel processes on clock none civil some few =
     let (was, begins, there) = processes in
     let m : Inner = only_process begins.memory (first_start begins.number begins.entry) in
     let s : State = record { inner = m; files = on.was; clock = first_clock config.time; chosen = None; terms = after.terms } in
-    let starts : Starts (boot_of config file images after) s = record { entries = begins.entries; number = begins.number; entry = begins.entry; memory = begins.memory; has = begins.has; begins = begins.begins; files = on.was; mounted = on.starts; is = refl } in (
+    let starts : Starts (boot_of config file images after) s = record {
+      entries = begins.entries;
+      number =
+          begins.number;
+      entry = begins.entry;
+      memory = begins.memory;
+      has = begins.has;
+      begins = begins.begins;
+      files =
+          on.was;
+      mounted = on.starts;
+      is = refl;
+    } in (
       s,
       starts,
       record {

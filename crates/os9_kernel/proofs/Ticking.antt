@@ -50,7 +50,9 @@ module _ (old : Kernel) (before : Outside) (s : State) (tied : Represents old be
     executed = old.executed;
   }
 
-  pub tick-then : (processes : ProcState) (io : Io) (after : Outside) (next : Inner) → after.drives ≡ before.drives → Arrivals (ticks old + 1) (desk raised old.files.io before.terms) (desk next io after.terms) → RepresentsProcesses processes next → (t : State) × Tick s t × Represents (then processes io) after t
+  pub tick-then : (processes : ProcState) (io : Io) (after : Outside) (next : Inner) → after.drives ≡ before.drives
+      → Arrivals (ticks old + 1) (desk raised old.files.io before.terms) (desk next io after.terms)
+      → RepresentsProcesses processes next → (t : State) × Tick s t × Represents (then processes io) after t
   tick-then processes io after next drives arrives there =
       let here : Desk = desk next io after.terms in
       let arrivals : Arrivals (s.inner.tick + 1) (desk_of s) here = subst (λ n. Arrivals n (desk_of s) here) tick-is (subst (λ (from : Desk). Arrivals (ticks old + 1) from here) desk-is arrives) in
@@ -73,10 +75,13 @@ module _ (old : Kernel) (before : Outside) (s : State) (tied : Represents old be
         },
       )
 
-  pub tick-breaks : (polled : ℕ) (between : Desk) (now : Io) (after : List TerminalState) → ArrivesFrom (ticks old + 1) 0 polled (desk raised old.files.io before.terms) between → PollBreaks (ticks old + 1) (0 + polled) between now after → BreaksTick s after
+  pub tick-breaks : (polled : ℕ) (between : Desk) (now : Io) (after : List TerminalState)
+      → ArrivesFrom (ticks old + 1) 0 polled (desk raised old.files.io before.terms) between
+      → PollBreaks (ticks old + 1) (0 + polled) between now after → BreaksTick s after
   tick-breaks polled between now after arrives breaks =
       let first : 0 + polled ≡ polled = omega arith in
-      let here : PollBreaks (s.inner.tick + 1) polled between now after = subst (λ n. PollBreaks n polled between now after) tick-is (subst (λ n. PollBreaks (ticks old + 1) n between now after) first breaks) in record {
+      let here : PollBreaks (s.inner.tick + 1) polled between now after = subst (λ n. PollBreaks n polled between now
+      after) tick-is (subst (λ n. PollBreaks (ticks old + 1) n between now after) first breaks) in record {
         count = polled;
         desk = between;
         arrivals =

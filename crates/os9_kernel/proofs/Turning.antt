@@ -34,7 +34,9 @@ some-left p most ran regs now m t (at, held, follow, ends) (Call code) is other 
 some-left p most ran regs now m t (at, held, follow, ends) (Abort status) is other =
     (subst (λ (stop : Stop). EndsInMemory p most ran.followed stop at held now t) is ends).0
 
-module _ (s : State) (p : ℕ) (chosen : s.chosen ≡ Some p) (lives : IsLiving s.inner.records p) (next : act_of s.inner p ≡ executes) (most : ℕ) (ran : RanOn) (now : Regs) (t : MemoryState) (some : 0 < most) (runs : RunsInMemory p most ran (regs_at s.inner p) s.inner.memory now t) where
+module _ (s : State) (p : ℕ) (chosen : s.chosen ≡ Some p) (lives : IsLiving s.inner.records p)
+    (next : act_of s.inner p ≡ executes) (most : ℕ) (ran : RanOn) (now : Regs) (t : MemoryState) (some : 0 < most)
+    (runs : RunsInMemory p most ran (regs_at s.inner p) s.inner.memory now t) where
   abbrev at : MemoryState → Regs → State
   at memory regs = state_at s p chosen lives next memory regs
 
@@ -52,7 +54,9 @@ module _ (s : State) (p : ℕ) (chosen : s.chosen ≡ Some p) (lives : IsLiving 
       (subst (λ (r : Regs). Instructions (at s.inner.memory (regs_at s.inner p)) ran.followed Ran (at held r)) (sym registers) done))
 
   -- one more that is not done
-  one-more : (before : Regs) (held : MemoryState) (end : EventEnd) (u : State) → FollowInMemory p ran.followed (regs_at s.inner p) s.inner.memory before held → Event (at held before) end u → Instructions s (ran.followed + 1) end u
+  one-more : (before : Regs) (held : MemoryState) (end : EventEnd) (u : State) → FollowInMemory p ran.followed
+      (regs_at s.inner p) s.inner.memory before held → Event (at held before) end u
+      → Instructions s (ran.followed + 1) end u
   one-more before held end u follow event =
       from-here (ran.followed + 1) end u
       (done-then s p chosen lives next (follow-done p ran.followed (regs_at s.inner p) s.inner.memory before held follow) 1 end u (last (cost-one s p chosen lives next held before) event))
@@ -62,7 +66,9 @@ module _ (s : State) (p : ℕ) (chosen : s.chosen ≡ Some p) (lives : IsLiving 
   calling memory regs code =
       with_own (inner_at s.inner p memory regs) p (record (own_at s.inner p) { call = Some code })
 
-  by_call : (before : Regs) (held : MemoryState) (outcome : Outcome) (code : ℕ) → next_outcome held p before ≡ outcome → LeavesMemory p outcome (Call code) before held now t → Event (at held before) Ran (record s { inner = calling t now code })
+  by_call : (before : Regs) (held : MemoryState) (outcome : Outcome) (code : ℕ) → next_outcome held p before ≡ outcome
+      → LeavesMemory p outcome (Call code) before held now t → Event (at held before) Ran
+      (record s { inner = calling t now code })
   by_call before held (Done effect) code is left = cc (left.0)
   by_call before held (Calls other past) code is (stops, registers, memory) =
       let code_is : code ≡ other = cc in
@@ -79,7 +85,9 @@ module _ (s : State) (p : ℕ) (chosen : s.chosen ≡ Some p) (lives : IsLiving 
       let (few, left) : EndsInMemory p most ran.followed (Call code) before held now t = subst (λ (stop : Stop). EndsInMemory p most ran.followed stop before held now t) is ends in
       one-more before held Ran (record s { inner = calling t now code }) follow (by_call before held (next_outcome held p before) code refl left)
 
-  by_abort : (before : Regs) (held : MemoryState) (outcome : Outcome) (status : ℕ) → next_outcome held p before ≡ outcome → LeavesMemory p outcome (Abort status) before held now t → Event (at held before) Ended (record s { inner = ended (inner_at s.inner p t now) p status; files = files_ended s.files p })
+  by_abort : (before : Regs) (held : MemoryState) (outcome : Outcome) (status : ℕ) → next_outcome held p before ≡
+      outcome → LeavesMemory p outcome (Abort status) before held now t → Event (at held before) Ended
+      (record s { inner = ended (inner_at s.inner p t now) p status; files = files_ended s.files p })
   by_abort before held (Done effect) status is left = cc (left.0)
   by_abort before held (Calls code past) status is left = cc (left.0)
   by_abort before held (Aborts other) status is (stops, registers, memory) =
@@ -93,4 +101,8 @@ module _ (s : State) (p : ℕ) (chosen : s.chosen ≡ Some p) (lives : IsLiving 
   turn-abort status is =
       let (before, held, follow, ends) = runs in
       let (few, left) : EndsInMemory p most ran.followed (Abort status) before held now t = subst (λ (stop : Stop). EndsInMemory p most ran.followed stop before held now t) is ends in
-      one-more before held Ended (record s { inner = ended (inner_at s.inner p t now) p status; files = files_ended s.files p }) follow (by_abort before held (next_outcome held p before) status refl left)
+      one-more before held Ended (record s {
+        inner = ended (inner_at s.inner p t now) p status;
+        files = files_ended
+            s.files p;
+      }) follow (by_abort before held (next_outcome held p before) status refl left)

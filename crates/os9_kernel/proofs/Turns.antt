@@ -18,7 +18,10 @@ use Rattle.os9_kernel.specs.Tie.{pending}
 use Rattle.os9_kernel.proofs.Acting.{cost-is}
 
 -- an event that costs nothing is a turn
-pub turn-of : (left : ℕ) (old new : Kernel) (p : Pid) (act : Act) (next : DoesNext old p act) → cost_of (act_in_machine act) ≡ 0 → (before after : Outside) (end : EventEnd) → HasEvent old new before after end → (end ≡ EventEnd.Ran → pending new < pending old) → HasTurn left old new before after (record { count = 0; end = end })
+pub turn-of : (left : ℕ) (old new : Kernel) (p : Pid) (act : Act) (next : DoesNext old p act)
+    → cost_of (act_in_machine act) ≡ 0 → (before after : Outside) (end : EventEnd) → HasEvent old new before after end
+    → (end ≡ EventEnd.Ran → pending new < pending old) → HasTurn left old new before after
+    (record { count = 0; end = end })
 turn-of left old new p act next free before after end event progress = record {
   step = λ other s tied.
       let (t, happens, there) = event.step other s tied in
@@ -96,14 +99,16 @@ turn-begins n left rest s m t all it so_far states u steps =
     subst (λ states. FirstSteps n s states u) (sym (append_assoc all (it.first ∷ it.later) states)) (so_far (it.first ∷ (it.later ++ states)) u (it.begun states u steps))
 
 -- a turn behind which it does not
-instructions-end : {m t : State} {end : EventEnd} {count : ℕ} → Instructions m count end t → is_going end ≡ false → (left : ℕ) → count ≤ left → (first : State) × (later : List State) × Steps left m (first ∷ later) t
+instructions-end : {m t : State} {end : EventEnd} {count : ℕ} → Instructions m count end t → is_going end ≡ false
+    → (left : ℕ) → count ≤ left → (first : State) × (later : List State) × Steps left m (first ∷ later) t
 instructions-end (last {t = t} {end = end} one event) over left few =
     (t, [], (omega (arith, few), end, event, rw over (refl, refl)))
 instructions-end (more {s = m} {m = next} one event rest) over left few =
     let (first, later, steps) = instructions-end rest over (left - cost m) (omega (arith, one, few)) in
     (next, first ∷ later, (omega (arith, few), EventEnd.Ran, event, steps))
 
-pub turn-ends : (m t : State) (end : EventEnd) (count : ℕ) → IsTurn m count end t → is_going end ≡ false → (left : ℕ) → 0 < left → count ≤ left → (first : State) × (later : List State) × Steps left m (first ∷ later) t
+pub turn-ends : (m t : State) (end : EventEnd) (count : ℕ) → IsTurn m count end t → is_going end ≡ false → (left : ℕ)
+    → 0 < left → count ≤ left → (first : State) × (later : List State) × Steps left m (first ∷ later) t
 turn-ends m t end count (inl (none, free, event)) over left some few =
     (t, [], (some, end, event, rw over (refl, refl)))
 turn-ends m t end count (inr done) over left some few = instructions-end done over left few

@@ -53,13 +53,19 @@ rests-at s p wait within =
     ap wait_at (get_or-set_same s.members p (Some (record (member_at s.members p) { standing = Resting wait })) None within)
 
 -- what is waited for is what the scheduler has
-pub rests-so : (wait : Option Waiting) (before after : ProcState) (p : ℕ) → IsLiving before.table p → is_waiting (record_at before.table p).life ≡ false → IfSome wait (λ wait. WaitsFor before after p wait) → IfSome wait (λ wait. wait_at (member_of after.sched.members p) ≡ Some wait)
+pub rests-so : (wait : Option Waiting) (before after : ProcState) (p : ℕ) → IsLiving before.table p
+    → is_waiting (record_at before.table p).life ≡ false → IfSome wait (λ wait. WaitsFor before after p wait)
+    → IfSome wait (λ wait. wait_at (member_of after.sched.members p) ≡ Some wait)
 rests-so None before after p lives first waits = tt
 rests-so (Some wait) before after p lives first waits =
     ap (λ (s : Schedule). wait_at (member_of s.members p)) (waits.first first)
     ∙ rests-at before.sched p wait (member-within before p lives)
 
-pub cause-so : (cause : Option Cause) (before after : ProcState) (p : ℕ) → IsLiving before.table p → is_waiting (record_at before.table p).life ≡ false → IfSome cause (λ cause. WaitsFor before after p (record { cause = cause; until = None })) → IfSome (option_map (λ (cause : Cause). record { cause = cause; until = None }) cause) (λ (wait : Waiting). wait_at (member_of after.sched.members p) ≡ Some wait)
+pub cause-so : (cause : Option Cause) (before after : ProcState) (p : ℕ) → IsLiving before.table p
+    → is_waiting (record_at before.table p).life ≡ false → IfSome cause (λ cause. WaitsFor before after p
+    (record { cause = cause; until = None }))
+    → IfSome (option_map (λ (cause : Cause). record { cause = cause; until = None }) cause)
+    (λ (wait : Waiting). wait_at (member_of after.sched.members p) ≡ Some wait)
 cause-so None before after p lives first waits = tt
 cause-so (Some cause) before after p lives first waits =
     rests-so (Some (record { cause = cause; until = None })) before after p lives first waits

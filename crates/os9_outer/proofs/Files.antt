@@ -35,19 +35,24 @@ name-at_position files name i file place here =
     (ap (is_named name) here ∙ (position-Some (is_named name) files i file place).1)
 
 -- what is read under a name stands in the file at its first place
-pub file_named-at_position : (files : List HostFile) (name : List ℕ) (i : ℕ) (file : HostFile) → position (is_named name) files ≡ Some i → file ≡ get_or files i file → file_named files name ≡ Some file.bytes.items
+pub file_named-at_position : (files : List HostFile) (name : List ℕ) (i : ℕ) (file : HostFile)
+    → position (is_named name) files ≡ Some i → file ≡ get_or files i file → file_named files name ≡ Some
+    file.bytes.items
 file_named-at_position files name i file place here =
     ap (option_map (λ f. f.bytes.items))
     (find_at (is_named name) files
     ∙ ap (slice_get files) (sym (position_or_len-Some (is_named name) files i place))
     ∙ slice_get_read files (length files) i file refl (position-Some (is_named name) files i file place).0 here)
 
-pub file_named-set : (files : List HostFile) (name : List ℕ) (i : ℕ) (new : HostFile) → position (is_named name) files ≡ Some i → string_bytes new.name ≡ name → file_named (set files i new) name ≡ Some new.bytes.items
+pub file_named-set : (files : List HostFile) (name : List ℕ) (i : ℕ) (new : HostFile) → position (is_named name) files
+    ≡ Some i → string_bytes new.name ≡ name → file_named (set files i new) name ≡ Some new.bytes.items
 file_named-set files name i new place same =
     ap (option_map (λ f. f.bytes.items))
     (find-set (is_named name) files i new (position_or_len-Some (is_named name) files i place) (position-Some (is_named name) files i new place).0 (is_named-same name new same))
 
-pub file_named-set_other : (files : List HostFile) (name other : List ℕ) (i : ℕ) (old new : HostFile) → old ≡ get_or files i old → string_bytes old.name ≡ name → string_bytes new.name ≡ name → other ≢ name → file_named (set files i new) other ≡ file_named files other
+pub file_named-set_other : (files : List HostFile) (name other : List ℕ) (i : ℕ) (old new : HostFile)
+    → old ≡ get_or files i old → string_bytes old.name ≡ name → string_bytes new.name ≡ name → other ≢ name
+    → file_named (set files i new) other ≡ file_named files other
 file_named-set_other files name other i old new here was same differs =
     ap (option_map (λ f. f.bytes.items))
     (find_past (is_named other) files i new old (ap (is_named other) (sym here) ∙ is_named-other name other old was differs) (is_named-other name other new same differs))
@@ -59,7 +64,8 @@ file_named-absent files name none =
     find_at (is_named name) files ∙ slice_get_past files _ (position_or_len-None (is_named name) files none) in
     ap (option_map (λ f. f.bytes.items)) absent
 
-pub file_named-push : (files : List HostFile) (name : List ℕ) (new : HostFile) → position (is_named name) files ≡ None → string_bytes new.name ≡ name → file_named (files ++ new ∷ []) name ≡ Some new.bytes.items
+pub file_named-push : (files : List HostFile) (name : List ℕ) (new : HostFile) → position (is_named name) files ≡ None
+    → string_bytes new.name ≡ name → file_named (files ++ new ∷ []) name ≡ Some new.bytes.items
 file_named-push files name new none same =
     let yes = is_named-same name new same in
     let absent : find (is_named name) files ≡ None =

@@ -61,7 +61,9 @@ IsBounded blocks = (n : ℕ) → blocks ≡ Some n → (8 ≤ n) × (n ≤ 256)
 abbrev pub IsTime : Option TimePacket → Type 0
 IsTime start = (t : TimePacket) → start ≡ Some t → is_time_packet t ≡ true
 
-run-complete : (modules script slices : Option (List ℕ)) (blocks : Option ℕ) (start : Option TimePacket) (run : RunWords) → IsBounded blocks → IsTime start → run_words_with modules script slices blocks start ≡ Some run → IsRun run
+run-complete : (modules script slices : Option (List ℕ)) (blocks : Option ℕ) (start : Option TimePacket)
+    (run : RunWords) → IsBounded blocks → IsTime start → run_words_with modules script slices blocks start ≡ Some run
+    → IsRun run
 run-complete None script slices blocks start run bounded civil is = absurd (cc is)
 run-complete (Some modules) script None blocks start run bounded civil is = absurd (cc is)
 run-complete (Some modules) script (Some slices) None start run bounded civil is = absurd (cc is)
@@ -72,7 +74,9 @@ run-complete (Some modules) script (Some slices) (Some n) (Some t) run bounded c
       machine = record { blocks = bounded n refl; time = civil t refl };
     })
 
-boot-complete : (images : List (List ℕ)) (script slices : Option (List ℕ)) (blocks : Option ℕ) (start : Option TimePacket) (command : Command) → IsBounded blocks → IsTime start → boot_with images script slices blocks start ≡ Some command → IsCommand command
+boot-complete : (images : List (List ℕ)) (script slices : Option (List ℕ)) (blocks : Option ℕ)
+    (start : Option TimePacket) (command : Command) → IsBounded blocks → IsTime start → boot_with images script slices
+    blocks start ≡ Some command → IsCommand command
 boot-complete images None slices blocks start command bounded civil is = absurd (cc is)
 boot-complete images (Some script) None blocks start command bounded civil is = absurd (cc is)
 boot-complete images (Some script) (Some slices) None start command bounded civil is = absurd (cc is)
@@ -80,7 +84,10 @@ boot-complete images (Some script) (Some slices) (Some n) None command bounded c
 boot-complete images (Some script) (Some slices) (Some n) (Some t) command bounded civil is =
     by (nat_le 1 (length images)) (nat_le (length images) most_images) refl refl is
   where
-    by : (some few : Bool) → nat_le 1 (length images) ≡ some → nat_le (length images) most_images ≡ few → (if some && few then Some (Boot (record { files = images; script = Some script; slices = slices; blocks = n; start = t })) else None) ≡ Some command → IsCommand command
+    by : (some few : Bool) → nat_le 1 (length images) ≡ some → nat_le (length images) most_images ≡ few
+        → (if some && few then Some
+        (Boot (record { files = images; script = Some script; slices = slices; blocks = n; start = t })) else None) ≡
+        Some command → IsCommand command
     by true true some few is =
         subst IsCommand (some-is _ command is) (record {
           files = record {
@@ -109,7 +116,9 @@ seed-most : (number : Option (List ℕ)) (n : ℕ) → option_and_then seed_of n
 seed-most None n is = absurd (cc is)
 seed-most (Some number) n is = (within-bounds 0 most_seed (number_of number) n is).1
 
-given-complete : (given : Option Given) (reads : Given → Option Command) (command : Command) → ((words : Given) → reads words ≡ Some command → IsCommand command) → option_and_then reads given ≡ Some command → IsCommand command
+given-complete : (given : Option Given) (reads : Given → Option Command) (command : Command)
+    → ((words : Given) → reads words ≡ Some command → IsCommand command) → option_and_then reads given ≡ Some command
+    → IsCommand command
 given-complete None reads command complete is = absurd (cc is)
 given-complete (Some words) reads command complete is = complete words is
 
@@ -165,7 +174,15 @@ is-complete [] command is = absurd (cc is)
 is-complete (first ∷ words) command is =
     by (bytes_eq first (codes "run")) (bytes_eq first (codes "boot")) (bytes_eq first (codes "check")) (bytes_eq first (codes "stress")) (bytes_eq first (codes "vol")) (bytes_eq first (codes "asm")) (bytes_eq first (codes "debug")) is
   where
-    by : (run boot check stress vol asm debug : Bool) → (if run then option_and_then run_of (words_give run_options words) else (if boot then option_and_then boot_of (words_give run_options words) else (if check then option_and_then check_of (words_give check_options words) else (if stress then option_and_then stress_of (words_give stress_options words) else (if vol then option_map Vol (option_and_then vol_of (words_give vol_options words)) else (if asm then option_map Asm (option_and_then asm_of (words_give asm_options words)) else (if debug then option_map Debug (option_and_then debug_of (words_give debug_options words)) else None))))))) ≡ Some command → IsCommand command
+    by : (run boot check stress vol asm debug : Bool)
+        → (if run then option_and_then run_of (words_give run_options words) else (if boot then option_and_then
+        boot_of (words_give run_options words) else (if check then option_and_then check_of
+        (words_give check_options words) else (if stress then option_and_then stress_of
+        (words_give stress_options words) else (if vol then option_map Vol
+        (option_and_then vol_of (words_give vol_options words)) else (if asm then option_map Asm
+        (option_and_then asm_of (words_give asm_options words)) else (if debug then option_map Debug
+        (option_and_then debug_of (words_give debug_options words)) else None))))))) ≡ Some command
+        → IsCommand command
     by true boot check stress vol asm debug is =
         given-complete (words_give run_options words) run_of command (λ given e. runs-complete given command e) is
     by false true check stress vol asm debug is =

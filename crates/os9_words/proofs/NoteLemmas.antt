@@ -6,7 +6,8 @@ use Rattle.os9_outer.specs.declared.host.HostFault.{HostFault}
 use Rattle.os9_words.specs.Notes.{notes_of}
 use Rattle.os9_words.specs.Streams.{WritesOut}
 
-pub notes-kept : {Host Value : Type 0} (members : Ghosts Host) (text : List ℕ) (answer : Result Value HostFault) (before now : Host) → WritesOut members text answer before now → notes_of members now ≡ notes_of members before
+pub notes-kept : {Host Value : Type 0} (members : Ghosts Host) (text : List ℕ) (answer : Result Value HostFault)
+    (before now : Host) → WritesOut members text answer before now → notes_of members now ≡ notes_of members before
 notes-kept members text answer before now wrote = λ i. record {
   read = wrote.reads_kept i;
   written = wrote.writes_kept i;

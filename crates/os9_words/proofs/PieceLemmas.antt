@@ -31,7 +31,8 @@ pub record WroteOut {Host : Type 0} (members : Ghosts Host) (pieces : List (Bor 
   pub writes_kept : members.files_written now ≡ members.files_written before
 
 -- the text is that of the pieces before one, of the piece, and of those behind it
-text_of-at : (pieces : List (Bor (List ℕ))) (i : ℕ) (other : Bor (List ℕ)) → i < length pieces → text_of pieces ≡ (text_of (take i pieces) ++ (get_or pieces i other).now) ++ text_of (drop (suc i) pieces)
+text_of-at : (pieces : List (Bor (List ℕ))) (i : ℕ) (other : Bor (List ℕ)) → i < length pieces
+    → text_of pieces ≡ (text_of (take i pieces) ++ (get_or pieces i other).now) ++ text_of (drop (suc i) pieces)
 text_of-at pieces i other below =
     let before = take i pieces in
     let behind = drop (suc i) pieces in
@@ -41,7 +42,9 @@ text_of-at pieces i other below =
     ∙ sym (append_assoc (text_of before) (get_or pieces i other).now (text_of behind))
 
 -- after the pieces before one, a prefix of the piece is a prefix of the text
-pub GainsPrefix-piece : (stream : Option (List ℕ)) (pieces : List (Bor (List ℕ))) (i : ℕ) (other : Bor (List ℕ)) (between now : Option (List ℕ)) → i < length pieces → between ≡ stream_with stream (text_of (take i pieces)) → GainsPrefix between (get_or pieces i other).now now → GainsPrefix stream (text_of pieces) now
+pub GainsPrefix-piece : (stream : Option (List ℕ)) (pieces : List (Bor (List ℕ))) (i : ℕ) (other : Bor (List ℕ))
+    (between now : Option (List ℕ)) → i < length pieces → between ≡ stream_with stream (text_of (take i pieces))
+    → GainsPrefix between (get_or pieces i other).now now → GainsPrefix stream (text_of pieces) now
 GainsPrefix-piece stream pieces i other between now below first gained =
     let before = text_of (take i pieces) in
     let piece = (get_or pieces i other).now in

@@ -60,7 +60,10 @@ cluster-is given cluster is = by (value_of given (codes "cluster")) is
 
 -- ---- the words
 
-pub format-complete : (image : List ℕ) (start : TimePacket) (sectors cluster : Option ℕ) (vol : VolWords) → is_time_packet start ≡ true → ((n : ℕ) → sectors ≡ Some n → (16 ≤ n) × (n ≤ 524280)) → ((k : ℕ) → cluster ≡ Some k → is_cluster_size k ≡ true) → format_with image start sectors cluster ≡ Some vol → IsVol vol
+pub format-complete : (image : List ℕ) (start : TimePacket) (sectors cluster : Option ℕ) (vol : VolWords)
+    → is_time_packet start ≡ true → ((n : ℕ) → sectors ≡ Some n → (16 ≤ n) × (n ≤ 524280))
+    → ((k : ℕ) → cluster ≡ Some k → is_cluster_size k ≡ true) → format_with image start sectors cluster ≡ Some vol
+    → IsVol vol
 format-complete image start None cluster vol civil bounded right is = absurd (cc is)
 format-complete image start (Some sectors) None vol civil bounded right is = absurd (cc is)
 format-complete image start (Some sectors) (Some cluster) vol civil bounded right is =
@@ -82,11 +85,21 @@ rest-length (verb ∷ (image ∷ rest)) count is =
     let same : length (verb ∷ (image ∷ rest)) ≡ count + 2 = eqb-true (length (verb ∷ (image ∷ rest))) (count + 2) is in
     omega (arith, same)
 
-pub tool-complete : (verb : Verb) (image : List ℕ) (start : TimePacket) (arguments : List (List ℕ)) (cluster : Option (List ℕ)) (vol : VolWords) → verb ≢ Format → is_time_packet start ≡ true → tool_with verb image start arguments cluster ≡ Some vol → IsVol vol
+pub tool-complete : (verb : Verb) (image : List ℕ) (start : TimePacket) (arguments : List (List ℕ))
+    (cluster : Option (List ℕ)) (vol : VolWords) → verb ≢ Format → is_time_packet start ≡ true → tool_with verb image
+    start arguments cluster ≡ Some vol → IsVol vol
 tool-complete verb image start arguments (Some cluster) vol other civil is = absurd (cc is)
 tool-complete verb image start arguments None vol other civil is = by (nat_eq (length arguments) (rest_count verb + 2)) refl is
   where
-    by : (right : Bool) → nat_eq (length arguments) (rest_count verb + 2) ≡ right → (if right then Some (record { verb = verb; image = image; rest = drop 2 arguments; sectors = 0; cluster = 1; start = start }) else None) ≡ Some vol → IsVol vol
+    by : (right : Bool) → nat_eq (length arguments) (rest_count verb + 2) ≡ right
+        → (if right then Some (record {
+          verb = verb;
+          image = image;
+          rest = drop 2 arguments;
+          sectors = 0;
+          cluster = 1;
+          start = start;
+        }) else None) ≡ Some vol → IsVol vol
     by false right is = absurd (cc is)
     by true right is =
         subst IsVol (some-same _ vol is) (record {
@@ -116,12 +129,15 @@ verb-complete Dir image start words vol civil is = tool-complete Dir image start
 verb-complete Repair image start words vol civil is = tool-complete Repair image start words.arguments (value_of words (codes "cluster")) vol (λ e. cc e) civil is
 
 -- what words of `vol` spell has what they have
-pub vol-complete : ((words : Given) (start : TimePacket) → time_of words ≡ Some start → is_time_packet start ≡ true) → (given : Option Given) (vol : VolWords) → option_and_then vol_of given ≡ Some vol → IsVol vol
+pub vol-complete : ((words : Given) (start : TimePacket) → time_of words ≡ Some start → is_time_packet start ≡ true)
+    → (given : Option Given) (vol : VolWords) → option_and_then vol_of given ≡ Some vol → IsVol vol
 vol-complete civil None vol is = absurd (cc is)
 vol-complete civil (Some words) vol is =
     by (option_and_then verb_of (slice_get words.arguments 0)) (slice_get words.arguments 1) (time_of words) (civil words) is
   where
-    by : (verb : Option Verb) (image : Option (List ℕ)) (start : Option TimePacket) → ((t : TimePacket) → start ≡ Some t → is_time_packet t ≡ true) → vol_with verb image start words ≡ Some vol → IsVol vol
+    by : (verb : Option Verb) (image : Option (List ℕ)) (start : Option TimePacket)
+        → ((t : TimePacket) → start ≡ Some t → is_time_packet t ≡ true) → vol_with verb image start words ≡ Some vol
+        → IsVol vol
     by None image start civil is = absurd (cc is)
     by (Some verb) None start civil is = absurd (cc is)
     by (Some verb) (Some image) None civil is = absurd (cc is)

@@ -25,17 +25,22 @@ free-number q m = elim (cases_lt q 33) [
 ]
 
 -- no paths
-pub are-no_paths : (descs : List (Option Desc)) (own : List (List (Option SysPath))) → descs ≡ replicate 65 None → own ≡ replicate 33 (replicate 16 None) → ArePaths (record { descs = descs; own = own })
+pub are-no_paths : (descs : List (Option Desc)) (own : List (List (Option SysPath))) → descs ≡ replicate 65 None
+    → own ≡ replicate 33 (replicate 16 None) → ArePaths (record { descs = descs; own = own })
 are-no_paths descs own no_descs no_numbers = record {
   places = ap (length {A = Option Desc}) no_descs ∙ length-replicate 65 (nothing {X = Desc});
   processes = ap (length {A = List (Option SysPath)}) no_numbers ∙ length-replicate 33 (replicate 16 (nothing {X = SysPath}));
-  numbers = λ p within. ap (λ (o : List (List (Option SysPath))). length (get_or o p [])) no_numbers ∙ ap (length {A = Option SysPath}) (get_or-replicate 33 p (replicate 16 None) [] within) ∙ length-replicate 16 (nothing {X = SysPath});
+  numbers = λ p within. ap (λ (o : List (List (Option SysPath))). length (get_or o p [])) no_numbers ∙ ap
+      (length {A = Option SysPath}) (get_or-replicate 33 p (replicate 16 None) [] within) ∙ length-replicate 16
+      (nothing {X = SysPath});
   from_one = ap (λ (ds : List (Option Desc)). get_or ds 0 None) no_descs ∙ free-place 65 0;
   there = λ p n s named. absurd (let e : None ≡ Some s = sym (ap (λ (o : List (List (Option SysPath))). get_or (get_or o p []) n None) no_numbers ∙ free-number p n) ∙ named in cc);
 }
 
 -- the numbers of a process after those of one were set
-numbers-set : (paths : PathTable) (p q : ℕ) (numbers : List (Option SysPath)) → p < length paths.own → (numbers_of (with_numbers paths p numbers) q ≡ numbers) ⊎ (numbers_of (with_numbers paths p numbers) q ≡ numbers_of paths q)
+numbers-set : (paths : PathTable) (p q : ℕ) (numbers : List (Option SysPath)) → p < length paths.own
+    → (numbers_of (with_numbers paths p numbers) q ≡ numbers) ⊎ (numbers_of (with_numbers paths p numbers) q ≡
+    numbers_of paths q)
 numbers-set paths p q numbers within = elim (cases_eq q p) [
   | inl same ↦ inl (ap (λ (k : ℕ). get_or (set paths.own p numbers) k []) same ∙ get_or-set_same paths.own p numbers [] within)
   | inr differ ↦ inr (get_or-set_other paths.own p q numbers [] differ)
@@ -50,7 +55,9 @@ inherited-names numbers m s sixteen named =
           sym (get_or-take 3 numbers m None within) ∙ sym (get_or_append_left (take 3 numbers) (replicate 13 None) None m (omega arith)) ∙ named
       | inr past ↦
           let at : m ≡ length (take 3 numbers) + (m - 3) = omega arith in
-          absurd (let e : None ≡ Some s = sym (ap (λ (k : ℕ). get_or (inherited_numbers numbers) k None) at ∙ get_or-append-add (take 3 numbers) (replicate 13 None) (m - 3) None ∙ free-place 13 (m - 3)) ∙ named in cc)
+          absurd (let e : None ≡ Some s = sym (ap (λ (k : ℕ). get_or (inherited_numbers numbers) k None) at ∙
+          get_or-append-add (take 3 numbers) (replicate 13 None) (m - 3) None ∙ free-place 13 (m - 3)) ∙ named in
+          cc)
     ]
 
 inherited-length : (numbers : List (Option SysPath)) → length numbers ≡ 16 → length (inherited_numbers numbers) ≡ 16
@@ -58,7 +65,8 @@ inherited-length numbers sixteen =
     omega (arith, length-append (take 3 numbers) (replicate 13 (nothing {X = SysPath})), length-take 3 numbers, length-replicate 13 (nothing {X = SysPath}))
 
 -- a process is given what another's first three numbers name
-pub are-inherited : (paths : PathTable) (from to : ℕ) (numbers : List (Option SysPath)) → ArePaths paths → from < 33 → to < 33 → numbers ≡ inherited_numbers (numbers_of paths from) → ArePaths (with_numbers paths to numbers)
+pub are-inherited : (paths : PathTable) (from to : ℕ) (numbers : List (Option SysPath)) → ArePaths paths → from < 33
+    → to < 33 → numbers ≡ inherited_numbers (numbers_of paths from) → ArePaths (with_numbers paths to numbers)
 are-inherited paths from to numbers are parent child given =
     let within : to < length paths.own = omega (arith, are.processes) in
     let sixteen : length (numbers_of paths from) ≡ 16 = are.numbers from parent in
@@ -97,7 +105,9 @@ place-there descs s live = elim (cases_lt s (length descs)) [
 
 described-same : (paths : PathTable) (s t : ℕ) (desc : Desc) → t ≡ s → IsSome (desc_of paths s) → IsSome (desc_of (with_desc paths s (Some desc)) t)
 described-same paths s t desc same live =
-    something (desc_of (with_desc paths s (Some desc)) t) desc (ap (λ (k : ℕ). get_or (set paths.descs s (Some desc)) k None) same ∙ get_or-set_same paths.descs s (Some desc) None (place-there paths.descs s live))
+    something (desc_of (with_desc paths s (Some desc)) t) desc
+    (ap (λ (k : ℕ). get_or (set paths.descs s (Some desc)) k None) same ∙ get_or-set_same paths.descs s
+    (Some desc) None (place-there paths.descs s live))
 
 -- a path is given another descriptor
 pub are-described : (paths : PathTable) (s : ℕ) (desc : Desc) → ArePaths paths → IsSome (desc_of paths s) → ArePaths (with_desc paths s (Some desc))

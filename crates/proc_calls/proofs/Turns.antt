@@ -61,7 +61,9 @@ ended_lives_not (Some r) parent passes = grind (arith, nat_tests)
 ended_place : (records : List (Option Record)) (parent k : ℕ) → ended_child records parent ≡ Some k
     → (k < length records) × (is_living records k ≡ false)
 ended_place records parent k found =
-    let place : (k < length records) × (record_passes (is_ended_child parent) (record_of records k) ≡ true) × ((i : ℕ) → i < k → record_passes (is_ended_child parent) (get_or records i None) ≡ false) = position-Some (record_passes (is_ended_child parent)) records k None found in
+    let place : (k < length records) × (record_passes (is_ended_child parent) (record_of records k) ≡ true) × ((i : ℕ)
+    → i < k → record_passes (is_ended_child parent) (get_or records i None) ≡ false) = position-Some
+    (record_passes (is_ended_child parent)) records k None found in
     (place.0, ended_lives_not (record_of records k) parent place.1)
 
 -- the records without it

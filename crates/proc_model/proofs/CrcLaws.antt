@@ -66,7 +66,9 @@ divided_once_linear a b x y a_fits b_fits x_bit y_bit =
     ∙ ap (bit_xor (bit_xor (a * 2 % 2 ^ 24) (b * 2 % 2 ^ 24)))
     (subtracted_xor (bit_xor (a / 2 ^ 23) x) (bit_xor (b / 2 ^ 23) y) (xor_lt 1 (a / 2 ^ 23) x (omega arith) x_bit) (xor_lt 1 (b / 2 ^ 23) y (omega arith) y_bit))
     ∙ xor_middle (a * 2 % 2 ^ 24) (b * 2 % 2 ^ 24) (subtracted (bit_xor (a / 2 ^ 23) x)) (subtracted (bit_xor (b / 2 ^ 23) y))
-    ∙ sym (ap (λ (m : ℕ). bit_xor m (divided_once b y)) (divided_once_xor a x a_fits x_bit) ∙ ap (bit_xor (bit_xor (a * 2 % 2 ^ 24) (subtracted (bit_xor (a / 2 ^ 23) x)))) (divided_once_xor b y b_fits y_bit))
+    ∙ sym (ap (λ (m : ℕ). bit_xor m (divided_once b y)) (divided_once_xor a x a_fits x_bit) ∙ ap
+    (bit_xor (bit_xor (a * 2 % 2 ^ 24) (subtracted (bit_xor (a / 2 ^ 23) x)))) (divided_once_xor b y b_fits
+    y_bit))
 
 -- two messages of equally many bits
 abbrev pub AreBits : List ℕ → List ℕ → Type 0

@@ -13,7 +13,9 @@ use Rattle.proc_model.specs.ModuleList.{ModuleEntry}
 use Rattle.proc_model.specs.Loading.{EntersModules, at_end, broken, refused, entered, with_module, entry_refusal, module_error}
 use Rattle.proc_model.proofs.ModuleLaws.{Fits, fits_from}
 
-pub Enters-one : {file group : List ℕ} {is_boot : Bool} {from : ℕ} {entries : List (Option ModuleEntry)} {one other : Result (List (Option ModuleEntry)) (ℕ × ℕ)} → EntersModules file group is_boot from entries one → EntersModules file group is_boot from entries other → one ≡ other
+pub Enters-one : {file group : List ℕ} {is_boot : Bool} {from : ℕ} {entries : List (Option ModuleEntry)}
+    {one other : Result (List (Option ModuleEntry)) (ℕ × ℕ)} → EntersModules file group is_boot from entries one
+    → EntersModules file group is_boot from entries other → one ≡ other
 Enters-one (at_end a) (at_end b) = refl
 Enters-one (at_end a) (broken b) = cc
 Enters-one (at_end a) (refused b c) = cc
@@ -67,7 +69,9 @@ LiesIn-step file from info is = by_place (at == length file) is
     at : ℕ
     at = next_place file from
 
-    by_fault : (fault : Option ModuleFault) → module_fault (drop at file) ≡ fault → option_map_or (λ fault. Fault at fault) fault (Module (info_at at (drop at file))) ≡ Module info → LiesIn file from info
+    by_fault : (fault : Option ModuleFault) → module_fault (drop at file) ≡ fault
+        → option_map_or (λ fault. Fault at fault) fault (Module (info_at at (drop at file))) ≡ Module info
+        → LiesIn file from info
     by_fault (Some fault) found same = absurd cc
     by_fault None found same =
         let fields : info_at at (drop at file) ≡ info = cc in
@@ -84,7 +88,9 @@ left_behind file from info is =
 
 -- an outcome is there where one is there behind each module that may come next
 by_step : (file group : List ℕ) (is_boot : Bool) (from : ℕ) (entries : List (Option ModuleEntry)) (step : ModuleStep)
-    → ((info : ModuleInfo) → step_from file from ≡ Module info → (others : List (Option ModuleEntry)) → (outcome : Result (List (Option ModuleEntry)) (ℕ × ℕ)) × EntersModules file group is_boot (info.at + info.size) others outcome)
+    → ((info : ModuleInfo) → step_from file from ≡ Module info → (others : List (Option ModuleEntry))
+    → (outcome : Result (List (Option ModuleEntry)) (ℕ × ℕ)) × EntersModules file group is_boot
+    (info.at + info.size) others outcome)
     → step_from file from ≡ step → (outcome : Result (List (Option ModuleEntry)) (ℕ × ℕ)) × EntersModules file group is_boot from entries outcome
 by_step file group is_boot from entries End behind is = (Ok entries, at_end is)
 by_step file group is_boot from entries (Fault at fault) behind is = (Err (at, module_error fault), broken is)
@@ -103,5 +109,6 @@ by_fuel file group is_boot (suc fuel) from entries enough =
     by_step file group is_boot from entries (step_from file from)
     (λ info is others. by_fuel file group is_boot fuel (info.at + info.size) others (omega (arith, left_behind file from info is))) refl
 
-pub Enters-some : (file group : List ℕ) (is_boot : Bool) (from : ℕ) (entries : List (Option ModuleEntry)) → (outcome : Result (List (Option ModuleEntry)) (ℕ × ℕ)) × EntersModules file group is_boot from entries outcome
+pub Enters-some : (file group : List ℕ) (is_boot : Bool) (from : ℕ) (entries : List (Option ModuleEntry))
+    → (outcome : Result (List (Option ModuleEntry)) (ℕ × ℕ)) × EntersModules file group is_boot from entries outcome
 Enters-some file group is_boot from entries = by_fuel file group is_boot (length file - from) from entries (omega arith)

@@ -44,7 +44,8 @@ nones_of_room [] h = absurd (omega arith)
 nones_of_room (None ∷ entries) h = omega arith
 nones_of_room (Some entry ∷ entries) h = nones_of_room entries (omega arith)
 
-nones_filled : (entries : List (Option ModuleEntry)) (number : ℕ) (entry : ModuleEntry) → number ≡ front entries → number < length entries → nones (with_module_entry entries number entry) + 1 ≡ nones entries
+nones_filled : (entries : List (Option ModuleEntry)) (number : ℕ) (entry : ModuleEntry) → number ≡ front entries
+    → number < length entries → nones (with_module_entry entries number entry) + 1 ≡ nones entries
 unfolding front nones
 nones_filled [] number entry h within = absurd (omega arith)
 nones_filled (None ∷ entries) zero entry h within = omega arith
@@ -65,7 +66,8 @@ room_by_number entries =
     cases (nat_lt k (length entries)) refl
 
 -- a new entry takes one place
-pub room-with_entry : (entries : List (Option ModuleEntry)) (number : ℕ) (entry : ModuleEntry) → free_number entries ≡ Some number → module_room (with_module_entry entries number entry) + 1 ≡ module_room entries
+pub room-with_entry : (entries : List (Option ModuleEntry)) (number : ℕ) (entry : ModuleEntry) → free_number entries ≡
+    Some number → module_room (with_module_entry entries number entry) + 1 ≡ module_room entries
 unfolding front
 room-with_entry entries number entry h =
     let k : ℕ = front entries in
@@ -78,12 +80,15 @@ room-with_entry entries number entry h =
     omega (arith, nones_are_room entries, nones_are_room (with_module_entry entries number entry), nones_filled entries number entry placed.0 placed.1)
 
 -- what stands at a number after an entry was put there, and at any other
-pub entry_at-with_entry_same : (entries : List (Option ModuleEntry)) (number : ℕ) (entry : ModuleEntry) → number < length entries → module_entry_at (with_module_entry entries number entry) number ≡ Some entry
+pub entry_at-with_entry_same : (entries : List (Option ModuleEntry)) (number : ℕ) (entry : ModuleEntry)
+    → number < length entries → module_entry_at (with_module_entry entries number entry) number ≡ Some entry
 entry_at-with_entry_same [] number entry within = absurd (omega arith)
 entry_at-with_entry_same (place ∷ entries) zero entry within = refl
 entry_at-with_entry_same (place ∷ entries) (suc number) entry within = entry_at-with_entry_same entries number entry (omega arith)
 
-pub entry_at-with_entry_other : (entries : List (Option ModuleEntry)) (number other : ℕ) (entry : ModuleEntry) → (other ≡ number → ⊥) → module_entry_at (with_module_entry entries number entry) other ≡ module_entry_at entries other
+pub entry_at-with_entry_other : (entries : List (Option ModuleEntry)) (number other : ℕ) (entry : ModuleEntry)
+    → (other ≡ number → ⊥) → module_entry_at (with_module_entry entries number entry) other ≡ module_entry_at entries
+    other
 entry_at-with_entry_other [] number other entry apart = refl
 entry_at-with_entry_other (place ∷ entries) zero zero entry apart = absurd (apart refl)
 entry_at-with_entry_other (place ∷ entries) zero (suc other) entry apart = refl
@@ -91,11 +96,15 @@ entry_at-with_entry_other (place ∷ entries) (suc number) zero entry apart = re
 entry_at-with_entry_other (place ∷ entries) (suc number) (suc other) entry apart = entry_at-with_entry_other entries number other entry (λ e. apart (ap suc e))
 
 -- a number that is found is that of an entry
-pub found_entry : (test : ModuleEntry → Bool) (entries : List (Option ModuleEntry)) (number : ℕ) → position (passes test) entries ≡ Some number → (entry : ModuleEntry) × (module_entry_at entries number ≡ Some entry)
+pub found_entry : (test : ModuleEntry → Bool) (entries : List (Option ModuleEntry)) (number : ℕ)
+    → position (passes test) entries ≡ Some number → (entry : ModuleEntry) × (module_entry_at entries number ≡ Some
+    entry)
 found_entry test entries number is =
     let here = position-Some (passes test) entries number None is in by_place here.0 here.1 (get_or entries number None) refl
   where
-    by_place : number < length entries → passes test (get_or entries number None) ≡ true → (place : Option ModuleEntry) → get_or entries number None ≡ place → (entry : ModuleEntry) × (module_entry_at entries number ≡ Some entry)
+    by_place : number < length entries → passes test (get_or entries number None) ≡ true
+        → (place : Option ModuleEntry) → get_or entries number None ≡ place → (entry : ModuleEntry) ×
+        (module_entry_at entries number ≡ Some entry)
     by_place within passed None same = absurd (false≢true (ap (passes test) (sym same) ∙ passed))
     by_place within passed (Some entry) same =
         (entry, ap (option_and_then (λ place. place)) (slice_get-get_or entries number None within ∙ ap (λ (place : Option ModuleEntry). Some place) same))

@@ -22,25 +22,29 @@ found_at : (is_ready : ℕ → Bool) (age : ℕ) (order : List Turn) (t : Turn)
     → find (λ u. u.age == age) (ready_turns is_ready order) ≡ Some t → IsFoundAt is_ready age order t
 found_at is_ready age [] t found = absurd (cc)
 found_at is_ready age (x ∷ order) t found =
-    elim (is_ready x.process.0) as (λ b. is_ready x.process.0 ≡ b → find (λ u. u.age == age) (cond b (x ∷ ready_turns is_ready order) (ready_turns is_ready order)) ≡ Some t → IsFoundAt is_ready age (x ∷ order) t) [
-      | true ↦ λ ready here. elim (x.age == age) as (λ b. (x.age == age) ≡ b → cond b (Some x) (find (λ u. u.age == age) (ready_turns is_ready order)) ≡ Some t → IsFoundAt is_ready age (x ∷ order) t) [
-        | true ↦ λ same it. let is_t : x ≡ t = cc in record {
-          before = [];
-          after = order;
-          stands = ap (λ (u : Turn). u ∷ order) is_t;
-          ready = subst (λ (u : Turn). is_ready u.process.0 ≡ true) is_t ready;
-          is_age = subst (λ (u : Turn). u.age ≡ age) is_t (grind (arith, nat_tests));
-          others = tt;
-        }
-        | false ↦ λ other it. let rest = found_at is_ready age order t it in record {
-          before = x ∷ rest.before;
-          after = rest.after;
-          stands = ap (λ (ts : List Turn). x ∷ ts) rest.stands;
-          ready = rest.ready;
-          is_age = rest.is_age;
-          others = (λ r e. absurd (grind (arith, nat_tests)), rest.others);
-        }
-      ]
+    elim (is_ready x.process.0) as (λ b. is_ready x.process.0 ≡ b → find (λ u. u.age == age)
+    (cond b (x ∷ ready_turns is_ready order) (ready_turns is_ready order)) ≡ Some t → IsFoundAt is_ready age
+    (x ∷ order) t) [
+      | true ↦ λ ready here. elim (x.age == age) as (λ b. (x.age == age) ≡ b
+          → cond b (Some x) (find (λ u. u.age == age) (ready_turns is_ready order)) ≡ Some t → IsFoundAt is_ready age
+          (x ∷ order) t) [
+            | true ↦ λ same it. let is_t : x ≡ t = cc in record {
+              before = [];
+              after = order;
+              stands = ap (λ (u : Turn). u ∷ order) is_t;
+              ready = subst (λ (u : Turn). is_ready u.process.0 ≡ true) is_t ready;
+              is_age = subst (λ (u : Turn). u.age ≡ age) is_t (grind (arith, nat_tests));
+              others = tt;
+            }
+            | false ↦ λ other it. let rest = found_at is_ready age order t it in record {
+              before = x ∷ rest.before;
+              after = rest.after;
+              stands = ap (λ (ts : List Turn). x ∷ ts) rest.stands;
+              ready = rest.ready;
+              is_age = rest.is_age;
+              others = (λ r e. absurd (grind (arith, nat_tests)), rest.others);
+            }
+          ]
           refl here
       | false ↦ λ not_ready here. let rest = found_at is_ready age order t here in record {
         before = x ∷ rest.before;
@@ -62,7 +66,8 @@ none_older : (is_ready : ℕ → Bool) (n : ℕ) (order : List Turn)
     → AllByRecursion (λ q. is_ready q.process.0 ≡ true → q.age ≤ greatest_from n (ready_turns is_ready order)) order
 none_older is_ready n [] = tt
 none_older is_ready n (x ∷ order) =
-    elim (is_ready x.process.0) as (λ b. is_ready x.process.0 ≡ b → AllByRecursion (λ q. is_ready q.process.0 ≡ true → q.age ≤ greatest_from n (cond b (x ∷ ready_turns is_ready order) (ready_turns is_ready order))) (x ∷ order)) [
+    elim (is_ready x.process.0) as (λ b. is_ready x.process.0 ≡ b → AllByRecursion (λ q. is_ready q.process.0 ≡ true
+    → q.age ≤ greatest_from n (cond b (x ∷ ready_turns is_ready order) (ready_turns is_ready order))) (x ∷ order)) [
       | true ↦ λ ready. (λ r. omega (arith, from-le (max n x.age) (ready_turns is_ready order)), none_older is_ready (max n x.age) order)
       | false ↦ λ not_ready. (λ r. absurd (cc), none_older is_ready n order)
     ]
@@ -106,13 +111,17 @@ to_choose is_ready order t found =
       ready = it.ready;
       none_older = subst (λ (n : ℕ). AllByRecursion (λ q. is_ready q.process.0 ≡ true → q.age ≤ n) order) (sym it.is_age) most;
       younger_before = subst (λ (n : ℕ). AllByRecursion (λ q. is_ready q.process.0 ≡ true → q.age < n) it.before) (sym it.is_age)
-          (younger is_ready (greatest_age (ready_turns is_ready order)) it.before (t ∷ it.after) (subst (λ (ts : List Turn). AllByRecursion (λ q. is_ready q.process.0 ≡ true → q.age ≤ greatest_age (ready_turns is_ready order)) ts) it.stands most) it.others);
+          (younger is_ready (greatest_age (ready_turns is_ready order)) it.before (t ∷ it.after)
+          (subst (λ (ts : List Turn). AllByRecursion (λ q. is_ready q.process.0 ≡ true → q.age ≤ greatest_age
+          (ready_turns is_ready order)) ts) it.stands most) it.others);
     }
 
 -- who is chosen is the one to choose, and nobody is chosen only if nobody is Ready
 pub chosen_if : (is_ready : ℕ → Bool) (order : List Turn) → IfSome (eldest (ready_turns is_ready order)) (IsToChoose is_ready order)
 chosen_if is_ready order =
-    elim (find (λ u. u.age == greatest_age (ready_turns is_ready order)) (ready_turns is_ready order)) as (λ o. find (λ u. u.age == greatest_age (ready_turns is_ready order)) (ready_turns is_ready order) ≡ o → IfSome (option_map (λ (t : Turn). t.process) o) (IsToChoose is_ready order)) [
+    elim (find (λ u. u.age == greatest_age (ready_turns is_ready order)) (ready_turns is_ready order)) as
+    (λ o. find (λ u. u.age == greatest_age (ready_turns is_ready order)) (ready_turns is_ready order) ≡ o
+    → IfSome (option_map (λ (t : Turn). t.process) o) (IsToChoose is_ready order)) [
       | None ↦ λ e. tt
       | Some t ↦ λ e. to_choose is_ready order t e
     ]
@@ -120,7 +129,9 @@ chosen_if is_ready order =
 
 pub nobody_if : (is_ready : ℕ → Bool) (order : List Turn) → IfNone (eldest (ready_turns is_ready order)) (NobodyReady is_ready order)
 nobody_if is_ready order =
-    elim (find (λ u. u.age == greatest_age (ready_turns is_ready order)) (ready_turns is_ready order)) as (λ o. find (λ u. u.age == greatest_age (ready_turns is_ready order)) (ready_turns is_ready order) ≡ o → IfNone (option_map (λ (t : Turn). t.process) o) (NobodyReady is_ready order)) [
+    elim (find (λ u. u.age == greatest_age (ready_turns is_ready order)) (ready_turns is_ready order)) as
+    (λ o. find (λ u. u.age == greatest_age (ready_turns is_ready order)) (ready_turns is_ready order) ≡ o
+    → IfNone (option_map (λ (t : Turn). t.process) o) (NobodyReady is_ready order)) [
       | None ↦ λ e. nobody_ready is_ready order (found_none (ready_turns is_ready order) e)
       | Some t ↦ λ e. tt
     ]

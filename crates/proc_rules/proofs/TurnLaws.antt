@@ -9,7 +9,8 @@ use Rattle.proc_rules.specs.Turns.{aged, without_turn, with_turn, has_turn, AreO
 -- who has a turn after one turn more, without a process, and after the ages have changed
 pub has_turn-push : (order : List Turn) (t : Turn) (p : ℕ) → has_turn (order ++ t ∷ []) p ≡ (has_turn order p || (t.process.0 == p))
 has_turn-push [] t p = elim (t.process.0 == p) as (λ b. (b || false) ≡ b) [ true ↦ refl | false ↦ refl ]
-has_turn-push (x ∷ order) t p = elim (x.process.0 == p) as (λ b. (b || has_turn (order ++ t ∷ []) p) ≡ ((b || has_turn order p) || (t.process.0 == p))) [ true ↦ refl | false ↦ has_turn-push order t p ]
+has_turn-push (x ∷ order) t p = elim (x.process.0 == p) as (λ b. (b || has_turn (order ++ t ∷ []) p) ≡
+    ((b || has_turn order p) || (t.process.0 == p))) [ true ↦ refl | false ↦ has_turn-push order t p ]
 
 pub has_turn-without : (order : List Turn) (p q : ℕ) → has_turn (without_turn order p) q ≡ (not (q == p) && has_turn order q)
 has_turn-without [] p q = elim (q == p) as (λ b. false ≡ (not b && false)) [ true ↦ refl | false ↦ refl ]
@@ -24,7 +25,9 @@ pub without-aged : (is_ready : ℕ → Bool) (priority : ℕ → ℕ) (order : L
     → without_turn (map (aged is_ready priority) order) p ≡ map (aged is_ready priority) (without_turn order p)
 without-aged is_ready priority [] p = refl
 without-aged is_ready priority (x ∷ order) p =
-    elim (x.process.0 == p) as (λ b. cond (not b) (aged is_ready priority x ∷ without_turn (map (aged is_ready priority) order) p) (without_turn (map (aged is_ready priority) order) p) ≡ map (aged is_ready priority) (cond (not b) (x ∷ without_turn order p) (without_turn order p))) [
+    elim (x.process.0 == p) as (λ b. cond (not b) (aged is_ready priority x ∷ without_turn
+    (map (aged is_ready priority) order) p) (without_turn (map (aged is_ready priority) order) p) ≡ map
+    (aged is_ready priority) (cond (not b) (x ∷ without_turn order p) (without_turn order p))) [
       | true ↦ without-aged is_ready priority order p
       | false ↦ ap (λ (ts : List Turn). aged is_ready priority x ∷ ts) (without-aged is_ready priority order p)
     ]
@@ -90,7 +93,9 @@ found_turn is_ready test (x ∷ order) t found = grind (arith, nat_tests, found_
 -- who is chosen has a turn
 pub has_turn-eldest : (is_ready : ℕ → Bool) (order : List Turn) (p : Pid) → eldest (ready_turns is_ready order) ≡ Some p → has_turn order p.0 ≡ true
 has_turn-eldest is_ready order p chosen =
-    elim (find (λ t. t.age == greatest_age (ready_turns is_ready order)) (ready_turns is_ready order)) as (λ o. find (λ t. t.age == greatest_age (ready_turns is_ready order)) (ready_turns is_ready order) ≡ o → option_map (λ (t : Turn). t.process) o ≡ Some p → has_turn order p.0 ≡ true) [
+    elim (find (λ t. t.age == greatest_age (ready_turns is_ready order)) (ready_turns is_ready order)) as
+    (λ o. find (λ t. t.age == greatest_age (ready_turns is_ready order)) (ready_turns is_ready order) ≡ o
+    → option_map (λ (t : Turn). t.process) o ≡ Some p → has_turn order p.0 ≡ true) [
       | None ↦ λ e h. absurd (cc)
       | Some t ↦ λ e h. let same : t.process ≡ p = cc in subst (λ (q : Pid). has_turn order q.0 ≡ true) same (found_turn is_ready (λ u. u.age == greatest_age (ready_turns is_ready order)) order t e)
     ]
@@ -102,7 +107,9 @@ after_choice-agree : (is_ready other : ℕ → Bool) (priority also : ℕ → �
     → after_choice is_ready priority order chosen ≡ after_choice other also order chosen
 after_choice-agree is_ready other priority also order None has same alike = aged-agree is_ready other priority also order same alike
 after_choice-agree is_ready other priority also order (Some p) has same alike =
-    ap (λ (ts : List Turn). with_turn ts p (priority p.0)) (aged-agree is_ready other priority also (without_turn order p.0) (λ q h. same q (grind (arith, has_turn-without order p.0 q))) (λ q h. alike q (grind (arith, has_turn-without order p.0 q))))
+    ap (λ (ts : List Turn). with_turn ts p (priority p.0)) (aged-agree is_ready other priority also
+    (without_turn order p.0) (λ q h. same q (grind (arith, has_turn-without order p.0 q)))
+    (λ q h. alike q (grind (arith, has_turn-without order p.0 q))))
     ∙ ap (λ (n : ℕ). with_turn (map (aged other also) (without_turn order p.0)) p n) (alike p.0 (has p refl))
 
 -- a choice depends on the readiness and the priority of those that have a turn, and of nobody else
@@ -111,4 +118,5 @@ pub choose-agree : (is_ready other : ℕ → Bool) (priority also : ℕ → ℕ)
     → choose is_ready priority order ≡ choose other also order
 choose-agree is_ready other priority also order same alike =
     ap (λ (ts : List Turn). choice_of (eldest ts) (after_choice is_ready priority order (eldest ts))) (ready_turns-agree is_ready other order same)
-    ∙ ap (λ (o : List Turn). choice_of (eldest (ready_turns other order)) o) (after_choice-agree is_ready other priority also order (eldest (ready_turns other order)) (has_turn-eldest other order) same alike)
+    ∙ ap (λ (o : List Turn). choice_of (eldest (ready_turns other order)) o) (after_choice-agree is_ready other
+    priority also order (eldest (ready_turns other order)) (has_turn-eldest other order) same alike)

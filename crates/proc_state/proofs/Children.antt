@@ -4,7 +4,8 @@ use Rattle.std.proofs.lemmas.Bool.Decides.{nat_tests}
 use Rattle.std.proofs.lemmas.List.Sums.{position_or_len_is}
 
 -- a place that passes, where none before it does
-pub is_some-position : {X : Type 0} (p : X → Bool) (xs : List X) (i : ℕ) (d : X) → i < length xs → ((k : ℕ) → k < i → p (get_or xs k d) ≡ false) → p (get_or xs i d) ≡ true → is_some (position p xs) ≡ true
+pub is_some-position : {X : Type 0} (p : X → Bool) (xs : List X) (i : ℕ) (d : X) → i < length xs
+    → ((k : ℕ) → k < i → p (get_or xs k d) ≡ false) → p (get_or xs i d) ≡ true → is_some (position p xs) ≡ true
 is_some-position p xs i d within before here =
     let first = position_or_len_is p xs i d (omega arith) before (λ _. here) in
     grind (arith, nat_tests)

@@ -18,7 +18,8 @@ use Rattle.proc_state.specs.Tie.{Represents}
 use Rattle.proc_state.specs.declared.state.ProcState.{ProcState}
 
 -- the priority in the scheduler is that of the record, and 0 where no process lives
-priority_of : (records : List (Option Record)) (schedule : Schedule) → AreTurns records schedule → (p : ℕ) → priority_in schedule.members p ≡ (if is_living records p then (record_at records p).priority else 0)
+priority_of : (records : List (Option Record)) (schedule : Schedule) → AreTurns records schedule → (p : ℕ)
+    → priority_in schedule.members p ≡ (if is_living records p then (record_at records p).priority else 0)
 priority_of records schedule turns p = by_life (is_living records p) refl
   where
     no_priority : (place : Option Member) → is_some place ≡ false → (unwrap_or place (record { priority = 0; standing = Going })).priority ≡ 0

@@ -57,7 +57,9 @@ module _ (m : Inner) (p signal : ℕ) where
   interrupted-stored : (memory : MemoryState) → interrupted (with_memory m memory) p signal ≡ with_memory (interrupted m p signal) memory
   interrupted-stored memory = by_wait waits
     where
-      by_wait : (b : Bool) → cond b (goes_on (with_memory taken memory) p (cond b (refused_regs (regs_at m p) signal) (regs_at m p))) (with_memory taken memory) ≡ with_memory (cond b (goes_on taken p (cond b (refused_regs (regs_at m p) signal) (regs_at m p))) taken) memory
+      by_wait : (b : Bool) → cond b (goes_on (with_memory taken memory) p (cond b (refused_regs (regs_at m p) signal)
+          (regs_at m p))) (with_memory taken memory) ≡ with_memory
+          (cond b (goes_on taken p (cond b (refused_regs (regs_at m p) signal) (regs_at m p))) taken) memory
       by_wait true = refl
       by_wait false = refl
 
@@ -72,7 +74,9 @@ module _ (m : Inner) (p signal : ℕ) where
     pub frame-pushed : (regs pushed : Regs) (bytes : List ℕ) → regs ≡ interrupted_regs m p signal → bytes ≡ frame_bytes regs → pushed ≡ routine_regs regs intercept signal frame
         → with_regs_of (interrupted (with_memory m (stored m.memory p frame bytes)) p signal) p pushed ≡ with_frame (interrupted m p signal) p intercept signal (interrupted_regs m p signal) frame
     frame-pushed regs pushed bytes regs_is bytes_are pushed_is =
-        let there : interrupted (with_memory m (stored m.memory p frame bytes)) p signal ≡ with_memory (interrupted m p signal) (stored m.memory p frame bytes) = interrupted-stored (stored m.memory p frame bytes) in
+        let there : interrupted (with_memory m (stored m.memory p frame bytes)) p signal ≡ with_memory
+        (interrupted m p signal) (stored m.memory p frame bytes) = interrupted-stored
+        (stored m.memory p frame bytes) in
         let all : bytes ≡ frame_bytes (interrupted_regs m p signal) = bytes_are ∙ ap frame_bytes regs_is in
         let set : pushed ≡ routine_regs (interrupted_regs m p signal) intercept signal frame = pushed_is ∙ ap (λ (r : Regs). routine_regs r intercept signal frame) regs_is in
         (λ i. with_regs_of (there i) p pushed)

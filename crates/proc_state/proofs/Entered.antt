@@ -50,7 +50,9 @@ entered-tied memory m tied n =
     ∙ is_some-map (renamed_entry tied.number) (module_entry_at memory.dir n)
 
 -- a change that leaves the module directory leaves the modules that are entered
-pub entered-kept : (old new : Memory) (change : MemoryState → MemoryState) → ((m : MemoryState) → Represents old m → Represents new (change m)) → ((m : MemoryState) → (change m).modules ≡ m.modules) → (n : ℕ) → is_some (module_entry_at (modules_of new) n) ≡ is_some (module_entry_at (modules_of old) n)
+pub entered-kept : (old new : Memory) (change : MemoryState → MemoryState) → ((m : MemoryState) → Represents old m
+    → Represents new (change m)) → ((m : MemoryState) → (change m).modules ≡ m.modules) → (n : ℕ)
+    → is_some (module_entry_at (modules_of new) n) ≡ is_some (module_entry_at (modules_of old) n)
 entered-kept old new change ties keeps n =
     let m = own_objects old in
     sym (entered-tied new (change m) (ties m (represented old)) n)

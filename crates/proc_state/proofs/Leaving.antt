@@ -55,7 +55,8 @@ module _ (p : ℕ) where
 
 module _ (records : List (Option Record)) (schedule : Schedule) (turns : AreTurns records schedule) (p status : ℕ) (alive : IsLiving records p) where
   own_place : record_of (after_exit records p status) p ≡ ended_record (record_at records p) status
-  own_place = get_or-set_same {A = Option Record} (map (orphaned p) records) p (ended_record (record_at records p) status) None (omega (arith, length-map records (orphaned p), place-living records p alive))
+  own_place = get_or-set_same {A = Option Record} (map (orphaned p) records) p (ended_record (record_at records p)
+      status) None (omega (arith, length-map records (orphaned p), place-living records p alive))
 
   other_place : (q : ℕ) → (q ≡ p → ⊥) → record_of (after_exit records p status) q ≡ orphaned p (record_of records q)
   other_place q other =
@@ -99,5 +100,6 @@ module _ (records : List (Option Record)) (schedule : Schedule) (turns : AreTurn
   }
     where
       by_member : (q : ℕ) → (q ≡ p) ⊎ (q ≡ p → ⊥) → is_some (member_of (set schedule.members p None) q) ≡ is_living (after_exit records p status) q
-      by_member q (inl same) = subst (λ (n : ℕ). is_some (member_of (set schedule.members p None) n) ≡ is_living (after_exit records p status) n) (sym same) (ap is_some (no_member schedule.members p) ∙ sym gone)
+      by_member q (inl same) = subst (λ (n : ℕ). is_some (member_of (set schedule.members p None) n) ≡ is_living
+          (after_exit records p status) n) (sym same) (ap is_some (no_member schedule.members p) ∙ sym gone)
       by_member q (inr other) = ap is_some (member_left q other) ∙ turns.members q ∙ sym (lives_too q other)

@@ -33,7 +33,9 @@ module _ (entries : List (Option ModuleEntry)) where
           kept before.primary id (ap (λ (o : Own). o.primary) is ∙ primary)
 
   module _ (others : List (Option ModuleEntry)) (same : (n : ℕ) → is_some (module_entry_at entries n) ≡ is_some (module_entry_at others n)) where
-    same_primary : (place : Option ModId) → option_and_then (λ id. if is_some (module_entry_at entries id.0) then Some id else None) place ≡ option_and_then (λ id. if is_some (module_entry_at others id.0) then Some id else None) place
+    same_primary : (place : Option ModId) → option_and_then (λ id. if is_some (module_entry_at entries id.0) then Some
+        id else None) place ≡ option_and_then (λ id. if is_some (module_entry_at others id.0) then Some id else None)
+        place
     same_primary None = refl
     same_primary (Some id) = ap (λ (b : Bool). if b then Some id else None) (same id.0)
 
@@ -58,5 +60,7 @@ ArePrimaries-none owns entries p new none primaries q own id at primary = by_pla
     by_place (inr stood) = primaries q own id stood primary
 
 -- the modules that are entered stay so
-pub ArePrimaries-kept : (owns : List Own) (entries later : List (Option ModuleEntry)) → ((n : ℕ) → is_some (module_entry_at later n) ≡ is_some (module_entry_at entries n)) → ArePrimaries owns entries → ArePrimaries owns later
+pub ArePrimaries-kept : (owns : List Own) (entries later : List (Option ModuleEntry))
+    → ((n : ℕ) → is_some (module_entry_at later n) ≡ is_some (module_entry_at entries n)) → ArePrimaries owns entries
+    → ArePrimaries owns later
 ArePrimaries-kept owns entries later same primaries p own id at primary = same id.0 ∙ primaries p own id at primary

@@ -20,7 +20,9 @@ user_bytes-Some cells at zero (byte ∷ bytes) long fits holds = absurd (omega a
 user_bytes-Some cells at (suc count) [] long fits holds = absurd (omega arith)
 user_bytes-Some cells at (suc count) (byte ∷ bytes) long fits holds =
     let first : user_cell cells at ≡ Some byte = user_cell-within cells at (omega arith) ∙ subst (λ (n : ℕ). cells n ≡ Some byte) (let e : at + 0 ≡ at = omega arith in e) (holds 0 (omega arith)) in
-    let rest : user_bytes cells (at + 1) count ≡ Some bytes = user_bytes-Some cells (at + 1) count bytes (omega arith) (omega arith) (λ k within. subst (λ (n : ℕ). cells n ≡ slice_get bytes k) (let e : at + suc k ≡ (at + 1) + k = omega arith in e) (holds (suc k) (omega arith))) in
+    let rest : user_bytes cells (at + 1) count ≡ Some bytes = user_bytes-Some cells (at + 1) count bytes (omega arith)
+    (omega arith) (λ k within. subst (λ (n : ℕ). cells n ≡ slice_get bytes k) (let e : at + suc k ≡ (at + 1) + k =
+    omega arith in e) (holds (suc k) (omega arith))) in
     (λ i. byte_before (first i) (rest i))
 
 -- where bytes were read each of them is there
@@ -29,7 +31,10 @@ there_of-user_bytes cells at zero bytes is k within = absurd (omega arith)
 there_of-user_bytes cells at (suc count) bytes is k within =
     by_first (user_cell cells at) refl (user_bytes cells (at + 1) count) refl (λ rest rest_is j inside. there_of-user_bytes cells (at + 1) count rest rest_is j inside) k within
   where
-    by_first : (first : Option ℕ) → user_cell cells at ≡ first → (rest : Option (List ℕ)) → user_bytes cells (at + 1) count ≡ rest → ((rest : List ℕ) → user_bytes cells (at + 1) count ≡ Some rest → (j : ℕ) → j < count → ((at + 1) + j < 65536) × IsSome (cells ((at + 1) + j))) → (k : ℕ) → k < suc count → (at + k < 65536) × IsSome (cells (at + k))
+    by_first : (first : Option ℕ) → user_cell cells at ≡ first → (rest : Option (List ℕ)) → user_bytes cells (at + 1)
+        count ≡ rest → ((rest : List ℕ) → user_bytes cells (at + 1) count ≡ Some rest → (j : ℕ) → j < count
+        → ((at + 1) + j < 65536) × IsSome (cells ((at + 1) + j))) → (k : ℕ) → k < suc count → (at + k < 65536) ×
+        IsSome (cells (at + k))
     by_first None none_is rest rest_is later k within = absurd (none-some bytes ((λ i. byte_before (sym none_is i) (user_bytes cells (at + 1) count)) ∙ is))
     by_first (Some byte) first_is None none_is later k within = absurd (none-some bytes ((λ i. byte_before (sym first_is i) (sym none_is i)) ∙ is))
     by_first (Some byte) first_is (Some rest) rest_is later zero within =
@@ -63,7 +68,11 @@ pub user_bytes-fits : (cells : Cells) (at count : ℕ) → FitsIn cells at count
 user_bytes-fits cells at zero fits = refl
 user_bytes-fits cells at (suc count) fits =
     let here : IsSome (cells at) = subst (λ (n : ℕ). IsSome (cells n)) (let e : at + 0 ≡ at = omega arith in e) (fits.1 0 (omega arith)) in
-    let later : IsSome (user_bytes cells (at + 1) count) = user_bytes-fits cells (at + 1) count (omega (arith, fits.0), λ k within. subst (λ (n : ℕ). IsSome (cells n)) (let e : at + suc k ≡ (at + 1) + k = omega arith in e) (fits.1 (suc k) (omega arith))) in
+    let later : IsSome (user_bytes cells (at + 1) count) = user_bytes-fits cells (at + 1) count (
+      omega (arith, fits.0),
+      λ k within. subst (λ (n : ℕ). IsSome (cells n)) (let e : at + suc k ≡ (at + 1) + k =
+          omega arith in e) (fits.1 (suc k) (omega arith)),
+    ) in
     both (user_cell cells at) (user_bytes cells (at + 1) count) (subst IsSome (sym (user_cell-within cells at (omega (arith, fits.0)))) here) later
   where
     both : (first : Option ℕ) (rest : Option (List ℕ)) → IsSome first → IsSome rest → IsSome (byte_before first rest)

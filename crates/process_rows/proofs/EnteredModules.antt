@@ -23,7 +23,8 @@ set-some (first ∷ entries) zero (suc n) entry some = some
 set-some (first ∷ entries) (suc k) zero entry some = some
 set-some (first ∷ entries) (suc k) (suc n) entry some = set-some entries k n entry some
 
-module-more : (entries : List (Option ModuleEntry)) (info : ModuleInfo) (group : List ℕ) (is_boot : Bool) (n : ℕ) → IsSome (module_entry_at entries n) → IsSome (module_entry_at (with_module entries info group is_boot) n)
+module-more : (entries : List (Option ModuleEntry)) (info : ModuleInfo) (group : List ℕ) (is_boot : Bool) (n : ℕ)
+    → IsSome (module_entry_at entries n) → IsSome (module_entry_at (with_module entries info group is_boot) n)
 module-more entries info group is_boot n some = by_free (free_number entries)
   where
     by_free : (free : Option ℕ) → IsSome (module_entry_at (option_map_or (λ number. with_module_entry entries number (new_entry info group is_boot)) free entries) n)
@@ -34,7 +35,9 @@ module-more entries info group is_boot n some = by_free (free_number entries)
 abbrev with_entered : MemoryState → List ℕ → ModuleInfo → Bool → MemoryState
 with_entered m file info is_boot = record m { objects = m.objects ++ file_objects file; modules = with_module m.modules info (new_numbers m (file_blocks file)) is_boot }
 
-pub entered-more : (old new : Memory) (m : MemoryState) → Represents old m → (file : List ℕ) (info : ModuleInfo) (is_boot : Bool) (result : Result ModId MemoryFault) → Answers (entered m file info is_boot) m result new → (n : ℕ) → IsSome (module_entry_at (modules_of old) n) → IsSome (module_entry_at (modules_of new) n)
+pub entered-more : (old new : Memory) (m : MemoryState) → Represents old m → (file : List ℕ) (info : ModuleInfo)
+    (is_boot : Bool) (result : Result ModId MemoryFault) → Answers (entered m file info is_boot) m result new
+    → (n : ℕ) → IsSome (module_entry_at (modules_of old) n) → IsSome (module_entry_at (modules_of new) n)
 entered-more old new m tied file info is_boot result answers n some = by_room (wants_blocks m (file_blocks file)) answers
   where
     some_m : IsSome (module_entry_at m.modules n)

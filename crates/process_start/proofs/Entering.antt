@@ -33,10 +33,14 @@ pub record Progress (file : List ℕ) (number from : ℕ) (m : MemoryState) (to 
 pub group-kept : (file : List ℕ) (number : ℕ) (m : MemoryState) (info : ModuleInfo) → HasGroup file number m → HasGroup file number (with_boot_module file m info)
 group-kept file number m info has = record { entry = has.entry; is = by_place (free_number m.modules) refl; group = has.group; boot = has.boot }
   where
-    by_place : (free : Option ℕ) → free_number m.modules ≡ free → module_entry_at (option_map_or (λ place. with_module_entry m.modules place (new_entry info (boot_group file) true)) free m.modules) number ≡ Some has.entry
+    by_place : (free : Option ℕ) → free_number m.modules ≡ free
+        → module_entry_at (option_map_or (λ place. with_module_entry m.modules place (new_entry info (boot_group file)
+        true)) free m.modules) number ≡ Some has.entry
     by_place None none = has.is
     by_place (Some place) found =
-        entry_at-with_entry_other m.modules place number (new_entry info (boot_group file) true) (λ same. none-some has.entry (sym (ap (module_entry_at m.modules) same ∙ (free_place m.modules place found).1) ∙ has.is)) ∙ has.is
+        entry_at-with_entry_other m.modules place number (new_entry info (boot_group file) true)
+        (λ same. none-some has.entry
+        (sym (ap (module_entry_at m.modules) same ∙ (free_place m.modules place found).1) ∙ has.is)) ∙ has.is
 
 -- a module that is entered beside the group's is one more of the boot file's
 pub beside-is : (file : List ℕ) (number : ℕ) (m : MemoryState) (info : ModuleInfo) → HasGroup file number m → entered_beside m number info ≡ with_boot_module file m info
@@ -45,7 +49,9 @@ beside-is file number m info has =
     ∙ (λ i. with_modules m (with_module m.modules info (has.group i) (has.boot i)))
 
 -- a module that lies in the boot file lies in its group
-pub in_group : (file : List ℕ) (number : ℕ) (info : ModuleInfo) (memory : Memory) → IsBooting file number memory → info.at + info.size ≤ length file → IsSomeAnd (module_entry_at (modules_of memory) number) (λ entry. info.at + info.size ≤ 8192 * length entry.group)
+pub in_group : (file : List ℕ) (number : ℕ) (info : ModuleInfo) (memory : Memory) → IsBooting file number memory
+    → info.at + info.size ≤ length file → IsSomeAnd (module_entry_at (modules_of memory) number)
+    (λ entry. info.at + info.size ≤ 8192 * length entry.group)
 in_group file number info memory (m, tied, has) inside =
     by_place (module_entry_at (modules_of memory) number) (entered-here memory m tied number has.entry has.is)
   where
@@ -62,7 +68,9 @@ is_there file number memory (m, tied, has) = some-here memory m tied number has.
 -- ---- the first module
 
 -- an empty memory has room for the boot file
-entered-first : (file : List ℕ) (info : ModuleInfo) (blocks : ℕ) → length file ≤ 57344 → 8 ≤ blocks → entered (first_memory blocks) file info true ≡ Ok (with_boot_module file (boot_memory file blocks no_entries) info)
+entered-first : (file : List ℕ) (info : ModuleInfo) (blocks : ℕ) → length file ≤ 57344 → 8 ≤ blocks
+    → entered (first_memory blocks) file info true ≡ Ok (with_boot_module file (boot_memory file blocks no_entries)
+    info)
 entered-first file info blocks short least =
     cond-false (nat_lt (free_blocks (first_memory blocks)) (file_blocks file)) (Err NoRam) _ (le-ltb (free_blocks (first_memory blocks)) (file_blocks file) (omega arith))
 
@@ -71,7 +79,9 @@ same-blocks : (memory : Memory) (blocks other : ℕ) → Represents memory (firs
 same-blocks memory blocks other one two =
     ap (λ (s : MemoryState). s.blocks) one.is ∙ sym (ap (λ (s : MemoryState). s.blocks) two.is)
 
-module _ (old new : Memory) (file : List ℕ) (info : ModuleInfo) (short : length file ≤ 57344) (empty : IsEmpty old) (result : Result ModId MemoryFault) (enters : (m : MemoryState) → Represents old m → Answers (entered m file info true) m result new) where
+module _ (old new : Memory) (file : List ℕ) (info : ModuleInfo) (short : length file ≤ 57344) (empty : IsEmpty old)
+    (result : Result ModId MemoryFault) (enters : (m : MemoryState) → Represents old m
+    → Answers (entered m file info true) m result new) where
   -- what an empty memory comes to
   loaded : (blocks : ℕ) → Represents old (first_memory blocks) → IsOk result × Represents new (with_boot_module file (boot_memory file blocks no_entries) info)
   loaded blocks tied =
@@ -88,5 +98,6 @@ module _ (old new : Memory) (file : List ℕ) (info : ModuleInfo) (short : lengt
       let first : 0 ≡ number = same_Some 0 number (free-seen old (first_memory blocks) tied ∙ free) in record {
         accepted = refl;
         represents = (loaded blocks tied).1;
-        has = subst (λ (n : ℕ). HasGroup file n (with_boot_module file (boot_memory file blocks no_entries) info)) first (record { entry = new_entry info (boot_group file) true; is = refl; group = refl; boot = refl });
+        has = subst (λ (n : ℕ). HasGroup file n (with_boot_module file (boot_memory file blocks no_entries) info))
+            first (record { entry = new_entry info (boot_group file) true; is = refl; group = refl; boot = refl });
       }

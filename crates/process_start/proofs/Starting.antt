@@ -26,7 +26,9 @@ use Rattle.process_start.specs.Beginning.{Begins, HasFirstIn, nobody_in, with_fi
 use Rattle.process_start.proofs.Seen.{entered-here}
 
 -- a program that is loaded has its memory
-pub loaded-is : (m : Inner) (p : ℕ) (program : Program) (memory : MemoryState) → ((next : MemoryState → CallResult) → loads_program m p program next ≡ next memory) → started m.memory p program.entered.number (blocks_of_pages program.pages) ≡ Ok memory
+pub loaded-is : (m : Inner) (p : ℕ) (program : Program) (memory : MemoryState) → ((next : MemoryState → CallResult)
+    → loads_program m p program next ≡ next memory) → started m.memory p program.entered.number
+    (blocks_of_pages program.pages) ≡ Ok memory
 loaded-is m p program memory goes =
     by_size (nat_lt most_pages program.pages) (started m.memory p program.entered.number (blocks_of_pages program.pages)) (goes (λ t. done (with_memory m t)))
   where
@@ -38,7 +40,8 @@ loaded-is m p program memory goes =
         let memories : t ≡ memory = ap (λ (i : Inner). i.memory) one in cc
 
 -- a data area of more pages than there may be has no room beside a group
-too_many : (m : MemoryState) (p number pages : ℕ) (entry : ModuleEntry) → module_entry_at m.modules number ≡ Some entry → 1 ≤ length entry.group → most_pages < pages → started m p number (blocks_of_pages pages) ≡ Err MemFull
+too_many : (m : MemoryState) (p number pages : ℕ) (entry : ModuleEntry) → module_entry_at m.modules number ≡ Some
+    entry → 1 ≤ length entry.group → most_pages < pages → started m p number (blocks_of_pages pages) ≡ Err MemFull
 too_many m p number pages entry is some many =
     let count = blocks_of_pages pages in
     ap (λ (place : Option ModuleEntry). option_map_or (started_with m p count) place (Err MemFull)) is
@@ -46,11 +49,16 @@ too_many m p number pages entry is some many =
     (or_right (has_most_links entry) (nat_lt 8 (count + length entry.group)) (lt-ltb 8 (count + length entry.group) (omega arith)))
 
 -- a program that can not be loaded has no memory
-pub unloaded-is : (m : Inner) (p : ℕ) (program : Program) (number : ℕ) → module_entry_at m.memory.modules program.entered.number ≡ Some program.entered.entry → 1 ≤ length program.entered.entry.group → ((next : MemoryState → CallResult) → loads_program m p program next ≡ refused number) → IsErr (started m.memory p program.entered.number (blocks_of_pages program.pages))
+pub unloaded-is : (m : Inner) (p : ℕ) (program : Program) (number : ℕ) → module_entry_at m.memory.modules
+    program.entered.number ≡ Some program.entered.entry → 1 ≤ length program.entered.entry.group
+    → ((next : MemoryState → CallResult) → loads_program m p program next ≡ refused number)
+    → IsErr (started m.memory p program.entered.number (blocks_of_pages program.pages))
 unloaded-is m p program number is some goes =
     by_size (nat_lt most_pages program.pages) refl (started m.memory p program.entered.number (blocks_of_pages program.pages)) refl (goes (λ t. done (with_memory m t)))
   where
-    by_size : (large : Bool) → nat_lt most_pages program.pages ≡ large → (change : Result MemoryState MemoryFault) → started m.memory p program.entered.number (blocks_of_pages program.pages) ≡ change → refuses large E_MEMFUL (changes change (λ t. done (with_memory m t))) ≡ refused number → IsErr change
+    by_size : (large : Bool) → nat_lt most_pages program.pages ≡ large → (change : Result MemoryState MemoryFault)
+        → started m.memory p program.entered.number (blocks_of_pages program.pages) ≡ change → refuses large E_MEMFUL
+        (changes change (λ t. done (with_memory m t))) ≡ refused number → IsErr change
     by_size large test (Err fault) began same = refl
     by_size true test (Ok t) began same =
         let full = too_many m.memory p program.entered.number program.pages program.entered.entry is some (ltb-true most_pages program.pages test) in
@@ -67,7 +75,9 @@ some-blocks memory m tied number entry is =
     by_place (Some here) at same = let grouped = memory.sound.groups.each number here at in omega (arith, grouped.some, same)
 
 -- the first process stands, which begins with its program
-pub first-stands : (t : MemoryState) (program : Program) (start : Beginning) (new : ProcState) → start.regs ≡ start_regs program → start.own ≡ start_own program → Represents new (with_first (linked t program.entered.number) start) → Represents new (only_process t program)
+pub first-stands : (t : MemoryState) (program : Program) (start : Beginning) (new : ProcState)
+    → start.regs ≡ start_regs program → start.own ≡ start_own program
+    → Represents new (with_first (linked t program.entered.number) start) → Represents new (only_process t program)
 first-stands t program start new regs own stands =
     subst (λ (m : Inner). Represents new m)
     (λ i. with_regs_of (with_made (with_own (nobody_in (linked t program.entered.number)) first_process.0 (own i)) first_process no_parent superuser first_priority) first_process.0 (regs i))
@@ -75,14 +85,20 @@ first-stands t program start new regs own stands =
 
 module _ (memory : MemoryState) (number : ℕ) (entry : ModuleEntry) (pages : ℕ) (same : pages ≡ area_pages entry 0 0) (new : ProcState) where
   -- it has begun
-  pub begins-so : (t : MemoryState) → started memory first_process.0 number (blocks_of_pages pages) ≡ Ok t → Represents new (only_process t (record (first_start number entry) { pages = pages })) → Begins (started memory first_process.0 number (blocks_of_pages (area_pages entry 0 0))) number entry (Ok tt) new
+  pub begins-so : (t : MemoryState) → started memory first_process.0 number (blocks_of_pages pages) ≡ Ok t
+      → Represents new (only_process t (record (first_start number entry) { pages = pages }))
+      → Begins (started memory first_process.0 number (blocks_of_pages (area_pages entry 0 0))) number entry (Ok tt)
+      new
   begins-so t began stands =
-      let there : started memory first_process.0 number (blocks_of_pages (area_pages entry 0 0)) ≡ Ok t = ap (λ (n : ℕ). started memory first_process.0 number (blocks_of_pages n)) (sym same) ∙ began in
+      let there : started memory first_process.0 number (blocks_of_pages (area_pages entry 0 0)) ≡ Ok t = ap
+      (λ (n : ℕ). started memory first_process.0 number (blocks_of_pages n)) (sym same) ∙ began in
       let Stands : ℕ → Type 0 = λ n. Represents new (only_process t (record (first_start number entry) { pages = n })) in
       subst (λ (change : Result MemoryState MemoryFault). Begins change number entry (Ok tt) new) (sym there) (refl, subst Stands same stands)
 
   -- there is no room for it
-  pub begins-not : (error : ℕ) → IsErr (started memory first_process.0 number (blocks_of_pages pages)) → Begins (started memory first_process.0 number (blocks_of_pages (area_pages entry 0 0))) number entry (Err error) new
+  pub begins-not : (error : ℕ) → IsErr (started memory first_process.0 number (blocks_of_pages pages))
+      → Begins (started memory first_process.0 number (blocks_of_pages (area_pages entry 0 0))) number entry
+      (Err error) new
   begins-not error fails =
       by_change (started memory first_process.0 number (blocks_of_pages (area_pages entry 0 0)))
       (subst (λ (n : ℕ). IsErr (started memory first_process.0 number (blocks_of_pages n))) same fails)
@@ -92,7 +108,9 @@ module _ (memory : MemoryState) (number : ℕ) (entry : ModuleEntry) (pages : �
       by_change (Err fault) fails = refl
 
 -- what has begun, and what has not
-pub begun-is : (change : Result MemoryState MemoryFault) (number : ℕ) (entry : ModuleEntry) (new : ProcState) → Begins change number entry (Ok tt) new → (t : MemoryState) × (change ≡ Ok t) × Represents new (only_process t (first_start number entry))
+pub begun-is : (change : Result MemoryState MemoryFault) (number : ℕ) (entry : ModuleEntry) (new : ProcState)
+    → Begins change number entry (Ok tt) new → (t : MemoryState) × (change ≡ Ok t) × Represents new
+    (only_process t (first_start number entry))
 begun-is (Ok t) number entry new begins = (t, refl, begins.1)
 begun-is (Err fault) number entry new begins = absurd cc
 

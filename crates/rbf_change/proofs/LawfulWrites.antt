@@ -28,10 +28,24 @@ lawful_step image v s bytes _ vol whole (redescribes {old = old} law) =
     (describe_image image v vol s old bytes whole (subst (λ g. Redescribes (disk_of g (sector image)) v s old bytes) (shape-image image v vol) law))
 lawful_step image v s bytes _ vol whole (enters {d = d} {j = j} {i = i} {n = n} {dir = dir} {entry = entry} law) =
     subst (λ g. Vol (put_sector image s bytes) (with_file g (with_file_in_place v d (with_directory_entry dir i entry)) n (Some (file_at (sector image) n)))) (sym (shape-image image v vol))
-    (enter_image image v vol d dir j s bytes i entry n whole (subst (λ g. AddsEntry (disk_of g (sector image)) v (record { directory = d; file = dir; place = i; bytes = entry }) (record { place = j; lsn = s; bytes = bytes }) n) (shape-image image v vol) law))
+    (enter_image image v vol d dir j s bytes i entry n whole
+    (subst (λ g. AddsEntry (disk_of g (sector image)) v (record {
+      directory = d;
+      file = dir;
+      place = i;
+      bytes =
+          entry;
+    }) (record { place = j; lsn = s; bytes = bytes }) n) (shape-image image v vol) law))
 lawful_step image v s bytes _ vol whole (appends {i = i} {n = n} {dir = dir} {entry = entry} law) =
     subst (λ g. Vol (put_sector image s bytes) (with_file g (with_file g v s (Some (file_from (sector image) bytes))) n (Some (file_at (sector image) n)))) (sym (shape-image image v vol))
-    (append_image image v vol s dir bytes i entry n whole (subst (λ g. AppendsEntry (disk_of g (sector image)) v (record { directory = s; file = dir; place = i; bytes = entry }) bytes n) (shape-image image v vol) law))
+    (append_image image v vol s dir bytes i entry n whole
+    (subst (λ g. AppendsEntry (disk_of g (sector image)) v (record {
+      directory = s;
+      file = dir;
+      place = i;
+      bytes =
+          entry;
+    }) bytes n) (shape-image image v vol) law))
 lawful_step image v s bytes _ vol whole (leaves {d = d} {j = j} {i = i} {n = n} {dir = dir} {file = file} {entry = entry} law) =
     subst (λ g. Vol (put_sector image s bytes) (with_file g (with_file_in_place v d (with_directory_entry dir i entry)) n None)) (sym (shape-image image v vol))
     (leave_image image v vol d dir j s bytes i entry n file whole law)

@@ -49,7 +49,9 @@ pub counted : (p : ℕ → Bool) (n count more : ℕ) (b : Bool) → count ≡ l
 counted p n count more b before is one =
     ap (λ m. count + m) (one ∙ one_of b ∙ ap (λ t. if t then 1 else 0) is) ∙ ap (λ m. m + (if p n then 1 else 0)) before ∙ sym (count_next p n)
 
-pub count_fits : (p : ℕ → Bool) (n clusters count more : ℕ) (b : Bool) → count ≡ length (filter p (range_with_len 0 n)) → more ≡ from_bool b → n < clusters → clusters < 2 ^ 32 → Fits w32 (count + more)
+pub count_fits : (p : ℕ → Bool) (n clusters count more : ℕ) (b : Bool)
+    → count ≡ length (filter p (range_with_len 0 n)) → more ≡ from_bool b → n < clusters → clusters < 2 ^ 32
+    → Fits w32 (count + more)
 count_fits p n clusters count more b before one low few = omega (arith, count_most p n, one_most b)
 
 -- a quotient rounded up

@@ -52,7 +52,9 @@ module _ (contents : List ℕ) (d p : ℕ) where
       (λ b. none_some dot (entry_name_field (directory_entry contents 1)) none b.1.name_is)
       dots
 
-  module _ (first second : Entry) (first_name : first.name ≡ take 29 (directory_entry contents 0)) (first_lsn : first.lsn ≡ descriptor_field (directory_entry contents 0)) (second_name : second.name ≡ take 29 (directory_entry contents 1)) (second_lsn : second.lsn ≡ descriptor_field (directory_entry contents 1)) where
+  module _ (first second : Entry) (first_name : first.name ≡ take 29 (directory_entry contents 0))
+      (first_lsn : first.lsn ≡ descriptor_field (directory_entry contents 0)) (second_name : second.name ≡ take 29
+      (directory_entry contents 1)) (second_lsn : second.lsn ≡ descriptor_field (directory_entry contents 1)) where
     pub begins_own : AreDots first second d p → BeginsWithDots contents d p
     begins_own dots =
         inl (entry_of (directory_entry contents 0) first first_name first_lsn dot d dots.0, entry_of (directory_entry contents 1) second second_name second_lsn dot_dot p dots.1)
@@ -110,13 +112,18 @@ pub record AreDottedBy (g : Geometry) (disk : ℕ → List ℕ) (links : List Li
   pub only : (n : ℕ) → get_or dotted n false ≡ true → HasDots g (searchable_bytes (disk_of g disk)) n
   pub at_root : BeginsWithDots (searchable_bytes (disk_of g disk) g.root) g.root g.root → get_or dotted g.root false ≡ true
   pub there : (k : ℕ) → k < next → (link_at links k).descriptor ≢ g.root
-      → BeginsWithDots (searchable_bytes (disk_of g disk) (link_at links k).descriptor) (link_at links k).descriptor (link_at links k).directory → get_or dotted (link_at links k).descriptor false ≡ true
+      → BeginsWithDots (searchable_bytes (disk_of g disk) (link_at links k).descriptor) (link_at links k).descriptor
+      (link_at links k).directory → get_or dotted (link_at links k).descriptor false ≡ true
 
 module _ (g : Geometry) (disk : ℕ → List ℕ) where
   has_dots : (n p : ℕ) → BeginsWithDots (searchable_bytes (disk_of g disk) n) n p → IsParent g (searchable_bytes (disk_of g disk)) n p → HasDots g (searchable_bytes (disk_of g disk)) n
   has_dots n p dots parent = ⊎_elim (λ a. self_first a.0 a.1 parent) (λ b. parent_first b.0 b.1 parent) dots
 
-  pub dotted_root : (links : List Link) (none dotted : List Bool) (answer : Bool) → g.root < g.total → length none ≡ g.total → ((n : ℕ) → get_or none n false ≡ true → ⊥) → dotted ≡ set none g.root answer → (answer ≡ true → BeginsWithDots (searchable_bytes (disk_of g disk) g.root) g.root g.root) → (BeginsWithDots (searchable_bytes (disk_of g disk) g.root) g.root g.root → answer ≡ true) → AreDottedBy g disk links dotted 0
+  pub dotted_root : (links : List Link) (none dotted : List Bool) (answer : Bool) → g.root < g.total
+      → length none ≡ g.total → ((n : ℕ) → get_or none n false ≡ true → ⊥) → dotted ≡ set none g.root answer
+      → (answer ≡ true → BeginsWithDots (searchable_bytes (disk_of g disk) g.root) g.root g.root)
+      → (BeginsWithDots (searchable_bytes (disk_of g disk) g.root) g.root g.root → answer ≡ true) → AreDottedBy g disk
+      links dotted 0
   dotted_root links none dotted answer low size empty is holds must =
       let low_none : g.root < length none = omega arith in
       let here : get_or dotted g.root false ≡ answer = ap (λ t. get_or t g.root false) is ∙ get_or-set_same none g.root answer false low_none in
@@ -133,7 +140,10 @@ module _ (g : Geometry) (disk : ℕ → List ℕ) where
         there = λ k below other dots. absurd (omega arith);
       }
 
-  pub dotted_more : (links : List Link) (old new : List Bool) (next : ℕ) → AreLinks (disk_of g disk) links → next < length links → AreDottedBy g disk links old next → MarksDots (searchable_bytes (disk_of g disk) (link_at links next).descriptor) g.root (link_at links next) old new → AreDottedBy g disk links new (next + 1)
+  pub dotted_more : (links : List Link) (old new : List Bool) (next : ℕ) → AreLinks (disk_of g disk) links
+      → next < length links → AreDottedBy g disk links old next
+      → MarksDots (searchable_bytes (disk_of g disk) (link_at links next).descriptor) g.root (link_at links next) old
+      new → AreDottedBy g disk links new (next + 1)
   dotted_more links old new next are low before marks =
       let link = link_at links next in
       let contains : Contains links link = (next, low, get_or_default links next link (record { directory = 0; entry = 0; descriptor = 0 }) low) in
@@ -150,12 +160,18 @@ module _ (g : Geometry) (disk : ℕ → List ℕ) where
             (λ earlier. marks.kept (link_at links k).descriptor (before.there k earlier other dots))
             (λ last.
             let at : k ≡ next = omega arith in
-            let P : ℕ → Type 0 = λ q. (link_at links q).descriptor ≢ g.root → BeginsWithDots (searchable_bytes (disk_of g disk) (link_at links q).descriptor) (link_at links q).descriptor (link_at links q).directory → get_or new (link_at links q).descriptor false ≡ true in
+            let P : ℕ → Type 0 = λ q. (link_at links q).descriptor ≢ g.root
+            → BeginsWithDots (searchable_bytes (disk_of g disk) (link_at links q).descriptor)
+            (link_at links q).descriptor (link_at links q).directory → get_or new (link_at links q).descriptor
+            false ≡ true in
             subst P (sym at) marks.there other dots)
             (cases_lt k next);
       }
 
-  marked_of_parent : (links : List Link) (dotted : List Bool) (next n p : ℕ) → length links ≤ next → AreLinks (disk_of g disk) links → AreDottedBy g disk links dotted next → IsNumber g n → BeginsWithDots (searchable_bytes (disk_of g disk) n) n p → IsParent g (searchable_bytes (disk_of g disk)) n p → get_or dotted n false ≡ true
+  marked_of_parent : (links : List Link) (dotted : List Bool) (next n p : ℕ) → length links ≤ next
+      → AreLinks (disk_of g disk) links → AreDottedBy g disk links dotted next → IsNumber g n
+      → BeginsWithDots (searchable_bytes (disk_of g disk) n) n p → IsParent g (searchable_bytes (disk_of g disk)) n p
+      → get_or dotted n false ≡ true
   marked_of_parent links dotted next n p all are by number dots (of_root n_root p_root) =
       let P : ℕ → Type 0 = λ m. BeginsWithDots (searchable_bytes (disk_of g disk) m) m p in
       let Q : ℕ → Type 0 = λ m. BeginsWithDots (searchable_bytes (disk_of g disk) g.root) g.root m in
@@ -167,13 +183,16 @@ module _ (g : Geometry) (disk : ℕ → List ℕ) where
       let P : Link → Type 0 = λ l. l.descriptor ≢ g.root → BeginsWithDots (searchable_bytes (disk_of g disk) l.descriptor) l.descriptor l.directory → get_or dotted l.descriptor false ≡ true in
       subst P is (by.there c.0 (omega (arith, c.1))) other dots
 
-  marked_of_dots : (links : List Link) (dotted : List Bool) (next n : ℕ) → length links ≤ next → AreLinks (disk_of g disk) links → AreDottedBy g disk links dotted next → IsNumber g n → HasDots g (searchable_bytes (disk_of g disk)) n → get_or dotted n false ≡ true
+  marked_of_dots : (links : List Link) (dotted : List Bool) (next n : ℕ) → length links ≤ next
+      → AreLinks (disk_of g disk) links → AreDottedBy g disk links dotted next → IsNumber g n
+      → HasDots g (searchable_bytes (disk_of g disk)) n → get_or dotted n false ≡ true
   marked_of_dots links dotted next n all are by number (self_first {p = p} one two parent) =
       marked_of_parent links dotted next n p all are by number (inl (one, two)) parent
   marked_of_dots links dotted next n all are by number (parent_first {p = p} one two parent) =
       marked_of_parent links dotted next n p all are by number (inr (one, two)) parent
 
-  pub dotted_are : (links : List Link) (dotted : List Bool) (next : ℕ) → length links ≤ next → AreLinks (disk_of g disk) links → AreDottedBy g disk links dotted next → AreDotted (disk_of g disk) dotted
+  pub dotted_are : (links : List Link) (dotted : List Bool) (next : ℕ) → length links ≤ next
+      → AreLinks (disk_of g disk) links → AreDottedBy g disk links dotted next → AreDotted (disk_of g disk) dotted
   dotted_are links dotted next all are by = record {
     size = by.size;
     only = by.only;
@@ -181,7 +200,9 @@ module _ (g : Geometry) (disk : ℕ → List ℕ) where
   }
 
   -- the least of all
-  pub least_without : (found : List ℕ) (i : ℕ) (least : Option ℕ) → IsFound (disk_of g disk) found → i ≡ length found → IsLeast (Before (λ k. IsWithoutDots (disk_of g disk) (get_or found k 0)) i) least → IsLeastBreach (disk_of g disk) 7 least
+  pub least_without : (found : List ℕ) (i : ℕ) (least : Option ℕ) → IsFound (disk_of g disk) found → i ≡ length found
+      → IsLeast (Before (λ k. IsWithoutDots (disk_of g disk) (get_or found k 0)) i) least
+      → IsLeastBreach (disk_of g disk) 7 least
   least_without found i least are all is =
       least_along (λ s. (n : ℕ) × (has found n ≡ true) × IsWithoutDots (disk_of g disk) n s) (Breaks (disk_of g disk) 7)
       (λ s h. let P : ℕ → Type 0 = λ n. Breaks (disk_of g disk) 7 n in subst P (sym h.2.0) (no_dots ((are h.0).0 h.1) h.2.1.0 h.2.1.1))
@@ -193,12 +214,15 @@ pub file_after : (image : IdentifiedImage) (files : List FoundFile) (k : ℕ) (f
 file_after image files k file are low at = (number_reached image file.number (file_reached image files k file are low at)).after
 
 -- the descriptor of a link, marked
-pub marks_one : (contents : List ℕ) (root : ℕ) (link : Link) (old : List Bool) → link.descriptor < length old → link.descriptor ≢ root → BeginsWithDots contents link.descriptor link.directory → MarksDots contents root link old (set old link.descriptor true)
+pub marks_one : (contents : List ℕ) (root : ℕ) (link : Link) (old : List Bool) → link.descriptor < length old
+    → link.descriptor ≢ root → BeginsWithDots contents link.descriptor link.directory → MarksDots contents root link
+    old (set old link.descriptor true)
 marks_one contents root link old low other dots =
     let d = link.descriptor in
     record {
       size = length-set old d true;
-      kept = λ n marked. ⊎_elim (λ same. ap (λ k. get_or (set old d true) k false) same ∙ get_or-set_same old d true false low) (λ apart. get_or-set_other old d n true false apart ∙ marked) (cases_eq n d);
+      kept = λ n marked. ⊎_elim (λ same. ap (λ k. get_or (set old d true) k false) same ∙ get_or-set_same old d true
+          false low) (λ apart. get_or-set_other old d n true false apart ∙ marked) (cases_eq n d);
       only = λ n marked. ⊎_elim (λ same. inr (same, other, dots)) (λ apart. inl (sym (get_or-set_other old d n true false apart) ∙ marked)) (cases_eq n d);
       there = λ is_other begins. get_or-set_same old d true false low;
     }

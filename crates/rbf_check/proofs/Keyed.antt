@@ -36,7 +36,9 @@ pub no_characters : (k : ℕ) → ◌≡◌ {A = ℕ} (get_or (replicate 29 0) k
 no_characters k = zeros 29 k
 
 -- one character more
-module _ (name key : List ℕ) (i at value : ℕ) (size : length key ≡ 29) (same : (k : ℕ) → k < i → get_or key k 0 ≡ lower (get_or name k 0)) (behind : (k : ℕ) → i ≤ k → get_or key k 0 ≡ 0) (here : at ≡ i) (low : i < 29) (is : value ≡ lower (get_or name i 0)) where
+module _ (name key : List ℕ) (i at value : ℕ) (size : length key ≡ 29) (same : (k : ℕ) → k < i
+    → get_or key k 0 ≡ lower (get_or name k 0)) (behind : (k : ℕ) → i ≤ k → get_or key k 0 ≡ 0) (here : at ≡ i)
+    (low : i < 29) (is : value ≡ lower (get_or name i 0)) where
   pub size_more : length (set key at value) ≡ 29
   size_more = length-set key at value ∙ size
 
@@ -108,7 +110,8 @@ equal_is Equal h = refl
 equal_is Greater h = absurd (false≢true h)
 
 -- a key that is added
-module _ (old new : BTreeSet (List ℕ)) (key : List ℕ) (updates : (q : List ℕ) → contains (slice_cmp nat_cmp) new q ≡ cond (is_eq (slice_cmp nat_cmp key q)) true (contains (slice_cmp nat_cmp) old q)) (there : HasKey new key) where
+module _ (old new : BTreeSet (List ℕ)) (key : List ℕ) (updates : (q : List ℕ) → contains (slice_cmp nat_cmp) new q ≡
+    cond (is_eq (slice_cmp nat_cmp key q)) true (contains (slice_cmp nat_cmp) old q)) (there : HasKey new key) where
   pub key_added : IsKeyAdded old new key
   key_added = record {
     kept = λ q h. ⊎_elim
@@ -252,12 +255,15 @@ module _ (contents : List ℕ) (keys : BTreeSet (List ℕ)) (i : ℕ) (after : 2
             (cases_lt j i);
       }
 
-      pub named_or_not : (new : BTreeSet (List ℕ)) (fresh : Bool) → IsProper name → IsKeyAdded keys new key → MatchBool fresh (HasKey keys key → ⊥) (HasKey keys key) → MatchBool fresh (AreNamed contents new (i + 1)) (IsBadlyNamed contents)
+      pub named_or_not : (new : BTreeSet (List ℕ)) (fresh : Bool) → IsProper name → IsKeyAdded keys new key
+          → MatchBool fresh (HasKey keys key → ⊥) (HasKey keys key) → MatchBool fresh (AreNamed contents new (i + 1))
+          (IsBadlyNamed contents)
       named_or_not new true proper added fresh = named_more new fresh proper added
       named_or_not new false proper added had = name_again had
 
 -- all entries
-pub names_are : (contents : List ℕ) (keys : BTreeSet (List ℕ)) (i entries : ℕ) → 32 * entries ≡ length contents → entries ≤ i → AreNamed contents keys i → HasNames contents × HasDifferentNames contents
+pub names_are : (contents : List ℕ) (keys : BTreeSet (List ℕ)) (i entries : ℕ) → 32 * entries ≡ length contents
+    → entries ≤ i → AreNamed contents keys i → HasNames contents × HasDifferentNames contents
 names_are contents keys i entries counted all named = (
   λ k after entry.
       let within = entry.within in
@@ -271,18 +277,25 @@ names_are contents keys i entries counted all named = (
 
 -- what an answer says of the names of a directory
 module _ (g : Geometry) (disk : ℕ → List ℕ) (n : ℕ) where
-  named_well : (good : Bool) → MatchBool good (HasNames (searchable_bytes (disk_of g disk) n) × HasDifferentNames (searchable_bytes (disk_of g disk) n)) (IsBadlyNamed (searchable_bytes (disk_of g disk) n)) → good ≡ true → (s : ℕ) → IsBadlyNamedAt (disk_of g disk) n s → ⊥
+  named_well : (good : Bool) → MatchBool good (HasNames (searchable_bytes (disk_of g disk) n) × HasDifferentNames
+      (searchable_bytes (disk_of g disk) n)) (IsBadlyNamed (searchable_bytes (disk_of g disk) n)) → good ≡ true
+      → (s : ℕ) → IsBadlyNamedAt (disk_of g disk) n s → ⊥
   named_well true is e s h = ⊎_elim (λ wrong. wrong is.0) (λ wrong. wrong is.1) h.1
   named_well false is e s h = absurd (false≢true e)
 
-  named_badly : (good : Bool) → MatchBool good (HasNames (searchable_bytes (disk_of g disk) n) × HasDifferentNames (searchable_bytes (disk_of g disk) n)) (IsBadlyNamed (searchable_bytes (disk_of g disk) n)) → good ≡ false → IsBadlyNamed (searchable_bytes (disk_of g disk) n)
+  named_badly : (good : Bool) → MatchBool good (HasNames (searchable_bytes (disk_of g disk) n) × HasDifferentNames
+      (searchable_bytes (disk_of g disk) n)) (IsBadlyNamed (searchable_bytes (disk_of g disk) n)) → good ≡ false
+      → IsBadlyNamed (searchable_bytes (disk_of g disk) n)
   named_badly true is e = absurd (false≢true (sym e))
   named_badly false is e = is
 
-module _ (g : Geometry) (disk : ℕ → List ℕ) (n m : ℕ) (good : Bool) (same : m ≡ n) (is : MatchBool good (HasNames (searchable_bytes (disk_of g disk) m) × HasDifferentNames (searchable_bytes (disk_of g disk) m)) (IsBadlyNamed (searchable_bytes (disk_of g disk) m))) where
+module _ (g : Geometry) (disk : ℕ → List ℕ) (n m : ℕ) (good : Bool) (same : m ≡ n)
+    (is : MatchBool good (HasNames (searchable_bytes (disk_of g disk) m) × HasDifferentNames
+    (searchable_bytes (disk_of g disk) m)) (IsBadlyNamed (searchable_bytes (disk_of g disk) m))) where
   at_n : MatchBool good (HasNames (searchable_bytes (disk_of g disk) n) × HasDifferentNames (searchable_bytes (disk_of g disk) n)) (IsBadlyNamed (searchable_bytes (disk_of g disk) n))
   at_n =
-      let P : ℕ → Type 0 = λ q. MatchBool good (HasNames (searchable_bytes (disk_of g disk) q) × HasDifferentNames (searchable_bytes (disk_of g disk) q)) (IsBadlyNamed (searchable_bytes (disk_of g disk) q)) in
+      let P : ℕ → Type 0 = λ q. MatchBool good (HasNames (searchable_bytes (disk_of g disk) q) × HasDifferentNames
+      (searchable_bytes (disk_of g disk) q)) (IsBadlyNamed (searchable_bytes (disk_of g disk) q)) in
       subst P same is
 
   pub good_is : good ≡ true → (s : ℕ) → IsBadlyNamedAt (disk_of g disk) n s → ⊥
@@ -292,7 +305,9 @@ module _ (g : Geometry) (disk : ℕ → List ℕ) (n m : ℕ) (good : Bool) (sam
   bad_is e = named_badly g disk n good at_n e
 
 module _ (g : Geometry) (disk : ℕ → List ℕ) where
-  pub least_badly : (found : List ℕ) (i : ℕ) (least : Option ℕ) → IsFound (disk_of g disk) found → i ≡ length found → IsLeast (Before (λ k. IsBadlyNamedAt (disk_of g disk) (get_or found k 0)) i) least → IsLeastBreach (disk_of g disk) 8 least
+  pub least_badly : (found : List ℕ) (i : ℕ) (least : Option ℕ) → IsFound (disk_of g disk) found → i ≡ length found
+      → IsLeast (Before (λ k. IsBadlyNamedAt (disk_of g disk) (get_or found k 0)) i) least
+      → IsLeastBreach (disk_of g disk) 8 least
   least_badly found i least are all is =
       least_along (λ s. (n : ℕ) × (has found n ≡ true) × IsBadlyNamedAt (disk_of g disk) n s) (Breaks (disk_of g disk) 8)
       (λ s h.

@@ -91,12 +91,14 @@ same_or_not a b =
     (cases_eq a.directory b.directory)
 
 -- the least of all
-module _ (g : Geometry) (disk : ℕ → List ℕ) (header : IsHeader g) (links : List Link) (are : AreLinks (disk_of g disk) links) (firsts : List (Option ℕ)) (all : AreFirsts links firsts (length links)) where
+module _ (g : Geometry) (disk : ℕ → List ℕ) (header : IsHeader g) (links : List Link) (are : AreLinks (disk_of g disk)
+    links) (firsts : List (Option ℕ)) (all : AreFirsts links firsts (length links)) where
   contains_at : (k : ℕ) → k < length links → Contains links (link_at links k)
   contains_at k low =
       (k, low, get_or_default links k (link_at links k) (record { directory = 0; entry = 0; descriptor = 0 }) low)
 
-  link_of : (k : ℕ) → k < length links → Links g (searchable_bytes (disk_of g disk)) (link_at links k).directory (link_at links k).entry (link_at links k).descriptor × IsNumber g (link_at links k).descriptor
+  link_of : (k : ℕ) → k < length links → Links g (searchable_bytes (disk_of g disk)) (link_at links k).directory
+      (link_at links k).entry (link_at links k).descriptor × IsNumber g (link_at links k).descriptor
   link_of k low = are.each (link_at links k) (contains_at k low)
 
   breach : (n : ℕ) → Before (IsNamedAgain links g.root) (length links) n → Breaks (disk_of g disk) 9 n
@@ -116,19 +118,23 @@ module _ (g : Geometry) (disk : ℕ → List ℕ) (header : IsHeader g) (links :
       named.1)
 
   -- a place that an entry has in the list
-  place_of_link : (d i n : ℕ) → Links g (searchable_bytes (disk_of g disk)) d i n → IsNumber g n → (k : ℕ) × (k < length links) × (link_at links k ≡ record { directory = d; entry = i; descriptor = n })
+  place_of_link : (d i n : ℕ) → Links g (searchable_bytes (disk_of g disk)) d i n → IsNumber g n
+      → (k : ℕ) × (k < length links) × (link_at links k ≡ record { directory = d; entry = i; descriptor = n })
   place_of_link d i n link number =
       let c = are.all d i n link number in
       (c.0, c.1, get_or_default links c.0 (record { directory = 0; entry = 0; descriptor = 0 }) (record { directory = d; entry = i; descriptor = n }) c.1 ∙ c.2)
 
-  again_at : (n q : ℕ) → q < length links → (link_at links q).descriptor ≡ n → (f : ℕ) → IsFirst links n f → (AreSame (link_at links f) (link_at links q) → ⊥) → Before (IsNamedAgain links g.root) (length links) n
+  again_at : (n q : ℕ) → q < length links → (link_at links q).descriptor ≡ n → (f : ℕ) → IsFirst links n f
+      → (AreSame (link_at links f) (link_at links q) → ⊥) → Before (IsNamedAgain links g.root) (length links) n
   again_at n q low names f first apart =
       let early : f ≤ q = ⊎_elim (λ less. absurd (first.none_before q less names)) (λ more. more) (cases_lt q f) in
       let P : ℕ → Type 0 = λ d. IsFirst links d f in
       (q, low, (sym names, inr (f, early, subst P (sym names) first, apart)))
 
   -- of two entries that name a descriptor one is not the first
-  again_of_two : (n k m : ℕ) → k < length links → m < length links → (link_at links k).descriptor ≡ n → (link_at links m).descriptor ≡ n → (AreSame (link_at links k) (link_at links m) → ⊥) → Before (IsNamedAgain links g.root) (length links) n
+  again_of_two : (n k m : ℕ) → k < length links → m < length links → (link_at links k).descriptor ≡ n
+      → (link_at links m).descriptor ≡ n → (AreSame (link_at links k) (link_at links m) → ⊥)
+      → Before (IsNamedAgain links g.root) (length links) n
   again_of_two n k m k_low m_low k_names m_names differ =
       let there = all.there k k_low in
       let f = there.0 in
@@ -165,7 +171,9 @@ module _ (g : Geometry) (disk : ℕ → List ℕ) (header : IsHeader g) (links :
   least_again least is = least_along (Before (IsNamedAgain links g.root) (length links)) (Breaks (disk_of g disk) 9) breach breach_back least is
 
 -- what the note of link k leaves
-module _ (links : List Link) (old new : List (Option ℕ)) (k first : ℕ) (firsts : AreFirsts links old k) (given : IsGiven old new k (link_at links k).descriptor) (noted : get_or new (link_at links k).descriptor None ≡ Some first) where
+module _ (links : List Link) (old new : List (Option ℕ)) (k first : ℕ) (firsts : AreFirsts links old k)
+    (given : IsGiven old new k (link_at links k).descriptor) (noted : get_or new (link_at links k).descriptor None ≡
+    Some first) where
   pub noted_more : AreFirsts links new (k + 1)
   noted_more =
       firsts_more links old new k (link_at links k).descriptor refl firsts given (not_again links old new k (link_at links k).descriptor firsts given)

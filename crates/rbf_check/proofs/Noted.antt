@@ -52,7 +52,9 @@ notes_one k s old low = record {
 }
 
 -- a sector more of a run
-pub notes_more : (k first s : ℕ) (old mid : List Bool) → first ≤ s → s / k < length mid → NotesClusters k (range_with_len first (s - first)) old mid → NotesClusters k (range_with_len first (s + 1 - first)) old (set mid (s / k) true)
+pub notes_more : (k first s : ℕ) (old mid : List Bool) → first ≤ s → s / k < length mid
+    → NotesClusters k (range_with_len first (s - first)) old mid
+    → NotesClusters k (range_with_len first (s + 1 - first)) old (set mid (s / k) true)
 notes_more k first s old mid after low before =
     let count : suc (s - first) ≡ s + 1 - first = omega arith in
     let last : first + (s - first) ≡ s = omega arith in
@@ -66,7 +68,8 @@ pub notes_run : (k : ℕ) (segments : List (ℕ × ℕ)) (i : ℕ) (segment : �
 notes_run k segments i segment old mid new low at before one =
     let front : take (i + 1) segments ≡ take i segments ++ segment ∷ [] = take_more segments i (0, 0) low ∙ ap (λ s. take i segments ++ s ∷ []) at in
     let P : List ℕ → Type 0 = λ xs. NotesClusters k xs old new in
-    subst P (ap (λ xs. sectors_of (take i segments) ++ xs) (sym (append-nil (segment_sectors segment))) ∙ sym (flat_map-append segment_sectors (take i segments) (segment ∷ [])) ∙ ap sectors_of (sym front))
+    subst P (ap (λ xs. sectors_of (take i segments) ++ xs) (sym (append-nil (segment_sectors segment))) ∙ sym
+    (flat_map-append segment_sectors (take i segments) (segment ∷ [])) ∙ ap sectors_of (sym front))
     (notes_then k (sectors_of (take i segments)) (range_with_len segment.0 segment.1) old mid new before one)
 
 -- the sectors of an owner

@@ -54,21 +54,27 @@ module _ (survey : Survey) (is : IsSurvey survey) where
   pub descriptor_fits : (n : ℕ) → n < survey.image.ident.total → 256 * (n + 1) ≤ length survey.image.bytes.now
   descriptor_fits n below = omega (arith, survey.image.identified.header.fits, total_is)
 
-  pub segments_below : (n : ℕ) (segments : List (ℕ × ℕ)) → IsReachedOn (disk_of (geometry_of survey.image.ident) (sector survey.image.bytes.now)) n → segments ≡ segments_field (sector survey.image.bytes.now n) → All (λ segment. segment.0 + segment.1 ≤ survey.image.ident.total) segments
+  pub segments_below : (n : ℕ) (segments : List (ℕ × ℕ)) → IsReachedOn (disk_of (geometry_of survey.image.ident)
+      (sector survey.image.bytes.now)) n → segments ≡ segments_field (sector survey.image.bytes.now n)
+      → All (λ segment. segment.0 + segment.1 ≤ survey.image.ident.total) segments
   segments_below n segments reached same k d low =
       let segment = get_or segments k d in
       let within : is_within (geometry_of survey.image.ident) segment ≡ true =
       subst (λ xs. LieWithin (geometry_of survey.image.ident) xs) (sym same) (is.kept.segments n reached) k d low in
       leb-true (segment.0 + segment.1) survey.image.ident.total (and_parts _ _ within).1
 
-  pub segments_fit : (n : ℕ) → IsReachedOn (disk_of (geometry_of survey.image.ident) (sector survey.image.bytes.now)) n → All (λ segment. 256 * (segment.0 + segment.1) ≤ length survey.image.bytes.now) (segments_field (sector survey.image.bytes.now n))
+  pub segments_fit : (n : ℕ) → IsReachedOn (disk_of (geometry_of survey.image.ident) (sector survey.image.bytes.now))
+      n → All (λ segment. 256 * (segment.0 + segment.1) ≤ length survey.image.bytes.now)
+      (segments_field (sector survey.image.bytes.now n))
   segments_fit n reached k d low =
       omega (arith, segments_below n (segments_field (sector survey.image.bytes.now n)) reached refl k d low, survey.image.identified.header.fits, total_is)
 
   -- the image stands for the volume
   pub sound_is : Sound (disk_of (geometry_of survey.image.ident) (sector survey.image.bytes.now)) (volume_from survey)
   sound_is =
-      sound_from_keeps (geometry_of survey.image.ident) (sector survey.image.bytes.now) header_is disk_is is.kept (found_numbers survey.files.items) is.files.found (drop (256 * survey.image.ident.total) survey.image.bytes.now)
+      sound_from_keeps (geometry_of survey.image.ident) (sector survey.image.bytes.now) header_is disk_is is.kept
+      (found_numbers survey.files.items) is.files.found (drop (256 * survey.image.ident.total)
+      survey.image.bytes.now)
 
   -- whose free clusters are counted in the map
   pub free_clusters_is : free_clusters (geometry_of survey.image.ident) (volume_from survey)
@@ -85,16 +91,21 @@ module _ (survey : Survey) (is : IsSurvey survey) where
 
   pub no_file : (n : ℕ) → (IsReachedOn (disk_of (geometry_of survey.image.ident) (sector survey.image.bytes.now)) n → ⊥) → (volume_from survey).files n ≡ None
   no_file n never =
-      cond-false (has (found_numbers survey.files.items) n) (Some (file_at (sector survey.image.bytes.now) n)) None (false_from_ne_true (has (found_numbers survey.files.items) n) (λ found. never ((is.files.found n).0 found)))
+      cond-false (has (found_numbers survey.files.items) n) (Some (file_at (sector survey.image.bytes.now) n)) None
+      (false_from_ne_true (has (found_numbers survey.files.items) n)
+      (λ found. never ((is.files.found n).0 found)))
 
   pub root_file : (n : ℕ) → n ≡ survey.image.ident.root → (volume_from survey).files n ≡ Some (file_at (sector survey.image.bytes.now) n)
   root_file n same =
       file_is n (subst (λ m. IsReachedOn (disk_of (geometry_of survey.image.ident) (sector survey.image.bytes.now)) m) (sym same) root)
 
   -- a directory of the volume is what a search finds
-  directory_is : (d : ℕ) → IsReachedOn (disk_of (geometry_of survey.image.ident) (sector survey.image.bytes.now)) d → directories (volume_from survey).files d ≡ searchable_bytes (disk_of (geometry_of survey.image.ident) (sector survey.image.bytes.now)) d
+  directory_is : (d : ℕ) → IsReachedOn (disk_of (geometry_of survey.image.ident) (sector survey.image.bytes.now)) d
+      → directories (volume_from survey).files d ≡ searchable_bytes (disk_of (geometry_of survey.image.ident)
+      (sector survey.image.bytes.now)) d
   directory_is d reached =
-      searched_is (geometry_of survey.image.ident) (sector survey.image.bytes.now) (volume_from survey) sound_is d (some_is ((volume_from survey).files d) (file_at (sector survey.image.bytes.now) d) (file_is d reached))
+      searched_is (geometry_of survey.image.ident) (sector survey.image.bytes.now) (volume_from survey) sound_is d
+      (some_is ((volume_from survey).files d) (file_at (sector survey.image.bytes.now) d) (file_is d reached))
 
   module _ (places : List (Option Link)) (are : ArePlaces survey.links.items survey.image.ident.total places) (n : ℕ) where
     -- a number that no place is kept for is no file's
@@ -117,7 +128,9 @@ module _ (survey : Survey) (is : IsSurvey survey) where
       linked_file =
           file_is n (named link_is.from named_is (subst (λ m. IsNumber (geometry_of survey.image.ident) m) (are.each n link there).1 (is.links.each link (are.each n link there).0).1))
 
-      pub linked_place : (name : List ℕ) → entry_name_field (directory_entry (searchable_bytes (disk_of (geometry_of survey.image.ident) (sector survey.image.bytes.now)) link.directory) link.entry) ≡ Some name
+      pub linked_place : (name : List ℕ)
+          → entry_name_field (directory_entry (searchable_bytes (disk_of (geometry_of survey.image.ident)
+          (sector survey.image.bytes.now)) link.directory) link.entry) ≡ Some name
           → IsPlaced (geometry_of survey.image.ident) (volume_from survey) n link.directory name
       linked_place name spelled =
           let same = directory_is link.directory link_is.from in

@@ -51,7 +51,9 @@ module _ (survey : Survey) where
         record {
           numbers = ap (map (λ (it : Node). it.fd)) grown ∙ map-append (λ (it : Node). it.fd) nodes (node ∷ []) ∙ ap (λ xs. xs ++ node.fd ∷ []) before.numbers
               ∙ ap (λ m. filter p (range_with_len 0 n) ++ m ∷ []) number ∙ ap (λ xs. filter p (range_with_len 0 n) ++ xs) (sym (filter_yes p n there)) ∙ sym (filter_next p n);
-          each = subst (λ xs. All (TellsNode (geometry_of survey.image.ident) (volume_from survey)) xs) (sym grown) (All-push (TellsNode (geometry_of survey.image.ident) (volume_from survey)) nodes node before.each tells);
+          each = subst (λ xs. All (TellsNode (geometry_of survey.image.ident) (volume_from survey)) xs) (sym grown)
+              (All-push (TellsNode (geometry_of survey.image.ident) (volume_from survey)) nodes node before.each
+              tells);
         }
 
     length_numbers : length (map (λ (it : Node). it.fd) nodes) ≡ length nodes
@@ -63,7 +65,9 @@ module _ (survey : Survey) where
         omega (arith, ap length before.numbers, length_numbers, count_most p n)
 
 -- what a node tells, at the number and in the place that it was made for
-pub node_tells : (survey : Survey) (n parent : ℕ) (name : List ℕ) (node : Node) → (volume_from survey).files n ≡ Some (file_at (sector survey.image.bytes.now) n) → IsPlaced (geometry_of survey.image.ident) (volume_from survey) n parent name
+pub node_tells : (survey : Survey) (n parent : ℕ) (name : List ℕ) (node : Node) → (volume_from survey).files n ≡ Some
+    (file_at (sector survey.image.bytes.now) n) → IsPlaced (geometry_of survey.image.ident) (volume_from survey) n
+    parent name
     → node.fd ≡ n → node.parent ≡ parent → node.name ≡ name → TellsFile node (file_at (sector survey.image.bytes.now) n) → TellsNode (geometry_of survey.image.ident) (volume_from survey) node
 node_tells survey n parent name node file placed number in_parent named tells =
     let g = geometry_of survey.image.ident in

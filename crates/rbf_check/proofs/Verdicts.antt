@@ -87,10 +87,13 @@ module _ (g : Geometry) (disk : ℕ → List ℕ) where
       let P : Option ℕ → Type 0 = λ o. IsLeastBreach (disk_of g disk) rule o in subst P none is
 
   -- a rule that is passed, and one that is not
-  pub passed : (rule next : ℕ) (breach : Option ℕ) → next ≡ rule + 1 → KeepsBefore (disk_of g disk) rule → IsLeastBreach (disk_of g disk) rule breach → breach ≡ None → KeepsBefore (disk_of g disk) next
+  pub passed : (rule next : ℕ) (breach : Option ℕ) → next ≡ rule + 1 → KeepsBefore (disk_of g disk) rule
+      → IsLeastBreach (disk_of g disk) rule breach → breach ≡ None → KeepsBefore (disk_of g disk) next
   passed rule next breach is before least none = none_next rule next is before (not_broken rule breach least none)
 
-  pub stopped : (rule : ℕ) (breach : Option ℕ) (error : CheckError) → KeepsBefore (disk_of g disk) rule → IsLeastBreach (disk_of g disk) rule breach → MatchOption breach ⊥ (λ lsn. error ≡ Fault (record { rule = rule; lsn = lsn })) → IsLeastError (disk_of g disk) error
+  pub stopped : (rule : ℕ) (breach : Option ℕ) (error : CheckError) → KeepsBefore (disk_of g disk) rule
+      → IsLeastBreach (disk_of g disk) rule breach → MatchOption breach ⊥
+      (λ lsn. error ≡ Fault (record { rule = rule; lsn = lsn })) → IsLeastError (disk_of g disk) error
   stopped rule None error before least is = absurd is
   stopped rule (Some lsn) error before least is =
       let P : CheckError → Type 0 = λ e. IsLeastError (disk_of g disk) e in subst P (sym is) (least_at rule lsn before least)
@@ -125,7 +128,8 @@ module _ (g : Geometry) (disk : ℕ → List ℕ) where
     map_kept : HasMap g
     map_kept = has_map (λ at b. none 2 at b)
 
-    number_kept : (d i : ℕ) → IsReachedOn (disk_of g disk) d → HasEntry (searchable_bytes (disk_of g disk) d) i → IsNumber g (descriptor_field (directory_entry (searchable_bytes (disk_of g disk) d) i))
+    number_kept : (d i : ℕ) → IsReachedOn (disk_of g disk) d → HasEntry (searchable_bytes (disk_of g disk) d) i
+        → IsNumber g (descriptor_field (directory_entry (searchable_bytes (disk_of g disk) d) i))
     number_kept d i reached entry =
         let n = descriptor_field (directory_entry (searchable_bytes (disk_of g disk) d) i) in
         ⊎_elim
@@ -169,7 +173,9 @@ module _ (g : Geometry) (disk : ℕ → List ℕ) where
       room = λ n reached. ⊎_elim (λ room. room) (λ wrong. absurd (none 5 n (no_room reached wrong))) (cases_Bool (has_room (segments_field (disk n)) (size_field (disk n))));
       root = ⊎_elim (λ directory. directory) (λ wrong. absurd (none 6 g.root (no_root wrong))) (cases_Bool (is_directory (file_at disk g.root)));
       sizes = λ n reached directory. ⊎_elim (λ size. size) (λ wrong. absurd (none 6 n (bad_size reached directory wrong))) (cases_Bool (is_directory_size (size_field (disk n))));
-      dots = λ n reached directory. ⊎_elim (λ dots. dots) (λ wrong. absurd (none 7 n (no_dots reached directory wrong))) (decided n (number_of_reached g (searchable_bytes (disk_of g disk)) header reached));
+      dots = λ n reached directory. ⊎_elim (λ dots. dots)
+          (λ wrong. absurd (none 7 n (no_dots reached directory wrong)))
+          (decided n (number_of_reached g (searchable_bytes (disk_of g disk)) header reached));
       names = names_kept;
       different = λ d reached i j one other i_after j_after i_entry j_entry i_is j_is same. ⊎_elim
           (λ e. e)
@@ -198,12 +204,15 @@ no_header image wrong = record { broken = bad_header wrong; least = header_first
 
 -- one with a header
 module _ (image : IdentifiedImage) where
-  fault_there : (g : Geometry) → image_geometry image.bytes.now ≡ g → (rule lsn : ℕ) → IsLeastFault (disk_of g (sector image.bytes.now)) rule lsn → IsLeastFault (disk_of (image_geometry image.bytes.now) (sector image.bytes.now)) rule lsn
+  fault_there : (g : Geometry) → image_geometry image.bytes.now ≡ g → (rule lsn : ℕ)
+      → IsLeastFault (disk_of g (sector image.bytes.now)) rule lsn
+      → IsLeastFault (disk_of (image_geometry image.bytes.now) (sector image.bytes.now)) rule lsn
   fault_there g same rule lsn fault =
       let P : Geometry → Type 0 = λ h. IsLeastFault (disk_of h (sector image.bytes.now)) rule lsn in
       subst P (sym same) fault
 
-  least_image : (rule lsn : ℕ) → IsLeastFault (disk_of (image_geometry image.bytes.now) (sector image.bytes.now)) rule lsn → (other at : ℕ) → ImageBreaks image.bytes.now other at → (rule < other) ⊎ ((rule ≡ other) × (lsn ≤ at))
+  least_image : (rule lsn : ℕ) → IsLeastFault (disk_of (image_geometry image.bytes.now) (sector image.bytes.now)) rule
+      lsn → (other at : ℕ) → ImageBreaks image.bytes.now other at → (rule < other) ⊎ ((rule ≡ other) × (lsn ≤ at))
   least_image rule lsn fault other at (bad_header wrong) = absurd (wrong image.identified.header)
   least_image rule lsn fault other at (breaks header b) = fault.least other at b
 

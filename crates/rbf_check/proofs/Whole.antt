@@ -23,7 +23,8 @@ use Rattle.rbf_check.specs.Lost.{IsLostOf}
 use Rattle.rbf_check.specs.Tree.{TellsNode, TellsVolume, CountsFiles, IsTreeOf, is_directory_node}
 
 -- nodes that pass a test where their descriptors pass another
-count_same : (p : Node → Bool) (q : ℕ → Bool) (R : Node → Type 0) → ((node : Node) → R node → p node ≡ q node.fd) → (nodes : List Node) → All R nodes → count_by p nodes ≡ count_by q (map (λ node. node.fd) nodes)
+count_same : (p : Node → Bool) (q : ℕ → Bool) (R : Node → Type 0) → ((node : Node) → R node → p node ≡ q node.fd)
+    → (nodes : List Node) → All R nodes → count_by p nodes ≡ count_by q (map (λ node. node.fd) nodes)
 count_same p q R same [] each = refl
 count_same p q R same (node ∷ nodes) each =
     sum_by-cons (λ x. if p x then 1 else 0) node nodes

@@ -30,7 +30,8 @@ module _ (inside : Inside) (kept : HoldsMap inside) (bytes : Vec ℕ Global) (cl
       }
 
   pub given_back : ChangesMark inside.bytes.items bytes.items cluster 0 → mark inside.bytes.items cluster ≡ 1 → cluster < inside.whole → (first longest : ℕ) → first ≡ min inside.first cluster
-      → IsLongestWith (is_clear_below bytes.items inside.whole) cluster inside.whole inside.longest longest → HoldsMap (record inside { bytes = bytes; free = inside.free + 1; first = first; longest = longest })
+      → IsLongestWith (is_clear_below bytes.items inside.whole) cluster inside.whole inside.longest longest
+      → HoldsMap (record inside { bytes = bytes; free = inside.free + 1; first = first; longest = longest })
   given_back changes set whole first longest least with_it =
       let more = clear_below-cleared inside.bytes.items bytes.items cluster inside.whole changes set whole in
       let counted = kept.counted in

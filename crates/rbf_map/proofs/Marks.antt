@@ -14,7 +14,9 @@ mark-set_or_clear bytes cluster =
     elim (cases_lt (mark bytes cluster) 1) [ inl clear ↦ inl (omega arith) | inr set ↦ inr (omega arith) ]
 
 -- a write of one byte that changes one bit of it
-pub changes_mark : (bytes : List ℕ) (cluster byte bit : ℕ) → cluster / 8 < length bytes → bit_at byte (7 - cluster % 8) ≡ bit → ((k : ℕ) → k < 8 → k ≢ 7 - cluster % 8 → bit_at byte k ≡ bit_at (get_or bytes (cluster / 8) 0) k) → ChangesMark bytes (set bytes (cluster / 8) byte) cluster bit
+pub changes_mark : (bytes : List ℕ) (cluster byte bit : ℕ) → cluster / 8 < length bytes
+    → bit_at byte (7 - cluster % 8) ≡ bit → ((k : ℕ) → k < 8 → k ≢ 7 - cluster % 8 → bit_at byte k ≡ bit_at
+    (get_or bytes (cluster / 8) 0) k) → ChangesMark bytes (set bytes (cluster / 8) byte) cluster bit
 changes_mark bytes cluster byte bit within there others =
     let i = cluster / 8 in
     record {
@@ -22,7 +24,9 @@ changes_mark bytes cluster byte bit within there others =
       there = ap (λ b. bit_at b (7 - cluster % 8)) (get_or-set_same bytes i byte 0 within) ∙ there;
       others = λ other apart. elim (cases_eq (other / 8) i) [
         | inl same ↦
-            ap (λ j. bit_at (get_or (set bytes i byte) j 0) (7 - other % 8)) same ∙ ap (λ b. bit_at b (7 - other % 8)) (get_or-set_same bytes i byte 0 within) ∙ others (7 - other % 8) (omega arith) (λ e. apart (omega arith)) ∙ ap (λ j. bit_at (get_or bytes j 0) (7 - other % 8)) (sym same)
+            ap (λ j. bit_at (get_or (set bytes i byte) j 0) (7 - other % 8)) same ∙ ap (λ b. bit_at b (7 - other % 8))
+            (get_or-set_same bytes i byte 0 within) ∙ others (7 - other % 8) (omega arith)
+            (λ e. apart (omega arith)) ∙ ap (λ j. bit_at (get_or bytes j 0) (7 - other % 8)) (sym same)
         | inr elsewhere ↦ ap (λ b. bit_at b (7 - other % 8)) (get_or-set_other bytes i (other / 8) byte 0 elsewhere)
       ];
       bytes = λ j apart. get_or-set_other bytes i j byte 0 apart;

@@ -181,7 +181,9 @@ free_run map wanted first n some best =
     begins : (0 < first) ⊎ (first ≤ 0) → BeginsRun map first
     begins (inl low) = ⊎_elim
         (λ clear. absurd (best.none_before (first - 1) (omega arith) (λ c from below. ⊎_elim
-        (λ early. let same : first - 1 ≡ c = omega arith in ap (is_clear map) (sym same) ∙ clear_is map.bytes map.whole (first - 1) (let whole = (clear_parts map.bytes map.whole first (best.are_free first (omega arith) (omega arith))).0 in omega arith) clear)
+        (λ early. let same : first - 1 ≡ c = omega arith in ap (is_clear map) (sym same) ∙ clear_is map.bytes
+        map.whole (first - 1) (let whole = (clear_parts map.bytes map.whole first
+        (best.are_free first (omega arith) (omega arith))).0 in omega arith) clear)
         (λ late. best.are_free c late (omega arith))
         (cases_lt c first))))
         (λ set. inr set)

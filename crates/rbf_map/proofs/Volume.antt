@@ -32,13 +32,17 @@ filter_front p q a zero m agree none =
 filter_front p q a (suc n) m agree none =
     let more : suc n + m ≡ suc (n + m) = omega arith in
     let rest = filter_front p q (a + 1) n m (λ c low high. agree c (omega arith) (omega arith)) (λ c low. none c (omega arith)) in
-    ap (λ k. filter p (range_with_len a k)) more ∙ ap (λ t. cond t (a ∷ filter p (range_with_len (a + 1) (n + m))) (filter p (range_with_len (a + 1) (n + m)))) (agree a (omega arith) (omega arith)) ∙ ap (λ r. cond (q a) (a ∷ r) r) rest
+    ap (λ k. filter p (range_with_len a k)) more ∙ ap (λ t. cond t (a ∷ filter p (range_with_len (a + 1) (n + m)))
+    (filter p (range_with_len (a + 1) (n + m)))) (agree a (omega arith) (omega arith)) ∙ ap
+    (λ r. cond (q a) (a ∷ r) r) rest
 
 not_marked : (m : ℕ) → (m ≡ 0) → not (m == 1) ≡ true
 not_marked m clear = ap (λ k. not (k == 1)) clear
 
 -- the map has the whole clusters of the volume, and the disk's marks of them
-module _ (g : Geometry) (disk : ℕ → List ℕ) (v : DiskVolume) (sound : Sound (disk_of g disk) v) (map : ClusterMap) (whole : map.whole ≡ g.total / g.cluster) (marks : (c : ℕ) → c < map.whole → is_marked disk c ≡ (mark map.bytes c == 1)) where
+module _ (g : Geometry) (disk : ℕ → List ℕ) (v : DiskVolume) (sound : Sound (disk_of g disk) v) (map : ClusterMap)
+    (whole : map.whole ≡ g.total / g.cluster) (marks : (c : ℕ) → c < map.whole → is_marked disk c ≡
+    (mark map.bytes c == 1)) where
   -- the clusters below the count of whole ones are whole
   pub whole_is : (c : ℕ) → (is_whole g c ≡ true) ↔ (c < map.whole)
   whole_is c =
@@ -68,7 +72,9 @@ module _ (g : Geometry) (disk : ℕ → List ℕ) (v : DiskVolume) (sound : Soun
   free_clusters_are =
       let enough : map.whole ≤ cluster_count g = enough_clusters in
       let more : map.whole + (cluster_count g - map.whole) ≡ cluster_count g = omega arith in
-      ap (λ n. filter (is_free g v) (range_with_len 0 n)) (sym more) ∙ filter_front (is_free g v) (λ c. mark map.bytes c == 0) 0 map.whole (cluster_count g - map.whole) agree (λ c past. false_from_ne_true (is_free g v c) (λ free. let below = (free_in_map c free).whole in absurd (omega arith)))
+      ap (λ n. filter (is_free g v) (range_with_len 0 n)) (sym more) ∙ filter_front (is_free g v)
+      (λ c. mark map.bytes c == 0) 0 map.whole (cluster_count g - map.whole) agree (λ c past. false_from_ne_true
+      (is_free g v c) (λ free. let below = (free_in_map c free).whole in absurd (omega arith)))
     where
       enough_clusters : map.whole ≤ cluster_count g
       enough_clusters =

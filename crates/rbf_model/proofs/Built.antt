@@ -21,7 +21,8 @@ use Rattle.rbf_model.proofs.Tree.{reached_along, reached_back, dots_along}
 use Rattle.rbf_model.proofs.Files.{listing_is}
 use Rattle.rbf_model.proofs.Keeps.{no_entry}
 
-module _ (g : Geometry) (disk : ℕ → List ℕ) (header : IsHeader g) (sectors : IsDisk (disk_of g disk)) (keeps : Keeps (disk_of g disk)) (numbers : List ℕ) (found : IsFound (disk_of g disk) numbers) where
+module _ (g : Geometry) (disk : ℕ → List ℕ) (header : IsHeader g) (sectors : IsDisk (disk_of g disk))
+    (keeps : Keeps (disk_of g disk)) (numbers : List ℕ) (found : IsFound (disk_of g disk) numbers) where
   files : ℕ → Option DiskFile
   files n = if has numbers n then Some (file_at disk n) else None
 

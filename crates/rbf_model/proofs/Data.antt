@@ -176,7 +176,12 @@ module _ (g : Geometry) (disk : ℕ → List ℕ) (v : DiskVolume) (sound : Soun
     where
       room_fits : size_field (disk n) ≤ length (segment_bytes disk (segments_field (disk n)))
       room_fits =
-          omega (arith, length-joined disk (sectors_of (segments_field (disk n))) full, leb-true (size_field (disk n)) (256 * length (sectors_of (segments_field (disk n)))) (room_is g disk v sound n file sector.is))
+          omega (
+            arith,
+            length-joined disk (sectors_of (segments_field (disk n))) full,
+            leb-true (size_field (disk n))
+                (256 * length (sectors_of (segments_field (disk n)))) (room_is g disk v sound n file sector.is),
+          )
 
 -- a free or lost cluster is whole, and no file has it
 pub idle_parts : (g : Geometry) (disk : ℕ → List ℕ) (v : DiskVolume) → Sound (disk_of g disk) v → (c : ℕ) → (is_free g v c ≡ true) ⊎ (v.lost c ≡ true) → (is_whole g c ≡ true) × Unused g v.files c
@@ -184,7 +189,9 @@ idle_parts g disk v sound c h =
     ⊎_elim (λ free. let w = free_parts g disk v sound c free in (w.0, w.2)) (λ lost. let l = (sound.mapped.lost_are c).0 lost in (l.whole, l.unused)) h
 
 -- so what is unseen is within the volume and past the map
-pub unseen_within : (g : Geometry) (disk : ℕ → List ℕ) (v : DiskVolume) → Sound (disk_of g disk) v → (s : ℕ) (bytes : List ℕ) → length bytes ≡ 256 → IsUnseen (disk_of g disk) v s bytes → (map_sectors g < s) × (s < g.total)
+pub unseen_within : (g : Geometry) (disk : ℕ → List ℕ) (v : DiskVolume) → Sound (disk_of g disk) v
+    → (s : ℕ) (bytes : List ℕ) → length bytes ≡ 256 → IsUnseen (disk_of g disk) v s bytes → (map_sectors g < s) ×
+    (s < g.total)
 unseen_within g disk v sound s bytes whole (idle h) =
     let w = idle_parts g disk v sound (s / g.cluster) h in
     (unowned_past g disk v sound s bytes whole (unowned_of_unused g v.files s w.1), whole_sector_below g s (cluster_positive g.cluster sound.shape.header.clusters) w.0)
@@ -192,7 +199,9 @@ unseen_within g disk v sound s bytes whole (unowned below free) = (unowned_past 
 unseen_within g disk v sound s bytes whole (past_size {n = n} {j = j} {file = file} sector agree) =
     (past_map g disk v sound n j s file bytes whole sector, own_below g disk v sound n file s sector.is (own_sector g disk v sound n j s file bytes whole sector))
 
-pub unseen_law : (g : Geometry) (disk : ℕ → List ℕ) (v : DiskVolume) → Sound (disk_of g disk) v → (s : ℕ) (bytes : List ℕ) → length bytes ≡ 256 → IsUnseen (disk_of g disk) v s bytes → Sound (disk_of g (put disk s bytes)) v
+pub unseen_law : (g : Geometry) (disk : ℕ → List ℕ) (v : DiskVolume) → Sound (disk_of g disk) v
+    → (s : ℕ) (bytes : List ℕ) → length bytes ≡ 256 → IsUnseen (disk_of g disk) v s bytes
+    → Sound (disk_of g (put disk s bytes)) v
 unseen_law g disk v sound s bytes whole (idle h) =
     unowned_law g disk v sound s bytes whole (unowned_of_unused g v.files s (idle_parts g disk v sound (s / g.cluster) h).1)
 unseen_law g disk v sound s bytes whole (unowned below free) = unowned_law g disk v sound s bytes whole free

@@ -86,7 +86,9 @@ module _ (g : Geometry) (disk : ℕ → List ℕ) (v : DiskVolume) (sound : Soun
   numbers_are : (d i : ℕ) → IsReachedOn (disk_of g disk) d → HasEntry (searchable_bytes (disk_of g disk) d) i → IsNumber g (descriptor_field (directory_entry (searchable_bytes (disk_of g disk) d) i))
   numbers_are d i r entry =
       ⊎_elim (λ is_dir. by_place i entry (number_of_dots g (searchable_bytes (disk_of g disk)) sound.shape.header d r (dots_are d r is_dir)))
-      (λ not_dir. absurd (no_entry (searchable_bytes (disk_of g disk) d) i (sym (searched_is d ((found d).1 r)) ∙ ap listing (file_of d r) ∙ cond-false (is_directory (file_at disk d)) (file_at disk d).contents [] not_dir) entry))
+      (λ not_dir. absurd (no_entry (searchable_bytes (disk_of g disk) d) i (sym (searched_is d ((found d).1 r)) ∙ ap
+      listing (file_of d r) ∙ cond-false (is_directory (file_at disk d)) (file_at disk d).contents [] not_dir)
+      entry))
       (cases_Bool (is_directory (file_at disk d)))
     where
       by_place : (j : ℕ) → HasEntry (searchable_bytes (disk_of g disk) d) j

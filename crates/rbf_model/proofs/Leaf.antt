@@ -175,7 +175,9 @@ module _ (g : Geometry) (files : ℕ → Option DiskFile) (tree : IsTree g files
       (λ above. subst HasNames (sym (ap (directories news) above ∙ is_above)) names_above)
       (λ not_n not_d. subst HasNames (sym (is_beside m not_n not_d)) (tree.names m))
 
-  fresh_differs : (k : ℕ) (one other : List ℕ) → k ≢ i → 2 ≤ k → HasEntry dir.contents k → entry_name_field (directory_entry dir.contents i) ≡ Some one → entry_name_field (directory_entry dir.contents k) ≡ Some other
+  fresh_differs : (k : ℕ) (one other : List ℕ) → k ≢ i → 2 ≤ k → HasEntry dir.contents k
+      → entry_name_field (directory_entry dir.contents i) ≡ Some one → entry_name_field (directory_entry dir.contents
+      k) ≡ Some other
       → SameName one other → ⊥
   fresh_differs k one other differ low has a b same =
       new.differs k other differ low (entry_back old.contents dir.contents i k change differ has) (ap entry_name_field (sym (change.beside k differ)) ∙ b)

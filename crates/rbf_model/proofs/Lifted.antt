@@ -41,7 +41,9 @@ vol_put image v now s bytes vol after below whole sound rest = record {
     fits = subst (λ g. 256 * g.total ≤ length (put_sector image s bytes)) shape
         (let was = vol.header.fits in let same = length_put_sector image s bytes whole fits in omega arith);
   };
-  sound = subst (λ g. Sound (disk_of g (sector (put_sector image s bytes))) now) shape (subst (λ d. Sound (disk_of (geometry (sector image 0)) d) now) (sym (sector_put image s bytes whole fits)) sound);
+  sound = subst (λ g. Sound (disk_of g (sector (put_sector image s bytes))) now) shape
+      (subst (λ d. Sound (disk_of (geometry (sector image 0)) d) now) (sym (sector_put image s bytes whole fits))
+      sound);
   rest = rest ∙ vol.rest ∙ sym (rest_put image s bytes whole fits (geometry (sector image 0)).total below) ∙ ap (λ g. drop (256 * g.total) (put_sector image s bytes)) shape;
 }
   where

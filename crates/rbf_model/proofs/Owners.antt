@@ -176,7 +176,8 @@ clusters_of_own g n file P other each c h =
     subst P w.2 (⊎_elim (λ system. absurd (other system.0)) (λ own. each w.0 own) (owned_cases g n file w.0 w.1))
 
 -- the free clusters rest on the marks alone
-pub free_by_marks : (g : Geometry) (disk news : ℕ → List ℕ) (v w : DiskVolume) → Sound (disk_of g disk) v → Sound (disk_of g news) w → ((c : ℕ) → c * g.cluster < g.total → is_marked news c ≡ is_marked disk c) → (c : ℕ)
+pub free_by_marks : (g : Geometry) (disk news : ℕ → List ℕ) (v w : DiskVolume) → Sound (disk_of g disk) v
+    → Sound (disk_of g news) w → ((c : ℕ) → c * g.cluster < g.total → is_marked news c ≡ is_marked disk c) → (c : ℕ)
     → is_free g w c ≡ is_free g v c
 free_by_marks g disk news v w before after same c =
     is_free_is g news w after c

@@ -83,7 +83,8 @@ module _ (g : Geometry) (disk : ℕ → List ℕ) (v : DiskVolume) (sound : Soun
       let below : k < size_field (disk n) = let size = size_are in omega arith in
       ap (λ c. get_or c k 0) contents_are ∙ get_or-take (size_field (disk n)) (segment_bytes disk (segments_field (disk n))) k 0 below
       ∙ ap (λ i. get_or (segment_bytes disk (segments_field (disk n))) i 0) (sym place)
-      ∙ sym (get_or-take 256 (drop (256 * (k / 256)) (segment_bytes disk (segments_field (disk n)))) (k % 256) 0 small ∙ get_or-drop (256 * (k / 256)) (segment_bytes disk (segments_field (disk n))) (k % 256) 0)
+      ∙ sym (get_or-take 256 (drop (256 * (k / 256)) (segment_bytes disk (segments_field (disk n)))) (k % 256) 0 small
+      ∙ get_or-drop (256 * (k / 256)) (segment_bytes disk (segments_field (disk n))) (k % 256) 0)
       ∙ ap (λ b. get_or b (k % 256) 0) (sector_of_joined disk (sectors_of (segments_field (disk n))) (k / 256) full (within_sectors k low))
       ∙ ap (λ xs. get_or (disk (get_or xs (k / 256) 0)) (k % 256) 0) sectors_are
 

@@ -17,12 +17,15 @@ Unmarked g disk s = (n : ℕ) × IsReachedOn (disk_of g disk) n × (owns g n (fi
 -- the sector stands twice among those of an owner
 abbrev pub UsedTwice : Geometry → (ℕ → List ℕ) → ℕ → Type 0
 UsedTwice g disk s =
-    (n : ℕ) × (i : ℕ) × (j : ℕ) × IsReachedOn (disk_of g disk) n × (i < j) × (j < length (owned g n (file_at disk n))) × (get_or (owned g n (file_at disk n)) i s ≡ s) × (get_or (owned g n (file_at disk n)) j s ≡ s)
+    (n : ℕ) × (i : ℕ) × (j : ℕ) × IsReachedOn (disk_of g disk) n × (i < j) × (j < length (owned g n (file_at disk n)))
+    × (get_or (owned g n (file_at disk n)) i s ≡ s) × (get_or (owned g n (file_at disk n)) j s ≡ s)
 
 -- two owners have the cluster that begins there
 abbrev pub Shared : Geometry → (ℕ → List ℕ) → ℕ → Type 0
 Shared g disk s =
-    (n : ℕ) × (m : ℕ) × (c : ℕ) × IsReachedOn (disk_of g disk) n × IsReachedOn (disk_of g disk) m × (n ≢ m) × (has_cluster g n (file_at disk n) c ≡ true) × (has_cluster g m (file_at disk m) c ≡ true) × (s ≡ c * g.cluster)
+    (n : ℕ) × (m : ℕ) × (c : ℕ) × IsReachedOn (disk_of g disk) n × IsReachedOn (disk_of g disk) m × (n ≢ m) ×
+    (has_cluster g n (file_at disk n) c ≡ true) × (has_cluster g m (file_at disk m) c ≡ true) ×
+    (s ≡ c * g.cluster)
 
 -- the directory does not begin with itself and its parent
 abbrev pub NoDots : Geometry → (ℕ → List ℕ) → ℕ → Type 0
@@ -35,7 +38,9 @@ BadNames g disk d = IsReachedOn (disk_of g disk) d × ((HasNames (searchable_byt
 -- two entries name the descriptor, or one names the root's
 abbrev pub BadlyNamed : Geometry → (ℕ → List ℕ) → ℕ → Type 0
 BadlyNamed g disk n =
-    ((d : ℕ) × (e : ℕ) × (i : ℕ) × (j : ℕ) × IsNumber g n × Links g (searchable_bytes (disk_of g disk)) d i n × Links g (searchable_bytes (disk_of g disk)) e j n × (((d ≡ e) × (i ≡ j)) → ⊥)) ⊎ ((n ≡ g.root) × ((d : ℕ) × (i : ℕ) × Links g (searchable_bytes (disk_of g disk)) d i g.root))
+    ((d : ℕ) × (e : ℕ) × (i : ℕ) × (j : ℕ) × IsNumber g n × Links g (searchable_bytes (disk_of g disk)) d i n × Links
+    g (searchable_bytes (disk_of g disk)) e j n × (((d ≡ e) × (i ≡ j)) → ⊥)) ⊎
+    ((n ≡ g.root) × ((d : ℕ) × (i : ℕ) × Links g (searchable_bytes (disk_of g disk)) d i g.root))
 
 module _ (g : Geometry) (disk : ℕ → List ℕ) where
   abbrev Other : ℕ → ℕ → Type 0
@@ -53,8 +58,23 @@ module _ (g : Geometry) (disk : ℕ → List ℕ) where
   other (unmarked {n = n} reached owned free) =
       (λ e. (n, reached, owned, free), λ e. absurd (omega arith), λ e. absurd (omega arith), λ e. absurd (omega arith), λ e. absurd (omega arith))
   other (used_twice {n = n} {i = i} {j = j} {s = s} reached before one two) =
-      let used = owned g n (file_at disk n) in
-      (λ e. absurd (omega arith), λ e. inl (n, i, j, reached, before, slice_get_within used j s two, get_or_from_slice_get used i s s one, get_or_from_slice_get used j s s two), λ e. absurd (omega arith), λ e. absurd (omega arith), λ e. absurd (omega arith))
+      let used = owned g n (file_at disk n) in (
+        λ e. absurd (omega arith),
+        λ e. inl (
+          n,
+          i,
+          j,
+          reached,
+          before,
+          slice_get_within used j s two,
+          get_or_from_slice_get used i s s one,
+          get_or_from_slice_get used j s s two,
+        ),
+        λ e. absurd (omega arith),
+        λ e.
+            absurd (omega arith),
+        λ e. absurd (omega arith),
+      )
   other (shared {n = n} {m = m} c reached again apart one two at) =
       (λ e. absurd (omega arith), λ e. inr (n, m, c, reached, again, apart, one, two, at), λ e. absurd (omega arith), λ e. absurd (omega arith), λ e. absurd (omega arith))
   other (no_room {n = n} a b) = none_of 5 n (λ e. omega arith) (λ e. omega arith) (λ e. omega arith) (λ e. omega arith) (λ e. omega arith)

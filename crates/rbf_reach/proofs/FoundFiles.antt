@@ -27,7 +27,8 @@ pub file_on : (image : IdentifiedImage) (files : List FoundFile) (k : ℕ) (file
 file_on image files k file read low at = subst (IsFileOn image) (sym at) (read k file low)
 
 -- and is reached
-pub file_reached : (image : IdentifiedImage) (files : List FoundFile) (k : ℕ) (file : FoundFile) → AreFiles image files → k < length files → file ≡ get_or files k file → IsReachedOn (disk_on image) file.number
+pub file_reached : (image : IdentifiedImage) (files : List FoundFile) (k : ℕ) (file : FoundFile)
+    → AreFiles image files → k < length files → file ≡ get_or files k file → IsReachedOn (disk_on image) file.number
 file_reached image files k file are low at =
     subst (λ n. IsReachedOn (disk_on image) n) (number_in files k file low at)
     ((are.found (get_or (found_numbers files) k 0)).0 (has_place (found_numbers files) k (omega (arith, as_many files))))
@@ -45,7 +46,9 @@ first_files_none image found files is =
     none found = refl
 
 -- one file more
-pub first_files_more : (image : IdentifiedImage) (old new : List ℕ) (files more : List FoundFile) (file : FoundFile) → AreFirstFiles image old files → Extends old new → length files < length old → file.number ≡ get_or old (length files) 0 → IsFileOn image file → more ≡ files ++ file ∷ [] → AreFirstFiles image new more
+pub first_files_more : (image : IdentifiedImage) (old new : List ℕ) (files more : List FoundFile) (file : FoundFile)
+    → AreFirstFiles image old files → Extends old new → length files < length old → file.number ≡ get_or old
+    (length files) 0 → IsFileOn image file → more ≡ files ++ file ∷ [] → AreFirstFiles image new more
 first_files_more image old new files more file first grown low here on is =
     subst (λ (fs : List FoundFile). AreFirstFiles image new fs) (sym is) (record {
       numbers =

@@ -19,6 +19,8 @@ pub reached_found : (g : Geometry) (disk : ℕ → List ℕ) (found : List ℕ) 
 reached_found g disk found i is low = (is (get_or found i 0)).0 (has_place found i low)
 
 -- and so is below the total
-pub number_found : (image : IdentifiedImage) (found : List ℕ) (i : ℕ) → IsFound (disk_of (geometry_of image.ident) (sector image.bytes.now)) found → i < length found → get_or found i 0 < image.ident.total
+pub number_found : (image : IdentifiedImage) (found : List ℕ) (i : ℕ)
+    → IsFound (disk_of (geometry_of image.ident) (sector image.bytes.now)) found → i < length found
+    → get_or found i 0 < image.ident.total
 number_found image found i is low =
     (number_reached image (get_or found i 0) (reached_found (geometry_of image.ident) (sector image.bytes.now) found i is low)).below

@@ -71,7 +71,9 @@ led_none next from ordered low = record {
 }
 
 -- one place more, which is read by two steps, and which leads on
-module _ (old cur : List ℕ) (from e here next later : ℕ) (before : IsLed old cur from e) (is : here ≡ get_or cur e here) (apart : here ≢ e) (to : next ≡ get_or cur e next) (on : later ≡ get_or cur next later) where
+module _ (old cur : List ℕ) (from e here next later : ℕ) (before : IsLed old cur from e)
+    (is : here ≡ get_or cur e here) (apart : here ≢ e) (to : next ≡ get_or cur e next) (on : later ≡ get_or cur next
+    later) where
   low : e < length cur
   low = let size = before.size in let within = before.within in omega arith
 

@@ -87,7 +87,8 @@ added_before g contents d old new i entries fewer added = record {
 -- the links of the first so many descriptors
 pub record AreLinksOf (g : Geometry) (disk : ℕ → List ℕ) (found : List ℕ) (links : List Link) (next : ℕ) : Type 0 where
   pub each : (l : Link) → Contains links l → Links g (searchable_bytes (disk_of g disk)) l.directory l.entry l.descriptor × IsNumber g l.descriptor
-  pub all : (k j n : ℕ) → k < next → EntryNames (searchable_bytes (disk_of g disk) (get_or found k 0)) j n → IsNumber g n → Contains links (record { directory = get_or found k 0; entry = j; descriptor = n })
+  pub all : (k j n : ℕ) → k < next → EntryNames (searchable_bytes (disk_of g disk) (get_or found k 0)) j n
+      → IsNumber g n → Contains links (record { directory = get_or found k 0; entry = j; descriptor = n })
 
 module _ (g : Geometry) (disk : ℕ → List ℕ) (found : List ℕ) (are : IsFound (disk_of g disk) found) where
   pub links_none : (links : List Link) → links ≡ [] → AreLinksOf g disk found links 0
@@ -96,7 +97,9 @@ module _ (g : Geometry) (disk : ℕ → List ℕ) (found : List ℕ) (are : IsFo
     all = λ k j n low names number. absurd (omega arith);
   }
 
-  pub links_more : (old new : List Link) (next n entries : ℕ) → AreLinksOf g disk found old next → next < length found → n ≡ get_or found next 0 → 32 * entries ≡ length (searchable_bytes (disk_of g disk) n) → AreAdded g (searchable_bytes (disk_of g disk) n) n old new entries → AreLinksOf g disk found new (next + 1)
+  pub links_more : (old new : List Link) (next n entries : ℕ) → AreLinksOf g disk found old next → next < length found
+      → n ≡ get_or found next 0 → 32 * entries ≡ length (searchable_bytes (disk_of g disk) n)
+      → AreAdded g (searchable_bytes (disk_of g disk) n) n old new entries → AreLinksOf g disk found new (next + 1)
   links_more old new next n entries before low here counted added = record {
     each = λ l h. ⊎_elim
         (λ earlier. before.each l earlier)

@@ -55,7 +55,9 @@ module _ (g : Geometry) (disk : ℕ → List ℕ) (first end : ℕ) (old : List 
   read_none e passed = record { extends = extends_same old; named = passed; only = λ n h. inl h }
 
   -- one position more, and those behind it that were read before
-  pub read_more : (mid new : List ℕ) (e next : ℕ) → first ≤ e → e < end → AreReadTo g disk first end old mid e → AreFound (disk_of g disk) e (e + 1) mid new → ((t n : ℕ) → e < t → t < next → PositionNames disk t n → IsNumber g n → has new n ≡ true)
+  pub read_more : (mid new : List ℕ) (e next : ℕ) → first ≤ e → e < end → AreReadTo g disk first end old mid e
+      → AreFound (disk_of g disk) e (e + 1) mid new → ((t n : ℕ) → e < t → t < next → PositionNames disk t n
+      → IsNumber g n → has new n ≡ true)
       → AreReadTo g disk first end old new next
   read_more mid new e next after low before here passed = record {
     extends = extends_then old mid new before.extends here.extends;
@@ -99,7 +101,9 @@ module _ (g : Geometry) (disk : ℕ → List ℕ) (contents : List ℕ) (runs : 
       let r = get_or runs i (0, 0) in
       ap length (sym (sectors_more runs i low)) ∙ length-append (positions_in (take i runs)) (segment_sectors r) ∙ ap (λ n. length (positions_in (take i runs)) + n) (length-range_with_len r.0 r.1)
 
-  entry_in_run : (j : ℕ) → j < (get_or runs i (0, 0)).1 → (32 * (length (positions_in (take i runs)) + j + 1) ≤ length contents) × (directory_entry contents (length (positions_in (take i runs)) + j) ≡ entry_at_position disk ((get_or runs i (0, 0)).0 + j))
+  entry_in_run : (j : ℕ) → j < (get_or runs i (0, 0)).1 → (32 * (length (positions_in (take i runs)) + j + 1) ≤ length
+      contents) × (directory_entry contents (length (positions_in (take i runs)) + j) ≡ entry_at_position disk
+      ((get_or runs i (0, 0)).0 + j))
   entry_in_run j here =
       let r = get_or runs i (0, 0) in
       let k = length (positions_in (take i runs)) + j in
@@ -110,7 +114,8 @@ module _ (g : Geometry) (disk : ℕ → List ℕ) (contents : List ℕ) (runs : 
       (omega (arith, within, are.count), are.each k within ∙ ap (entry_at_position disk) (get_or-flat_map segment_sectors runs i j (0, 0) 0 low place ∙ get_or-range_with_len r.0 r.1 j 0 here))
 
   pub visited_run : (old mid new : List ℕ) (skipped passed : ℕ) → skipped ≡ 2 - length (positions_in (take i runs)) → passed ≡ min skipped (get_or runs i (0, 0)).1
-      → IsVisitedTo g contents old mid (length (positions_in (take i runs))) → AreFound (disk_of g disk) ((get_or runs i (0, 0)).0 + passed) ((get_or runs i (0, 0)).0 + (get_or runs i (0, 0)).1) mid new
+      → IsVisitedTo g contents old mid (length (positions_in (take i runs))) → AreFound (disk_of g disk)
+      ((get_or runs i (0, 0)).0 + passed) ((get_or runs i (0, 0)).0 + (get_or runs i (0, 0)).1) mid new
       → IsVisitedTo g contents old new (length (positions_in (take (i + 1) runs)))
   visited_run old mid new skipped passed left is visited found =
       let r = get_or runs i (0, 0) in
@@ -143,7 +148,9 @@ module _ (g : Geometry) (disk : ℕ → List ℕ) (contents : List ℕ) (runs : 
             (found.only m h);
       }
 
-pub visited_all : (g : Geometry) (disk : ℕ → List ℕ) (contents : List ℕ) (runs : List (ℕ × ℕ)) → ArePositions g disk contents runs → (old new : List ℕ) (i : ℕ) → length runs ≤ i → IsVisitedTo g contents old new (length (positions_in (take i runs))) → IsVisited g contents old new
+pub visited_all : (g : Geometry) (disk : ℕ → List ℕ) (contents : List ℕ) (runs : List (ℕ × ℕ)) → ArePositions g disk
+    contents runs → (old new : List ℕ) (i : ℕ) → length runs ≤ i → IsVisitedTo g contents old new
+    (length (positions_in (take i runs))) → IsVisited g contents old new
 visited_all g disk contents runs are old new i all visited =
     let whole : length (positions_in (take i runs)) ≡ length (positions_in runs) = ap (λ rs. length (positions_in rs)) (take_all i runs all) in
     record {

@@ -33,7 +33,9 @@ module _ (g : Geometry) (disk : ℕ → List ℕ) (n : ℕ) (sectors : IsDisk (d
   segments : List (ℕ × ℕ)
   segments = segments_field (disk n)
 
-  parts : is_searchable (disk_of g disk) n ≡ true → (is_directory (file_at disk n) ≡ true) × (list_all (is_within g) (segments_field (disk n)) ≡ true) × (has_room (segments_field (disk n)) (size_field (disk n)) ≡ true) × (is_directory_size (size_field (disk n)) ≡ true)
+  parts : is_searchable (disk_of g disk) n ≡ true → (is_directory (file_at disk n) ≡ true) ×
+      (list_all (is_within g) (segments_field (disk n)) ≡ true) × (has_room (segments_field (disk n))
+      (size_field (disk n)) ≡ true) × (is_directory_size (size_field (disk n)) ≡ true)
   parts searches = four_parts _ _ _ _ searches
 
   listing_is : is_searchable (disk_of g disk) n ≡ true → searchable_bytes (disk_of g disk) n ≡ (file_at disk n).contents
@@ -90,7 +92,10 @@ pub entry_in_image : (image : List ℕ) (s q : ℕ) → q < 8 → directory_entr
 entry_in_image image s q low = piece_of_piece image 256 32 s q (omega arith)
 
 -- a descriptor can be searched as its fields say
-pub searched_by_fields : (g : Geometry) (disk : ℕ → List ℕ) (n attr size : ℕ) (segs : List (ℕ × ℕ)) → attr ≡ attributes_field (disk n) → segs ≡ segments_field (disk n) → size ≡ size_field (disk n) → ((bit_at attr 7 == 1) && list_all (is_within g) segs && has_room segs size && is_directory_size size) ≡ is_searchable (disk_of g disk) n
+pub searched_by_fields : (g : Geometry) (disk : ℕ → List ℕ) (n attr size : ℕ) (segs : List (ℕ × ℕ))
+    → attr ≡ attributes_field (disk n) → segs ≡ segments_field (disk n) → size ≡ size_field (disk n)
+    → ((bit_at attr 7 == 1) && list_all (is_within g) segs && has_room segs size && is_directory_size size) ≡
+    is_searchable (disk_of g disk) n
 searched_by_fields g disk n attr size segs attributes segments sized =
     ap (λ a. (bit_at a 7 == 1) && list_all (is_within g) segs && has_room segs size && is_directory_size size) attributes
     ∙ ap (λ s. (bit_at (attributes_field (disk n)) 7 == 1) && list_all (is_within g) s && has_room s size && is_directory_size size) segments
@@ -123,16 +128,26 @@ module _ (image : IdentifiedImage) (dir : Directory) (i : ℕ) (is : IsDirectory
       let total : (geometry (sector image.bytes.now 0)).total ≡ image.ident.total = ap (λ (g : Geometry). g.total) image.identified.geometry in
       omega (arith, in_volume (geometry_of image.ident) (sector image.bytes.now) dir.number sectors_whole i has_entry, image.identified.header.fits, total)
 
-  pub entry_found : directory_entry (searchable_bytes (disk_of (geometry_of image.ident) (sector image.bytes.now)) dir.number) i ≡ take 32 (drop (256 * get_or (sectors_of (segments_field (sector image.bytes.now dir.number))) (i / 8) 0 + 32 * (i % 8)) image.bytes.now)
+  pub entry_found : directory_entry (searchable_bytes (disk_of (geometry_of image.ident) (sector image.bytes.now))
+      dir.number) i ≡ take 32 (drop (256 * get_or (sectors_of (segments_field (sector image.bytes.now dir.number)))
+      (i / 8) 0 + 32 * (i % 8)) image.bytes.now)
   entry_found =
-      entry_in_sector (geometry_of image.ident) (sector image.bytes.now) dir.number sectors_whole i has_entry ∙ entry_in_image image.bytes.now (get_or (sectors_of (segments_field (sector image.bytes.now dir.number))) (i / 8) 0) (i % 8) (omega arith)
+      entry_in_sector (geometry_of image.ident) (sector image.bytes.now) dir.number sectors_whole i has_entry ∙
+      entry_in_image image.bytes.now (get_or (sectors_of (segments_field (sector image.bytes.now dir.number)))
+      (i / 8) 0) (i % 8) (omega arith)
 
 -- a descriptor that is read is a directory of as many entries as its fields say
-pub directory_read : (image : IdentifiedImage) (n attr size entries : ℕ) (segs : List (ℕ × ℕ)) → n < image.ident.total → attr ≡ attributes_field (sector image.bytes.now n) → segs ≡ segments_field (sector image.bytes.now n) → size ≡ size_field (sector image.bytes.now n) → 32 * entries ≡ (if (bit_at attr 7 == 1) && list_all (is_within (geometry_of image.ident)) segs && has_room segs size && is_directory_size size then size else 0) → IsDirectory image (record { number = n; segs = segs; entries = entries })
+pub directory_read : (image : IdentifiedImage) (n attr size entries : ℕ) (segs : List (ℕ × ℕ)) → n < image.ident.total
+    → attr ≡ attributes_field (sector image.bytes.now n) → segs ≡ segments_field (sector image.bytes.now n)
+    → size ≡ size_field (sector image.bytes.now n) → 32 * entries ≡ (if (bit_at attr 7 == 1) && list_all
+    (is_within (geometry_of image.ident)) segs && has_room segs size && is_directory_size size then size else 0)
+    → IsDirectory image (record { number = n; segs = segs; entries = entries })
 directory_read image n attr size entries segs low attributes segments sized counted =
     let test = searched_by_fields (geometry_of image.ident) (sector image.bytes.now) n attr size segs attributes segments sized in
     record {
       number = low;
       segments = segments;
-      entries = counted ∙ ap (λ t. if t then size else 0) test ∙ ap (λ z. if is_searchable (disk_of (geometry_of image.ident) (sector image.bytes.now)) n then z else 0) sized ∙ sym (length-searched (geometry_of image.ident) (sector image.bytes.now) n (is_disk_of image));
+      entries = counted ∙ ap (λ t. if t then size else 0) test ∙ ap
+          (λ z. if is_searchable (disk_of (geometry_of image.ident) (sector image.bytes.now)) n then z else 0) sized ∙
+          sym (length-searched (geometry_of image.ident) (sector image.bytes.now) n (is_disk_of image));
     }

@@ -13,7 +13,9 @@ use Rattle.rbf_reach.proofs.Visits.{has_extended}
 
 module _ (g : Geometry) (disk : ℕ → List ℕ) where
   -- no more positions have been read
-  pub searching_same : (search : Search) (unread : Unread) → IsSearching (disk_of g disk) search → length unread.next.items ≡ length search.unread.next.items → IsOrdered unread → ((e : ℕ) → IsRead unread e → IsRead search.unread e)
+  pub searching_same : (search : Search) (unread : Unread) → IsSearching (disk_of g disk) search
+      → length unread.next.items ≡ length search.unread.next.items → IsOrdered unread → ((e : ℕ) → IsRead unread e
+      → IsRead search.unread e)
       → IsSearching (disk_of g disk) (record { seen = search.seen; found = search.found; unread = unread })
   searching_same search unread before size ordered same = record {
     marks = before.marks;
@@ -24,7 +26,9 @@ module _ (g : Geometry) (disk : ℕ → List ℕ) where
   }
 
   -- position e has been read
-  module _ (old new : Search) (unread : Unread) (e : ℕ) (before : IsSearching (disk_of g disk) old) (found : AreFound (disk_of g disk) e (e + 1) old.found.items new.found.items) (same : new.unread ≡ old.unread) (only : (t : ℕ) → IsRead unread t → IsRead new.unread t ⊎ (t ≡ e)) where
+  module _ (old new : Search) (unread : Unread) (e : ℕ) (before : IsSearching (disk_of g disk) old)
+      (found : AreFound (disk_of g disk) e (e + 1) old.found.items new.found.items) (same : new.unread ≡ old.unread)
+      (only : (t : ℕ) → IsRead unread t → IsRead new.unread t ⊎ (t ≡ e)) where
     pub named_after : (t n : ℕ) → IsRead unread t → PositionNames disk t n → IsNumber g n → has new.found.items n ≡ true
     named_after t n h names number = ⊎_elim
         (λ earlier.
@@ -44,7 +48,9 @@ module _ (g : Geometry) (disk : ℕ → List ℕ) where
     }
 
   -- no position has been read
-  pub searching_none : (search : Search) (unread : Unread) → IsSearch search.seen.items search.found.items → length search.seen.items ≡ g.total → length unread.next.items ≡ 8 * g.total + 1 → IsOrdered unread → ((e : ℕ) → IsRead unread e → ⊥) → search.unread ≡ unread
+  pub searching_none : (search : Search) (unread : Unread) → IsSearch search.seen.items search.found.items
+      → length search.seen.items ≡ g.total → length unread.next.items ≡ 8 * g.total + 1 → IsOrdered unread
+      → ((e : ℕ) → IsRead unread e → ⊥) → search.unread ≡ unread
       → IsSearching (disk_of g disk) search
   searching_none search unread marks size positions ordered none same = record {
     marks = marks;

@@ -38,7 +38,9 @@ pairs_none old segs = record {
   beside = record { same_length = refl; before = λ i below. refl; behind = λ i past. refl };
 }
 
-pub pairs_more : (old mid new : List ℕ) (segs : List (ℕ × ℕ)) (i : ℕ) (pair : ℕ × ℕ) → HasPairs old mid segs i → pair ≡ get_or segs i (0, 0) → segment_field new i ≡ pair → KeepsBeside mid new (16 + 5 * i) 5 → HasPairs old new segs (i + 1)
+pub pairs_more : (old mid new : List ℕ) (segs : List (ℕ × ℕ)) (i : ℕ) (pair : ℕ × ℕ) → HasPairs old mid segs i
+    → pair ≡ get_or segs i (0, 0) → segment_field new i ≡ pair → KeepsBeside mid new (16 + 5 * i) 5
+    → HasPairs old new segs (i + 1)
 pairs_more old mid new segs i pair written here there beside = record {
   pairs = λ k below. elim (cases_lt k i) [
     | inl before ↦ pair_kept mid new (16 + 5 * i) 5 k beside (inl (omega arith)) ∙ written.pairs k before
@@ -72,15 +74,22 @@ pub all_pairs : (old new : List ℕ) (segs : List (ℕ × ℕ)) → IsSegments s
 all_pairs old new segs whole written full =
     segments-all new (λ k below. pass old new segs whole written k (omega arith)) ∙ ap (λ n. map (segment_field new) (range_with_len 0 n)) (sym full) ∙ list_is (segment_field new) segs written.pairs
 
-pub ended_pairs : (old mid new : List ℕ) (segs : List (ℕ × ℕ)) → IsSegments segs → HasPairs old mid segs (length segs) → length segs < 48 → segment_field new (length segs) ≡ (0, 0) → KeepsBeside mid new (16 + 5 * length segs) 5 → (segments_field new ≡ segs) × KeepsBeside old new 16 (5 * (length segs + 1))
+pub ended_pairs : (old mid new : List ℕ) (segs : List (ℕ × ℕ)) → IsSegments segs → HasPairs old mid segs (length segs)
+    → length segs < 48 → segment_field new (length segs) ≡ (0, 0) → KeepsBeside mid new (16 + 5 * length segs) 5
+    → (segments_field new ≡ segs) × KeepsBeside old new 16 (5 * (length segs + 1))
 ended_pairs old mid new segs whole written few end beside =
     let n = length segs in
     let same : (k : ℕ) → k < n → segment_field new k ≡ segment_field mid k = λ k below. pair_kept mid new (16 + 5 * n) 5 k beside (inl (omega arith)) in
-    let P : ℕ → Type 0 = λ m. KeepsBeside old new 16 m in
-    (segments-stop new n few (λ k below. ap has_sectors (same k below) ∙ pass old mid segs whole written k below) (ap has_sectors end) ∙ list_is (segment_field new) segs (λ k below. same k below ∙ written.pairs k below), subst P (let more : 5 * n + 5 ≡ 5 * (n + 1) = omega arith in more) (keeps_then written.beside beside refl))
+    let P : ℕ → Type 0 = λ m. KeepsBeside old new 16 m in (
+      segments-stop new n few (λ k below. ap has_sectors (same k below) ∙ pass old mid segs whole written k below)
+          (ap has_sectors end) ∙ list_is (segment_field new) segs (λ k below. same k below ∙ written.pairs k below),
+      subst P (let more : 5 * n + 5 ≡ 5 * (n + 1) = omega arith in more) (keeps_then written.beside beside refl),
+    )
 
 -- the same with the counts as the code has them
-pub ended_at : (old mid new : List ℕ) (segs : List (ℕ × ℕ)) (i n : ℕ) → IsSegments segs → HasPairs old mid segs i → i ≡ length segs → n ≡ length segs → n < 48 → segment_field new n ≡ (0, 0) → KeepsBeside mid new (16 + 5 * n) 5 → segments_field new ≡ segs
+pub ended_at : (old mid new : List ℕ) (segs : List (ℕ × ℕ)) (i n : ℕ) → IsSegments segs → HasPairs old mid segs i
+    → i ≡ length segs → n ≡ length segs → n < 48 → segment_field new n ≡ (0, 0) → KeepsBeside mid new (16 + 5 * n) 5
+    → segments_field new ≡ segs
 ended_at old mid new segs i n whole written all count few end beside =
     let P : ℕ → Type 0 = λ m. HasPairs old mid segs m in
     let Q : ℕ → Type 0 = λ m. KeepsBeside mid new (16 + 5 * m) 5 in

@@ -7,7 +7,8 @@ use Rattle.byteorder.specs.Endian.{big_from}
 use Rattle.rbf_model.specs.Fields.{segment_field, has_sectors, segments_field}
 
 -- the front of a list that passes a test, where it ends at i, and where it does not end
-take_while-stops : (p : ℕ × ℕ → Bool) (f : ℕ → ℕ × ℕ) (a n i : ℕ) → i < n → ((k : ℕ) → k < i → p (f (a + k)) ≡ true) → p (f (a + i)) ≡ false → take_while p (map f (range_with_len a n)) ≡ map f (range_with_len a i)
+take_while-stops : (p : ℕ × ℕ → Bool) (f : ℕ → ℕ × ℕ) (a n i : ℕ) → i < n → ((k : ℕ) → k < i → p (f (a + k)) ≡ true)
+    → p (f (a + i)) ≡ false → take_while p (map f (range_with_len a n)) ≡ map f (range_with_len a i)
 take_while-stops p f a zero i below pass stop = absurd (omega arith)
 take_while-stops p f a (suc n) zero below pass stop =
     let here : a + 0 ≡ a = omega arith in
@@ -19,7 +20,9 @@ take_while-stops p f a (suc n) (suc i) below pass stop =
     let passes : p (f a) ≡ true = ap (λ b. p (f b)) (sym here) ∙ pass 0 (omega arith) in
     let next : (k : ℕ) → a + suc k ≡ a + 1 + k = λ k. omega arith in
     let more : 1 + prefix_len p rest ≡ suc (prefix_len p rest) = omega arith in
-    ap (λ t. take (cond t (1 + prefix_len p rest) 0) (f a ∷ rest)) passes ∙ ap (λ m. take m (f a ∷ rest)) more ∙ ap (λ r. f a ∷ r) (take_while-stops p f (a + 1) n i (omega arith) (λ k low. ap (λ b. p (f b)) (sym (next k)) ∙ pass (suc k) (omega arith)) (ap (λ b. p (f b)) (sym (next i)) ∙ stop))
+    ap (λ t. take (cond t (1 + prefix_len p rest) 0) (f a ∷ rest)) passes ∙ ap (λ m. take m (f a ∷ rest)) more ∙ ap
+    (λ r. f a ∷ r) (take_while-stops p f (a + 1) n i (omega arith) (λ k low. ap (λ b. p (f b)) (sym (next k)) ∙
+    pass (suc k) (omega arith)) (ap (λ b. p (f b)) (sym (next i)) ∙ stop))
 
 take_while-all : (p : ℕ × ℕ → Bool) (f : ℕ → ℕ × ℕ) (a n : ℕ) → ((k : ℕ) → k < n → p (f (a + k)) ≡ true) → take_while p (map f (range_with_len a n)) ≡ map f (range_with_len a n)
 take_while-all p f a zero pass = refl
@@ -29,9 +32,12 @@ take_while-all p f a (suc n) pass =
     let passes : p (f a) ≡ true = ap (λ b. p (f b)) (sym here) ∙ pass 0 (omega arith) in
     let next : (k : ℕ) → a + suc k ≡ a + 1 + k = λ k. omega arith in
     let more : 1 + prefix_len p rest ≡ suc (prefix_len p rest) = omega arith in
-    ap (λ t. take (cond t (1 + prefix_len p rest) 0) (f a ∷ rest)) passes ∙ ap (λ m. take m (f a ∷ rest)) more ∙ ap (λ r. f a ∷ r) (take_while-all p f (a + 1) n (λ k low. ap (λ b. p (f b)) (sym (next k)) ∙ pass (suc k) (omega arith)))
+    ap (λ t. take (cond t (1 + prefix_len p rest) 0) (f a ∷ rest)) passes ∙ ap (λ m. take m (f a ∷ rest)) more ∙ ap
+    (λ r. f a ∷ r) (take_while-all p f (a + 1) n (λ k low. ap (λ b. p (f b)) (sym (next k)) ∙ pass (suc k)
+    (omega arith)))
 
-pub segments-stop : (b : List ℕ) (i : ℕ) → i < 48 → ((k : ℕ) → k < i → has_sectors (segment_field b k) ≡ true) → has_sectors (segment_field b i) ≡ false → segments_field b ≡ map (segment_field b) (range_with_len 0 i)
+pub segments-stop : (b : List ℕ) (i : ℕ) → i < 48 → ((k : ℕ) → k < i → has_sectors (segment_field b k) ≡ true)
+    → has_sectors (segment_field b i) ≡ false → segments_field b ≡ map (segment_field b) (range_with_len 0 i)
 unfolding segments_field
 segments-stop b i below pass stop =
     let from : (k : ℕ) → 0 + k ≡ k = λ k. omega arith in
@@ -44,7 +50,9 @@ segments-all b pass =
     take_while-all has_sectors (segment_field b) 0 48 (λ k low. ap (λ m. has_sectors (segment_field b m)) (from k) ∙ pass k low)
 
 -- one pair more
-pub segments-more : (b : List ℕ) (i lsn count : ℕ) → lsn ≡ big_from (16 + 5 * i) 3 b → count ≡ big_from (16 + 5 * i + 3) 2 b → map (segment_field b) (range_with_len 0 (i + 1)) ≡ map (segment_field b) (range_with_len 0 i) ++ (lsn, count) ∷ []
+pub segments-more : (b : List ℕ) (i lsn count : ℕ) → lsn ≡ big_from (16 + 5 * i) 3 b
+    → count ≡ big_from (16 + 5 * i + 3) 2 b → map (segment_field b) (range_with_len 0 (i + 1)) ≡ map (segment_field b)
+    (range_with_len 0 i) ++ (lsn, count) ∷ []
 segments-more b i lsn count first sectors =
     let place : 19 + 5 * i ≡ 16 + 5 * i + 3 = omega arith in
     let pair : segment_field b i ≡ (lsn, count) = ap₂ (λ x y. (x, y)) (sym first) (ap (λ at. big_from at 2 b) place ∙ sym sectors) in

@@ -44,7 +44,9 @@ bytes_kept old new at count i n beside apart =
     let same = beside.same_length in
     same_number_lists (take n (drop i new)) (take n (drop i old)) (omega (arith, length-take n (drop i new), length-take n (drop i old), length-drop i new, length-drop i old)) (λ k below.
     let shorter = length-take n (drop i new) in
-    get_or-take n (drop i new) k 0 (omega arith) ∙ get_or-drop i new k 0 ∙ byte_kept old new at count (i + k) beside (elim apart [ inl before ↦ inl (omega arith) | inr behind ↦ inr (omega arith) ]) ∙ sym (get_or-drop i old k 0) ∙ sym (get_or-take n (drop i old) k 0 (omega arith)))
+    get_or-take n (drop i new) k 0 (omega arith) ∙ get_or-drop i new k 0 ∙ byte_kept old new at count (i + k) beside
+    (elim apart [ inl before ↦ inl (omega arith) | inr behind ↦ inr (omega arith) ]) ∙ sym (get_or-drop i old k 0)
+    ∙ sym (get_or-take n (drop i old) k 0 (omega arith)))
 
 -- one byte is written
 pub set_beside : (xs : List ℕ) (at byte : ℕ) → KeepsBeside xs (set xs at byte) at 1
@@ -59,7 +61,9 @@ length-big_bytes : (n x : ℕ) → length (big_bytes n x) ≡ n
 length-big_bytes zero x = refl
 length-big_bytes (suc n) x = let e = length-big_bytes n x in omega (arith, e)
 
-pub puts_number : (xs new : List ℕ) (at n value : ℕ) → at + n ≤ length xs → big_from 0 n (big_bytes n value ++ drop (at + n) xs) ≡ value → new ≡ big_bytes n value ++ drop n (take (length xs - at) (drop at xs)) → PutsNumber xs (put_mid at (length xs - at) xs new) at n value
+pub puts_number : (xs new : List ℕ) (at n value : ℕ) → at + n ≤ length xs
+    → big_from 0 n (big_bytes n value ++ drop (at + n) xs) ≡ value → new ≡ big_bytes n value ++ drop n
+    (take (length xs - at) (drop at xs)) → PutsNumber xs (put_mid at (length xs - at) xs new) at n value
 puts_number xs new at n value within reads_back written =
     let bytes = big_bytes n value in
     let front = take at xs in
@@ -77,7 +81,9 @@ puts_number xs new at n value within reads_back written =
         before = λ i below. get_or_append_left front (bytes ++ behind) 0 i (omega arith) ∙ get_or-take at xs i 0 below;
         behind = λ i past.
             let rest : at + n + (i - at - n) ≡ i = omega arith in
-            get_or-append_right front (bytes ++ behind) at i 0 front_length (omega arith) ∙ get_or-append_right bytes behind n (i - at) 0 bytes_length (omega arith) ∙ get_or-drop (at + n) xs (i - at - n) 0 ∙ ap (λ k. get_or xs k 0) rest;
+            get_or-append_right front (bytes ++ behind) at i 0 front_length (omega arith) ∙ get_or-append_right bytes
+            behind n (i - at) 0 bytes_length (omega arith) ∙ get_or-drop (at + n) xs (i - at - n) 0 ∙ ap
+            (λ k. get_or xs k 0) rest;
       };
     })
 

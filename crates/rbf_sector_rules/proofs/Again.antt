@@ -57,7 +57,9 @@ module _ (g : Geometry) (disk : ℕ → List ℕ) (found : List ℕ) (are : IsFo
   unfolding owns
   sector_had n c h = owns_from_cluster g n (file_at disk n) c h
 
-  pub searched_none : (uses : Uses) → length uses.users.items ≡ g.total → length uses.owners.items ≡ g.total → ((s p : ℕ) → HasUser uses s p → ⊥) → ((c n : ℕ) → HasOwner uses c n → ⊥) → uses.least ≡ g.total → AreSearched g disk found uses 0
+  pub searched_none : (uses : Uses) → length uses.users.items ≡ g.total → length uses.owners.items ≡ g.total
+      → ((s p : ℕ) → HasUser uses s p → ⊥) → ((c n : ℕ) → HasOwner uses c n → ⊥) → uses.least ≡ g.total
+      → AreSearched g disk found uses 0
   searched_none uses users_size owners_size no_users no_owners least = record {
     users_size = users_size;
     owners_size = owners_size;

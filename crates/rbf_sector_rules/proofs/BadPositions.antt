@@ -34,7 +34,9 @@ module _ (g : Geometry) (disk : ℕ → List ℕ) (contents : List ℕ) (runs : 
       (get_or (positions_in runs) i 0, has_place (positions_in runs) i low, record { used = ap is_used (sym at) ∙ entry.used; number = subst P at h.2 })
 
   -- no run of the first has a bad position, and so has the next none
-  pub none_more : (i : ℕ) → i < length runs → ((e : ℕ) → has (positions_in (take i runs)) e ≡ true → IsBadPosition (disk_of g disk) e → ⊥) → ((e : ℕ) → has (segment_sectors (get_or runs i (0, 0))) e ≡ true → IsBadPosition (disk_of g disk) e → ⊥)
+  pub none_more : (i : ℕ) → i < length runs → ((e : ℕ) → has (positions_in (take i runs)) e ≡ true
+      → IsBadPosition (disk_of g disk) e → ⊥) → ((e : ℕ) → has (segment_sectors (get_or runs i (0, 0))) e ≡ true
+      → IsBadPosition (disk_of g disk) e → ⊥)
       → (e : ℕ) → has (positions_in (take (i + 1) runs)) e ≡ true → IsBadPosition (disk_of g disk) e → ⊥
   none_more i low before here e h bad = ⊎_elim
       (λ earlier. before e earlier bad)

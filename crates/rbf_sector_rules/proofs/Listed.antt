@@ -24,7 +24,9 @@ module _ (g : Geometry) (n : ℕ) (front : List (ℕ × ℕ)) where
   front_of_other other is =
       ap sectors_of is ∙ sym (cond-false (n == g.root) (system_sectors g) [] (ne_eqb n g.root other))
 
-  pub listed_is : (disk : ℕ → List ℕ) (runs segs : List (ℕ × ℕ)) → sectors_of front ≡ (if n == g.root then system_sectors g else []) → runs ≡ (front ++ (n, 1) ∷ []) ++ segs → segs ≡ segments_field (disk n) → sectors_of runs ≡ used_by (disk_of g disk) n
+  pub listed_is : (disk : ℕ → List ℕ) (runs segs : List (ℕ × ℕ)) → sectors_of front ≡
+      (if n == g.root then system_sectors g else []) → runs ≡ (front ++ (n, 1) ∷ []) ++ segs → segs ≡ segments_field
+      (disk n) → sectors_of runs ≡ used_by (disk_of g disk) n
   unfolding owned
   listed_is disk runs segs system is segments =
       ap sectors_of (is ∙ append_assoc front ((n, 1) ∷ []) segs) ∙ flat_map-append segment_sectors front ((n, 1) ∷ segs)

@@ -48,7 +48,8 @@ twice_has (x ∷ xs) s (inr later) = or_right (x == s) (has xs s) (twice_has xs 
 
 module _ (k : ℕ) (owner : Owner) where
   -- sectors that show nothing less: they are not below the least breach, and their clusters are not either or have this owner
-  module _ (rest : List ℕ) (uses : Uses) (past : (s : ℕ) → has rest s ≡ true → uses.least ≤ s) (owned : (s : ℕ) → has rest s ≡ true → cluster_begin k s < uses.least → HasOwner uses (s / k) owner.descriptor) where
+  module _ (rest : List ℕ) (uses : Uses) (past : (s : ℕ) → has rest s ≡ true → uses.least ≤ s) (owned : (s : ℕ)
+      → has rest s ≡ true → cluster_begin k s < uses.least → HasOwner uses (s / k) owner.descriptor) where
     no_less : (s : ℕ) → IsUsedAgain k owner rest uses s → uses.least ≤ s
     no_less s (twice both) = past s (twice_has rest s both)
     no_less s (again here noted) = past s here

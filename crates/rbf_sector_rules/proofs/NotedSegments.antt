@@ -78,7 +78,9 @@ module _ (k : ℕ) (positive : 0 < k) (owner : Owner) (old : Uses) where
           (noted_then k owner (range_with_len first (s + 1 - first)) rest old new new run_grown (noted_past k owner rest new (λ t h. let low = behind t h in omega arith) owned))
 
   -- one run more
-  pub runs_more : (runs : List (ℕ × ℕ)) (i : ℕ) (cur new : Uses) → i < length runs → IsNoted k owner (sectors_of (take i runs)) old cur → IsNoted k owner (segment_sectors (get_or runs i (0, 0))) cur new → IsNoted k owner (sectors_of (take (i + 1) runs)) old new
+  pub runs_more : (runs : List (ℕ × ℕ)) (i : ℕ) (cur new : Uses) → i < length runs
+      → IsNoted k owner (sectors_of (take i runs)) old cur → IsNoted k owner (segment_sectors (get_or runs i (0, 0)))
+      cur new → IsNoted k owner (sectors_of (take (i + 1) runs)) old new
   runs_more runs i cur new low noted here =
       let P : List ℕ → Type 0 = λ xs. IsNoted k owner xs old new in
       subst P (sectors_more runs i low) (noted_then k owner (sectors_of (take i runs)) (segment_sectors (get_or runs i (0, 0))) old cur new noted here)

@@ -50,7 +50,9 @@ module _ (g : Geometry) (disk : ℕ → List ℕ) where
   numbers_of (named_root a) e = absurd (omega arith)
 
   -- the least of those that are found
-  pub least_numbers : (found : List ℕ) (i : ℕ) (least : Option ℕ) → IsFound (disk_of g disk) found → i ≡ length found → IsLeast (Before (λ k. BreaksNumbersAt (disk_of g disk) (get_or found k 0)) i) least → IsLeastBreach (disk_of g disk) 1 least
+  pub least_numbers : (found : List ℕ) (i : ℕ) (least : Option ℕ) → IsFound (disk_of g disk) found → i ≡ length found
+      → IsLeast (Before (λ k. BreaksNumbersAt (disk_of g disk) (get_or found k 0)) i) least
+      → IsLeastBreach (disk_of g disk) 1 least
   least_numbers found i least are all is =
       least_along (λ s. (n : ℕ) × (has found n ≡ true) × BreaksNumbersAt (disk_of g disk) n s) (Breaks (disk_of g disk) 1)
       (λ s h. let P : ℕ → Type 0 = λ n. Breaks (disk_of g disk) 1 n in subst P (sym h.2.0) (numbers_breach h.0 ((are h.0).0 h.1) h.2.1))
@@ -58,7 +60,9 @@ module _ (g : Geometry) (disk : ℕ → List ℕ) where
       least (least_in_list (BreaksNumbersAt (disk_of g disk)) found i all least is)
 
   -- a descriptor that is read, whose segments and entries are in order
-  pub none_broken : (n m : ℕ) (segs : List (ℕ × ℕ)) → m ≡ n → segs ≡ segments_field (disk m) → list_all (is_within g) segs ≡ true → (HasBadNumber g (searchable_bytes (disk_of g disk) m) → ⊥) → (s : ℕ) → BreaksNumbersAt (disk_of g disk) n s → ⊥
+  pub none_broken : (n m : ℕ) (segs : List (ℕ × ℕ)) → m ≡ n → segs ≡ segments_field (disk m) → list_all (is_within g)
+      segs ≡ true → (HasBadNumber g (searchable_bytes (disk_of g disk) m) → ⊥) → (s : ℕ)
+      → BreaksNumbersAt (disk_of g disk) n s → ⊥
   none_broken n m segs same is within good s h =
       let P : ℕ → Type 0 = λ k. BreaksNumbers (disk_of g disk) k in
       ⊎_elim

@@ -51,7 +51,9 @@ module _ (g : Geometry) (disk : ℕ → List ℕ) where
   own_by_rule Size lsn b = (own_of b).1 refl
 
   -- the least of those that are found
-  pub least_own : (rule : OwnRule) (found : List ℕ) (i : ℕ) (least : Option ℕ) → IsFound (disk_of g disk) found → i ≡ length found → IsLeast (Before (λ k. BreaksOwnAt rule (disk_of g disk) (get_or found k 0)) i) least → IsLeastBreach (disk_of g disk) (rule_number rule) least
+  pub least_own : (rule : OwnRule) (found : List ℕ) (i : ℕ) (least : Option ℕ) → IsFound (disk_of g disk) found
+      → i ≡ length found → IsLeast (Before (λ k. BreaksOwnAt rule (disk_of g disk) (get_or found k 0)) i) least
+      → IsLeastBreach (disk_of g disk) (rule_number rule) least
   least_own rule found i least are all is =
       let P : ℕ → Type 0 = λ n. Breaks (disk_of g disk) (rule_number rule) n in
       least_along (λ s. (n : ℕ) × (has found n ≡ true) × BreaksOwnAt rule (disk_of g disk) n s) (Breaks (disk_of g disk) (rule_number rule))

@@ -42,8 +42,11 @@ pub record AreRuns (g : Geometry) (disk : ℕ → List ℕ) (n : ℕ) (runs : Li
   pub segments : All IsSegment runs
   pub within : All (λ r. r.0 + r.1 ≤ g.total) runs
 
-pub runs_are : (image : IdentifiedImage) (n : ℕ) (listed runs : List (ℕ × ℕ)) → ((lsn : ℕ) → Breaks (disk_of (geometry_of image.ident) (sector image.bytes.now)) 1 lsn → ⊥) → HasMap (geometry_of image.ident) → IsReachedOn (disk_of (geometry_of image.ident) (sector image.bytes.now)) n
-    → sectors_of listed ≡ used_by (disk_of (geometry_of image.ident) (sector image.bytes.now)) n → All IsSegment listed → runs ≡ listed → AreRuns (geometry_of image.ident) (sector image.bytes.now) n runs
+pub runs_are : (image : IdentifiedImage) (n : ℕ) (listed runs : List (ℕ × ℕ))
+    → ((lsn : ℕ) → Breaks (disk_of (geometry_of image.ident) (sector image.bytes.now)) 1 lsn → ⊥)
+    → HasMap (geometry_of image.ident) → IsReachedOn (disk_of (geometry_of image.ident) (sector image.bytes.now)) n
+    → sectors_of listed ≡ used_by (disk_of (geometry_of image.ident) (sector image.bytes.now)) n
+    → All IsSegment listed → runs ≡ listed → AreRuns (geometry_of image.ident) (sector image.bytes.now) n runs
 runs_are image n listed runs kept map reached sectors segments is =
     let g = geometry_of image.ident in
     let disk = sector image.bytes.now in

@@ -17,7 +17,9 @@ use Rattle.rbf_reach.proofs.Runs.{sectors_more}
 
 module _ (g : Geometry) (disk : ℕ → List ℕ) where
   -- of two lists, and of one run more
-  unmarked_then : (xs ys : List ℕ) (one other both : Option ℕ) → IsLeast (IsUnmarkedIn (disk_of g disk) xs) one → IsLeast (IsUnmarkedIn (disk_of g disk) ys) other → both ≡ lesser_of one other → IsLeast (IsUnmarkedIn (disk_of g disk) (xs ++ ys)) both
+  unmarked_then : (xs ys : List ℕ) (one other both : Option ℕ) → IsLeast (IsUnmarkedIn (disk_of g disk) xs) one
+      → IsLeast (IsUnmarkedIn (disk_of g disk) ys) other → both ≡ lesser_of one other
+      → IsLeast (IsUnmarkedIn (disk_of g disk) (xs ++ ys)) both
   unmarked_then xs ys one other both first second is =
       least_along (λ s. IsUnmarkedIn (disk_of g disk) xs s ⊎ IsUnmarkedIn (disk_of g disk) ys s) (IsUnmarkedIn (disk_of g disk) (xs ++ ys))
       (λ s h. ⊎_elim (λ l. (has_left xs ys s l.0, l.1)) (λ r. (has_right xs ys s r.0, r.1)) h)
@@ -27,14 +29,20 @@ module _ (g : Geometry) (disk : ℕ → List ℕ) where
   pub unmarked_none : IsLeast (IsUnmarkedIn (disk_of g disk) []) None
   unmarked_none = λ s h. false≢true h.0
 
-  pub unmarked_more : (runs : List (ℕ × ℕ)) (i : ℕ) (one : Option ℕ) (least both : Option ℕ) → i < length runs → IsLeast (IsUnmarkedIn (disk_of g disk) (sectors_of (take i runs))) least → IsLeast (IsUnmarkedIn (disk_of g disk) (segment_sectors (get_or runs i (0, 0)))) one → both ≡ lesser_of least one
+  pub unmarked_more : (runs : List (ℕ × ℕ)) (i : ℕ) (one : Option ℕ) (least both : Option ℕ) → i < length runs
+      → IsLeast (IsUnmarkedIn (disk_of g disk) (sectors_of (take i runs))) least
+      → IsLeast (IsUnmarkedIn (disk_of g disk) (segment_sectors (get_or runs i (0, 0)))) one → both ≡ lesser_of least
+      one
       → IsLeast (IsUnmarkedIn (disk_of g disk) (sectors_of (take (i + 1) runs))) both
   unmarked_more runs i one least both low before here is =
       let P : List ℕ → Type 0 = λ xs. IsLeast (IsUnmarkedIn (disk_of g disk) xs) both in
       subst P (sectors_more runs i low) (unmarked_then (sectors_of (take i runs)) (segment_sectors (get_or runs i (0, 0))) least one both before here is)
 
   -- and of all that are in use
-  pub least_unmarked_is : (found : List ℕ) → IsFound (disk_of g disk) found → (i : ℕ) → i ≡ length found → (least : Option ℕ) → IsLeast (Before (λ k. IsUnmarkedIn (disk_of g disk) (used_by (disk_of g disk) (get_or found k 0))) i) least → IsLeastBreach (disk_of g disk) 3 least
+  pub least_unmarked_is : (found : List ℕ) → IsFound (disk_of g disk) found → (i : ℕ) → i ≡ length found
+      → (least : Option ℕ) → IsLeast
+      (Before (λ k. IsUnmarkedIn (disk_of g disk) (used_by (disk_of g disk) (get_or found k 0))) i) least
+      → IsLeastBreach (disk_of g disk) 3 least
   unfolding owns
   least_unmarked_is found are i all least is =
       least_along (λ s. (n : ℕ) × (has found n ≡ true) × IsUnmarkedIn (disk_of g disk) (used_by (disk_of g disk) n) s) (Breaks (disk_of g disk) 3)

@@ -13,7 +13,8 @@ pub record HoldsList (segments : List (ℕ × ℕ)) (inside : Inside) : Type 0 w
   pub list : take inside.len inside.places ≡ segments
   pub kept : HoldsSegments inside
 
-pub hold : (segments places : List (ℕ × ℕ)) (len : ℕ) → length segments ≤ 48 → All IsSegment segments → places ≡ in_places segments → len ≡ length segments → HoldsList segments (record { places = places; len = len })
+pub hold : (segments places : List (ℕ × ℕ)) (len : ℕ) → length segments ≤ 48 → All IsSegment segments
+    → places ≡ in_places segments → len ≡ length segments → HoldsList segments (record { places = places; len = len })
 hold segments places len few each zeros counted =
     let list : take len places ≡ segments = rw (zeros, counted) (take_at segments (replicate (48 - length segments) (0, 0)) (length segments) (λ _. length segments)) in
     record {
@@ -55,9 +56,13 @@ module _ (inside : Inside) (fits : HoldsSegments inside) (run : ℕ × ℕ) (who
       let counted = fits.counted in
       let length_now = length-append segments (run ∷ []) in
       let place_is : place ≡ length segments = omega arith in
-      hold (segments ++ run ∷ []) (set inside.places place run) (inside.len + 1) (omega arith) (All-push IsSegment segments run fits.each whole) (ap (λ p. set p place run) fits.zeros ∙ ap (λ n. set (in_places segments) n run) place_is ∙ in_places-push segments run (omega arith)) (omega arith)
+      hold (segments ++ run ∷ []) (set inside.places place run) (inside.len + 1) (omega arith)
+      (All-push IsSegment segments run fits.each whole) (ap (λ p. set p place run) fits.zeros ∙ ap
+      (λ n. set (in_places segments) n run) place_is ∙ in_places-push segments run (omega arith)) (omega arith)
 
-  pub replaced : place ≡ inside.len - 1 → 1 ≤ inside.len → HoldsList (take (length (take inside.len inside.places) - 1) (take inside.len inside.places) ++ run ∷ []) (record { places = set inside.places place run; len = inside.len })
+  pub replaced : place ≡ inside.len - 1 → 1 ≤ inside.len
+      → HoldsList (take (length (take inside.len inside.places) - 1) (take inside.len inside.places) ++ run ∷ [])
+      (record { places = set inside.places place run; len = inside.len })
   replaced last some =
       let segments = take inside.len inside.places in
       let counted = fits.counted in
@@ -65,9 +70,15 @@ module _ (inside : Inside) (fits : HoldsSegments inside) (run : ℕ × ℕ) (who
       let few = fits.few in
       let length_now : length (front ++ run ∷ []) ≡ length segments = omega (arith, length-append front (run ∷ []), length-take-le (length segments - 1) segments (omega arith)) in
       let place_is : place ≡ length segments - 1 = omega arith in
-      hold (front ++ run ∷ []) (set inside.places place run) inside.len (omega arith) (All-push IsSegment front run (All-take IsSegment (length segments - 1) segments fits.each) whole) (ap (λ p. set p place run) fits.zeros ∙ ap (λ n. set (in_places segments) n run) place_is ∙ in_places-last segments run (omega arith)) (omega arith)
+      hold (front ++ run ∷ []) (set inside.places place run) inside.len (omega arith) (All-push IsSegment front run
+      (All-take IsSegment (length segments - 1) segments fits.each) whole) (ap (λ p. set p place run) fits.zeros ∙
+      ap (λ n. set (in_places segments) n run) place_is ∙ in_places-last segments run (omega arith)) (omega arith)
 
-pub cut_short : (inside : Inside) (fits : HoldsSegments inside) (sectors : ℕ) (places : List (ℕ × ℕ)) (len : ℕ) → sectors ≤ length (sectors_of (take inside.len inside.places)) → places ≡ shortened_segments sectors inside.places ++ replicate (length inside.places - len) (0, 0) → len ≡ length (shortened_segments sectors inside.places) → HoldsList (shortened_segments sectors (take inside.len inside.places)) (record { places = places; len = len })
+pub cut_short : (inside : Inside) (fits : HoldsSegments inside) (sectors : ℕ) (places : List (ℕ × ℕ)) (len : ℕ)
+    → sectors ≤ length (sectors_of (take inside.len inside.places)) → places ≡ shortened_segments sectors
+    inside.places ++ replicate (length inside.places - len) (0, 0)
+    → len ≡ length (shortened_segments sectors inside.places)
+    → HoldsList (shortened_segments sectors (take inside.len inside.places)) (record { places = places; len = len })
 cut_short inside fits sectors places len within cut counted =
     let segments = take inside.len inside.places in
     let zero : ℕ × ℕ = (0, 0) in
@@ -78,4 +89,6 @@ cut_short inside fits sectors places len within cut counted =
     let same : shortened_segments sectors inside.places ≡ kept = ap (shortened_segments sectors) fits.zeros ∙ shortened-append sectors segments (replicate (48 - length segments) zero) within in
     let len_is : len ≡ length kept = counted ∙ ap length same in
     let behind : length inside.places - len ≡ 48 - length kept = omega arith in
-    hold kept places len (omega (arith, length-shortened sectors segments)) (All-shortened sectors segments fits.each) (cut ∙ ap (λ front. front ++ replicate (length inside.places - len) zero) same ∙ ap (λ n. kept ++ replicate n zero) behind) len_is
+    hold kept places len (omega (arith, length-shortened sectors segments)) (All-shortened sectors segments fits.each)
+    (cut ∙ ap (λ front. front ++ replicate (length inside.places - len) zero) same ∙ ap
+    (λ n. kept ++ replicate n zero) behind) len_is

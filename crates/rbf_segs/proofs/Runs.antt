@@ -26,7 +26,9 @@ sectors_of-push runs segment =
 -- the count of sectors, one run further
 pub length-sectors_of_more : (runs : List (ℕ × ℕ)) (i : ℕ) (d : ℕ × ℕ) → i < length runs → length (sectors_of (take (i + 1) runs)) ≡ length (sectors_of (take i runs)) + (get_or runs i d).1
 length-sectors_of_more runs i d within =
-    ap (λ s. length (sectors_of s)) (take_more runs i d within) ∙ ap length (sectors_of-push (take i runs) (get_or runs i d)) ∙ length-append (sectors_of (take i runs)) (segment_sectors (get_or runs i d)) ∙ ap (λ n. length (sectors_of (take i runs)) + n) (length-run (get_or runs i d))
+    ap (λ s. length (sectors_of s)) (take_more runs i d within) ∙ ap length (sectors_of-push (take i runs)
+    (get_or runs i d)) ∙ length-append (sectors_of (take i runs)) (segment_sectors (get_or runs i d)) ∙ ap
+    (λ n. length (sectors_of (take i runs)) + n) (length-run (get_or runs i d))
 
 -- a place in the first run, and one behind it
 pub slice_get-in_run : (lsn count place : ℕ) (rest : List ℕ) → place < count → slice_get (range_with_len lsn count ++ rest) place ≡ Some (lsn + place)
@@ -46,7 +48,9 @@ pub sector_in_run : (runs : List (ℕ × ℕ)) (i left : ℕ) (d : ℕ × ℕ) �
 sector_in_run runs i left d within inside =
     ap (λ r. slice_get (sectors_of r) left) (drop_more runs i d within) ∙ slice_get-in_run _ _ left _ inside
 
-pub sector_past_run : (runs : List (ℕ × ℕ)) (i left : ℕ) (d : ℕ × ℕ) → i < length runs → (get_or runs i d).1 ≤ left → slice_get (sectors_of (drop i runs)) left ≡ slice_get (sectors_of (drop (i + 1) runs)) (left - (get_or runs i d).1)
+pub sector_past_run : (runs : List (ℕ × ℕ)) (i left : ℕ) (d : ℕ × ℕ) → i < length runs → (get_or runs i d).1 ≤ left
+    → slice_get (sectors_of (drop i runs)) left ≡ slice_get (sectors_of (drop (i + 1) runs))
+    (left - (get_or runs i d).1)
 sector_past_run runs i left d within past =
     ap (λ r. slice_get (sectors_of r) left) (drop_more runs i d within) ∙ slice_get-past_run _ _ left _ past
 
@@ -82,7 +86,9 @@ cut_places_is (suc n) (segment ∷ runs) =
     let cut_is : cut_places (suc n) (segment ∷ runs) ≡ front ∷ cut_places (suc n - segment.1) runs = ap (λ r. r ∷ cut_places (suc n - segment.1) runs) (at_some (suc n) (0, 0) front some) in
     let left_is : shortened_segments (suc n) (segment ∷ runs) ≡ front ∷ rest = at_some (suc n) [] (front ∷ rest) some in
     let zeros : length runs - length rest ≡ length (segment ∷ runs) - length (front ∷ rest) = omega arith in
-    cut_is ∙ ap (λ places. front ∷ places) (cut_places_is (suc n - segment.1) runs) ∙ ap (λ k. (front ∷ rest) ++ replicate k (0, 0)) zeros ∙ ap (λ r. r ++ replicate (length (segment ∷ runs) - length r) (0, 0)) (sym left_is)
+    cut_is ∙ ap (λ places. front ∷ places) (cut_places_is (suc n - segment.1) runs) ∙ ap
+    (λ k. (front ∷ rest) ++ replicate k (0, 0)) zeros ∙ ap
+    (λ r. r ++ replicate (length (segment ∷ runs) - length r) (0, 0)) (sym left_is)
 
 shortened-none : (runs : List (ℕ × ℕ)) → shortened_segments 0 runs ≡ []
 shortened-none [] = refl
@@ -95,11 +101,14 @@ pub record IsCutTo (old places : List (ℕ × ℕ)) (sectors i left runs : ℕ) 
   pub counted : runs + length (shortened_segments left (drop i old)) ≡ length (shortened_segments sectors old)
   pub few : runs ≤ i
 
-pub IsCutTo-same : {old places places' : List (ℕ × ℕ)} {sectors i left left' runs runs' : ℕ} → places' ≡ places → left' ≡ left → runs' ≡ runs → IsCutTo old places sectors i left runs → IsCutTo old places' sectors i left' runs'
+pub IsCutTo-same : {old places places' : List (ℕ × ℕ)} {sectors i left left' runs runs' : ℕ} → places' ≡ places
+    → left' ≡ left → runs' ≡ runs → IsCutTo old places sectors i left runs → IsCutTo old places' sectors i left' runs'
 IsCutTo-same same_places same_left same_runs cutting = rw (same_places, same_left, same_runs) cutting
 
 -- all the places
-pub cut_all : (old places : List (ℕ × ℕ)) (sectors i left runs : ℕ) → IsCutTo old places sectors i left runs → length places ≡ length old → length old ≤ i → (places ≡ shortened_segments sectors old ++ replicate (length old - runs) (0, 0)) × (runs ≡ length (shortened_segments sectors old))
+pub cut_all : (old places : List (ℕ × ℕ)) (sectors i left runs : ℕ) → IsCutTo old places sectors i left runs
+    → length places ≡ length old → length old ≤ i → (places ≡ shortened_segments sectors old ++ replicate
+    (length old - runs) (0, 0)) × (runs ≡ length (shortened_segments sectors old))
 cut_all old places sectors i left runs cutting same_length all =
     let past : drop i old ≡ [] = drop_all i old all in
     let none : length (shortened_segments left (drop i old)) ≡ 0 = ap (λ r. length (shortened_segments left r)) past in
@@ -131,10 +140,14 @@ module _ (old places : List (ℕ × ℕ)) (sectors i left runs : ℕ) (d : ℕ �
       let rest = drop (i + 1) old in
       record {
         cut =
-            front_is kept (cut_places (left - segment.1) rest) ∙ ap (λ r. take i places ++ r) (ap (λ r. r ∷ cut_places (left - segment.1) rest) (sym (at_some left (0, 0) kept some)) ∙ ap (cut_places left) (sym rest_is)) ∙ cutting.cut;
+            front_is kept (cut_places (left - segment.1) rest) ∙ ap (λ r. take i places ++ r)
+            (ap (λ r. r ∷ cut_places (left - segment.1) rest) (sym (at_some left (0, 0) kept some)) ∙ ap
+            (cut_places left) (sym rest_is)) ∙ cutting.cut;
         rest = rest_kept kept;
         counted =
-            let now : length (shortened_segments left (drop i old)) ≡ suc (length (shortened_segments (left - segment.1) rest)) = ap (λ r. length (shortened_segments left r)) rest_is ∙ ap length (at_some left [] (kept ∷ shortened_segments (left - segment.1) rest) some) in
+            let now : length (shortened_segments left (drop i old)) ≡ suc
+            (length (shortened_segments (left - segment.1) rest)) = ap (λ r. length (shortened_segments left r))
+            rest_is ∙ ap length (at_some left [] (kept ∷ shortened_segments (left - segment.1) rest) some) in
             omega (arith, cutting.counted);
         few = omega (arith, cutting.few);
       }
@@ -146,7 +159,9 @@ module _ (old places : List (ℕ × ℕ)) (sectors i left runs : ℕ) (d : ℕ �
       let zero_left : 0 - segment.1 ≡ 0 = omega arith in
       record {
         cut =
-            front_is (0, 0) (cut_places 0 rest) ∙ ap (λ r. take i places ++ (0, 0) ∷ cut_places r rest) (sym zero_left) ∙ ap (λ n. take i places ++ cut_places n (segment ∷ rest)) (sym none) ∙ ap (λ r. take i places ++ cut_places left r) (sym rest_is) ∙ cutting.cut;
+            front_is (0, 0) (cut_places 0 rest) ∙ ap (λ r. take i places ++ (0, 0) ∷ cut_places r rest)
+            (sym zero_left) ∙ ap (λ n. take i places ++ cut_places n (segment ∷ rest)) (sym none) ∙ ap
+            (λ r. take i places ++ cut_places left r) (sym rest_is) ∙ cutting.cut;
         rest = rest_kept (0, 0);
         counted =
             let all_cut : length (shortened_segments left (drop i old)) ≡ 0 = ap (λ n. length (shortened_segments n (drop i old))) none ∙ ap length (shortened-none (drop i old)) in
@@ -163,7 +178,9 @@ front_and_last runs d some =
     sym (take_all (n + 1) runs all) ∙ take_more runs n d (omega arith)
 
 -- the last sector of all is the last of the last run
-pub last_sector_is : (runs : List (ℕ × ℕ)) (d : ℕ × ℕ) → 1 ≤ length runs → 1 ≤ (get_or runs (length runs - 1) d).1 → slice_get (sectors_of runs) (length (sectors_of runs) - 1) ≡ Some ((get_or runs (length runs - 1) d).0 + ((get_or runs (length runs - 1) d).1 - 1))
+pub last_sector_is : (runs : List (ℕ × ℕ)) (d : ℕ × ℕ) → 1 ≤ length runs → 1 ≤ (get_or runs (length runs - 1) d).1
+    → slice_get (sectors_of runs) (length (sectors_of runs) - 1) ≡ Some ((get_or runs (length runs - 1) d).0 +
+    ((get_or runs (length runs - 1) d).1 - 1))
 last_sector_is runs d some has =
     let n = length runs - 1 in
     let segment = get_or runs n d in
@@ -172,7 +189,10 @@ last_sector_is runs d some has =
     let all : sectors_of runs ≡ front ++ segment_sectors segment = ap sectors_of (front_and_last runs d some) ∙ sectors_of-push (take n runs) segment in
     let len : length (front ++ segment_sectors segment) ≡ length front + segment.1 = omega (arith, length-append front (segment_sectors segment), length-run segment) in
     let place : length (front ++ segment_sectors segment) - 1 ≡ length front + k = omega arith in
-    ap (λ xs. slice_get xs (length xs - 1)) all ∙ ap (slice_get (front ++ segment_sectors segment)) place ∙ slice_get-get_or (front ++ segment_sectors segment) (length front + k) 0 (omega arith) ∙ ap Some (get_or-append-add front (segment_sectors segment) k 0 ∙ get_or-range_with_len segment.0 segment.1 k 0 (omega arith))
+    ap (λ xs. slice_get xs (length xs - 1)) all ∙ ap (slice_get (front ++ segment_sectors segment)) place ∙
+    slice_get-get_or (front ++ segment_sectors segment) (length front + k) 0 (omega arith) ∙ ap Some
+    (get_or-append-add front (segment_sectors segment) k 0 ∙ get_or-range_with_len segment.0 segment.1 k 0
+    (omega arith))
 
 module _ (lsn count : ℕ) where
   joined_to : ℕ × ℕ → ℕ × ℕ
@@ -183,7 +203,9 @@ module _ (lsn count : ℕ) where
   cond-cons false segment a b = refl
 
   -- sectors behind a list whose last run is known
-  pub appended-push : (front : List (ℕ × ℕ)) (segment : ℕ × ℕ) → appended_segments (front ++ segment ∷ []) lsn count ≡ cond (joins segment lsn count) (front ++ (segment.0, segment.1 + count) ∷ []) (front ++ segment ∷ (lsn, count) ∷ [])
+  pub appended-push : (front : List (ℕ × ℕ)) (segment : ℕ × ℕ) → appended_segments (front ++ segment ∷ []) lsn count ≡
+      cond (joins segment lsn count) (front ++ (segment.0, segment.1 + count) ∷ []) (front ++ segment ∷ (lsn, count) ∷
+      [])
   appended-push [] segment = refl
   appended-push (x ∷ []) segment = cond-cons (joins segment lsn count) x _ _
   appended-push (x ∷ y ∷ front) segment =
@@ -201,7 +223,8 @@ last_is runs segment some last =
     front_and_last runs segment some ∙ ap (λ r. take (length runs - 1) runs ++ r ∷ []) (sym last)
 
 -- the last run has room
-pub lengthens : (runs : List (ℕ × ℕ)) (segment : ℕ × ℕ) (lsn count : ℕ) → IsLast runs segment → segment.0 + segment.1 ≡ lsn → segment.1 + count < 65536 → All IsSegment runs → Lengthens runs lsn count (segment.0, segment.1 + count)
+pub lengthens : (runs : List (ℕ × ℕ)) (segment : ℕ × ℕ) (lsn count : ℕ) → IsLast runs segment → segment.0 + segment.1
+    ≡ lsn → segment.1 + count < 65536 → All IsSegment runs → Lengthens runs lsn count (segment.0, segment.1 + count)
 lengthens runs segment lsn count found follows room each =
     let n = length runs - 1 in
     let inside = slice_get_within runs n segment (sym found) in
@@ -212,7 +235,9 @@ lengthens runs segment lsn count found follows room each =
     record {
       some = some;
       list =
-          ap (λ r. appended_segments r lsn count) split ∙ appended-push lsn count (take n runs) segment ∙ ap (λ test. cond test (take n runs ++ (segment.0, segment.1 + count) ∷ []) (take n runs ++ segment ∷ (lsn, count) ∷ [])) (joins_true lsn count segment follows room);
+          ap (λ r. appended_segments r lsn count) split ∙ appended-push lsn count (take n runs) segment ∙ ap
+          (λ test. cond test (take n runs ++ (segment.0, segment.1 + count) ∷ [])
+          (take n runs ++ segment ∷ (lsn, count) ∷ [])) (joins_true lsn count segment follows room);
       whole = record { lsn = whole.lsn; some = omega (arith, whole.some); count = room };
     }
 
@@ -224,7 +249,10 @@ adds_run runs segment lsn count found apart =
     let some : 1 ≤ length runs = omega arith in
     let last = sym (get_or_from_slice_get runs n segment segment (sym found)) in
     let split = last_is runs segment some last in
-    ap (λ r. appended_segments r lsn count) split ∙ appended-push lsn count (take n runs) segment ∙ ap (λ test. cond test (take n runs ++ (segment.0, segment.1 + count) ∷ []) (take n runs ++ segment ∷ (lsn, count) ∷ [])) apart ∙ sym (append_assoc (take n runs) (segment ∷ []) ((lsn, count) ∷ [])) ∙ ap (λ r. r ++ (lsn, count) ∷ []) (sym split)
+    ap (λ r. appended_segments r lsn count) split ∙ appended-push lsn count (take n runs) segment ∙ ap
+    (λ test. cond test (take n runs ++ (segment.0, segment.1 + count) ∷ []) (take n runs ++ segment ∷ (lsn, count)
+    ∷ [])) apart ∙ sym (append_assoc (take n runs) (segment ∷ []) ((lsn, count) ∷ [])) ∙ ap
+    (λ r. r ++ (lsn, count) ∷ []) (sym split)
 
 range_with_len-append : (a m n : ℕ) → range_with_len a (m + n) ≡ range_with_len a m ++ range_with_len (a + m) n
 range_with_len-append a zero n =
@@ -253,13 +281,18 @@ take-run (suc n) a (suc count) rest =
 joins-follows : (segment : ℕ × ℕ) (lsn count : ℕ) → joins segment lsn count ≡ true → segment.0 + segment.1 ≡ lsn
 joins-follows segment lsn count joined = grind (arith, nat_tests)
 
-sectors_of-joined : (segment : ℕ × ℕ) (lsn count : ℕ) (test : Bool) → joins segment lsn count ≡ test → sectors_of (cond test ((segment.0, segment.1 + count) ∷ []) (segment ∷ (lsn, count) ∷ [])) ≡ sectors_of (segment ∷ []) ++ segment_sectors (lsn, count)
+sectors_of-joined : (segment : ℕ × ℕ) (lsn count : ℕ) (test : Bool) → joins segment lsn count ≡ test
+    → sectors_of (cond test ((segment.0, segment.1 + count) ∷ []) (segment ∷ (lsn, count) ∷ [])) ≡ sectors_of
+    (segment ∷ []) ++ segment_sectors (lsn, count)
 sectors_of-joined segment lsn count true joined =
-    append_nil _ ∙ range_with_len-append segment.0 segment.1 count ∙ ap (λ b. segment_sectors segment ++ range_with_len b count) (joins-follows segment lsn count joined) ∙ ap (λ front. front ++ segment_sectors (lsn, count)) (sym (append_nil (segment_sectors segment)))
+    append_nil _ ∙ range_with_len-append segment.0 segment.1 count ∙ ap (λ b. segment_sectors segment ++
+    range_with_len b count) (joins-follows segment lsn count joined) ∙ ap (λ front. front ++ segment_sectors
+    (lsn, count)) (sym (append_nil (segment_sectors segment)))
 sectors_of-joined segment lsn count false apart =
     ap (λ rest. segment_sectors segment ++ rest) (append_nil (segment_sectors (lsn, count))) ∙ ap (λ front. front ++ segment_sectors (lsn, count)) (sym (append_nil (segment_sectors segment)))
 
-pub last_sector_found : (runs : List (ℕ × ℕ)) (segment : ℕ × ℕ) → IsLast runs segment → All IsSegment runs → Some (segment.0 + segment.1 - 1) ≡ slice_get (sectors_of runs) (length (sectors_of runs) - 1)
+pub last_sector_found : (runs : List (ℕ × ℕ)) (segment : ℕ × ℕ) → IsLast runs segment → All IsSegment runs
+    → Some (segment.0 + segment.1 - 1) ≡ slice_get (sectors_of runs) (length (sectors_of runs) - 1)
 last_sector_found runs segment found each =
     let n = length runs - 1 in
     let inside = slice_get_within runs n segment (sym found) in
@@ -291,7 +324,8 @@ sectors_of-shortened (suc n) (segment ∷ runs) =
     let left = suc n - segment.1 in
     let front : ℕ × ℕ = (segment.0, min (suc n) segment.1) in
     let some : 0 < suc n = omega arith in
-    ap sectors_of (at_some (suc n) [] (front ∷ shortened_segments left runs) some) ∙ ap (λ rest. segment_sectors front ++ rest) (sectors_of-shortened left runs) ∙ sym (take-run (suc n) segment.0 segment.1 (sectors_of runs))
+    ap sectors_of (at_some (suc n) [] (front ∷ shortened_segments left runs) some) ∙ ap (λ rest. segment_sectors front
+    ++ rest) (sectors_of-shortened left runs) ∙ sym (take-run (suc n) segment.0 segment.1 (sectors_of runs))
 
 -- no more of a list is seen than the sectors that are kept
 pub shortened-append : (n : ℕ) (runs more : List (ℕ × ℕ)) → n ≤ length (sectors_of runs) → shortened_segments n (runs ++ more) ≡ shortened_segments n runs
@@ -304,7 +338,8 @@ shortened-append (suc n) (segment ∷ runs) more within =
     let front : ℕ × ℕ = (segment.0, min (suc n) segment.1) in
     let some : 0 < suc n = omega arith in
     let fits : left ≤ length (sectors_of runs) = omega (arith, length-append (segment_sectors segment) (sectors_of runs), length-run segment) in
-    at_some (suc n) [] (front ∷ shortened_segments left (runs ++ more)) some ∙ ap (λ rest. front ∷ rest) (shortened-append left runs more fits) ∙ sym (at_some (suc n) [] (front ∷ shortened_segments left runs) some)
+    at_some (suc n) [] (front ∷ shortened_segments left (runs ++ more)) some ∙ ap (λ rest. front ∷ rest)
+    (shortened-append left runs more fits) ∙ sym (at_some (suc n) [] (front ∷ shortened_segments left runs) some)
 
 -- runs cut off are runs
 pub All-shortened : (n : ℕ) (runs : List (ℕ × ℕ)) → All IsSegment runs → All IsSegment (shortened_segments n runs)
@@ -316,7 +351,9 @@ All-shortened (suc n) (segment ∷ runs) each =
     let some : 0 < suc n = omega arith in
     let whole = All-head IsSegment segment runs each in
     let kept : IsSegment front = record { lsn = whole.lsn; some = omega (arith, whole.some); count = omega (arith, whole.count) } in
-    All-same IsSegment _ _ (at_some (suc n) [] (front ∷ shortened_segments left runs) some) (All-cons IsSegment front (shortened_segments left runs) kept (All-shortened left runs (All-tail IsSegment segment runs each)))
+    All-same IsSegment _ _ (at_some (suc n) [] (front ∷ shortened_segments left runs) some)
+    (All-cons IsSegment front (shortened_segments left runs) kept
+    (All-shortened left runs (All-tail IsSegment segment runs each)))
 
 -- a list cut off has no more runs
 pub length-shortened : (n : ℕ) (runs : List (ℕ × ℕ)) → length (shortened_segments n runs) ≤ length runs

@@ -112,11 +112,16 @@ record Asks (caller : Caller) (io : Io) (bytes : List ℕ) : Type 0 where
   count : option_map_or (λ (kept : Kept). kept.count) (kept_at io caller.process.0) (length bytes) ≡ length bytes
   moved : moved_before caller io ≤ length bytes
 
-asks-by : (call : IoCall) (caller : Caller) (io : Io) (bytes : List ℕ) → ((kept : Kept) → kept_at io caller.process.0 ≡ Some kept → KeepsCount call caller.regs kept.count → kept.count ≡ length bytes) → IsAgain call caller.regs io caller.process.0 → Asks caller io bytes
+asks-by : (call : IoCall) (caller : Caller) (io : Io) (bytes : List ℕ)
+    → ((kept : Kept) → kept_at io caller.process.0 ≡ Some kept → KeepsCount call caller.regs kept.count
+    → kept.count ≡ length bytes) → IsAgain call caller.regs io caller.process.0 → Asks caller io bytes
 asks-by call caller io bytes all again =
     let it = by_kept (kept_at io caller.process.0) all again in record { count = it.0; moved = it.1 }
   where
-    by_kept : (place : Option Kept) → ((kept : Kept) → place ≡ Some kept → KeepsCount call caller.regs kept.count → kept.count ≡ length bytes) → IfSome place (IsKept call caller.regs io caller.process.0) → (option_map_or (λ (kept : Kept). kept.count) place (length bytes) ≡ length bytes) × (option_map_or (λ (kept : Kept). kept.moved) place 0 ≤ length bytes)
+    by_kept : (place : Option Kept) → ((kept : Kept) → place ≡ Some kept → KeepsCount call caller.regs kept.count
+        → kept.count ≡ length bytes) → IfSome place (IsKept call caller.regs io caller.process.0)
+        → (option_map_or (λ (kept : Kept). kept.count) place (length bytes) ≡ length bytes) ×
+        (option_map_or (λ (kept : Kept). kept.moved) place 0 ≤ length bytes)
     by_kept None all again = (refl, omega arith)
     by_kept (Some kept) all again =
         let same : kept.count ≡ length bytes = all kept refl again.count in
@@ -167,9 +172,15 @@ module _ (call : IoCall) (caller : Caller) (io : Io) (drives terms : ℕ) where
 
     slot-none : (n : ℕ) → path_number call caller.regs ≡ n → slot_of io.paths caller.process.0 n ≡ None → Cause E_BPNUM
     slot-none n at none =
-        path-none (ap (open_path io caller.process.0) at ∙ ap (λ (place : Option SysPath). option_and_then (λ (s : SysPath). option_map (λ (desc : Desc). let it : OpenPath = record { path = s; desc = desc } in it) (desc_of io.paths s.0)) place) none)
+        path-none (ap (open_path io caller.process.0) at ∙ ap (λ (place : Option SysPath). option_and_then
+        (λ (s : SysPath). option_map (λ (desc : Desc). let it : OpenPath = record { path = s; desc = desc } in it)
+        (desc_of io.paths s.0)) place) none)
 
-    on-path-known : (n : ℕ) → path_number call caller.regs ≡ n → (is_allowed : ℕ → Bool) (next : OpenPath → IoStep) → ((opened : OpenPath) → open_path io caller.process.0 (path_number call caller.regs) ≡ Some opened → is_allowed opened.desc.mode ≡ false → LacksMode call caller io) → ((opened : OpenPath) → open_path io caller.process.0 (path_number call caller.regs) ≡ Some opened → Known (next opened)) → Known (on_path caller io n is_allowed next)
+    on-path-known : (n : ℕ) → path_number call caller.regs ≡ n → (is_allowed : ℕ → Bool) (next : OpenPath → IoStep)
+        → ((opened : OpenPath) → open_path io caller.process.0 (path_number call caller.regs) ≡ Some opened
+        → is_allowed opened.desc.mode ≡ false → LacksMode call caller io)
+        → ((opened : OpenPath) → open_path io caller.process.0 (path_number call caller.regs) ≡ Some opened
+        → Known (next opened)) → Known (on_path caller io n is_allowed next)
     on-path-known n at is_allowed next mode known =
         of-needs (open_path io caller.process.0 n) E_BPNUM (λ opened. refuses (not (is_allowed opened.desc.mode)) E_BMODE (next opened))
         (λ none. path-none (ap (open_path io caller.process.0) at ∙ none))
@@ -188,7 +199,9 @@ module _ (call : IoCall) (caller : Caller) (io : Io) (drives terms : ℕ) where
     LeadKnown list to_pipe = device_at drives terms list ≡ Some Device.Pipe
     LeadKnown list (nowhere number) = Cause number
 
-    full : (number path : Option ℕ) → free_number io.paths caller.process.0 ≡ number → free_path io.paths ≡ path → option_and_then (λ (n : ℕ). option_map (λ (s : ℕ). n) path) number ≡ None → IsFull call caller io drives terms
+    full : (number path : Option ℕ) → free_number io.paths caller.process.0 ≡ number → free_path io.paths ≡ path
+        → option_and_then (λ (n : ℕ). option_map (λ (s : ℕ). n) path) number ≡ None → IsFull call caller io drives
+        terms
     full None path number_is path_is none = numbers (inr some) number_is
     full (Some number) None number_is path_is none = paths some path_is
     full (Some number) (Some path) number_is path_is none = absurd (none-some number (sym none))
@@ -222,7 +235,9 @@ module _ (call : IoCall) (caller : Caller) (io : Io) (drives terms : ℕ) where
           by_names false none =
               no_module refl (record { search = search; list = list; looks = looks_for; starts = starts at; none = inr (drive, at) })
 
-      behind-device : (device : Dev) → device_at drives terms list ≡ Some device → IsNoDrive device → (lead : Lead) → LeadKnown list lead → (slash : Bool) → has_slash_behind_device list ≡ slash → LeadKnown list (if slash then nowhere E_BPNAM else lead)
+      behind-device : (device : Dev) → device_at drives terms list ≡ Some device → IsNoDrive device → (lead : Lead)
+          → LeadKnown list lead → (slash : Bool) → has_slash_behind_device list ≡ slash
+          → LeadKnown list (if slash then nowhere E_BPNAM else lead)
       behind-device device at other lead known true slash =
           bad_path_name refl (behind search list device looks_for at other slash)
       behind-device device at other lead known false slash = known
@@ -258,10 +273,13 @@ module _ (call : IoCall) (caller : Caller) (io : Io) (drives terms : ℕ) where
           (λ pipe is. begun-known list (with_paths (with_pipes io (pipes_after_begin io.pipes)) (paths_after_begin io.paths caller.process.0 (new_desc (Pipe pipe) caller.regs.a))))
       opens-known (nowhere number) known = known
 
-    open-known : (allowed : Bool) → (allowed ≡ false → LacksMode call caller io) → (path_list caller.cells caller.regs.x ≡ Err Unreadable → IsUnreadable call caller io) → Known (opens search allowed caller io drives terms)
+    open-known : (allowed : Bool) → (allowed ≡ false → LacksMode call caller io)
+        → (path_list caller.cells caller.regs.x ≡ Err Unreadable → IsUnreadable call caller io)
+        → Known (opens search allowed caller io drives terms)
     open-known allowed mode unreadable = by_list (path_list caller.cells caller.regs.x) refl
       where
-        by_list : (list : Result PathList NameFault) → path_list caller.cells caller.regs.x ≡ list → Known (reads_list list allowed (λ list. opens_lead caller io list (lead_of search drives terms list)))
+        by_list : (list : Result PathList NameFault) → path_list caller.cells caller.regs.x ≡ list
+            → Known (reads_list list allowed (λ list. opens_lead caller io list (lead_of search drives terms list)))
         by_list (Ok list) is =
             of-refuses (not allowed) E_BMODE (opens_lead caller io list (lead_of search drives terms list)) (λ no. bad_mode refl (mode (not-true allowed no)))
             (λ allows. opens-known list is (lead_of search drives terms list) (lead-known list is))
@@ -314,93 +332,113 @@ module _ (call : IoCall) (caller : Caller) (io : Io) (drives terms : ℕ) where
 
   -- ---- reads
 
-  module _ (by_number : search_of call ≡ None) (at_a : path_number call caller.regs ≡ caller.regs.a) (way : direction_of_call call ≡ Some Reading) (kind : ReadKind) (kind_is : kind_of call ≡ Some kind) (code : ℕ) where
-    module _ (pipe : ℕ) (on : IsOn call caller io (Pipe pipe)) where
-      -- the caller is alone, and has moved no byte of a line
-      record IsEnded (now : Kept) : Type 0 where
-        path : now.path ≡ path_of caller io on.opened
-        alone : is_alone io caller.process.0 now.path.0 Reading ≡ true
-        unmoved : call ≡ Call.ReadLn → moved_before caller io ≡ 0
+  module _ (by_number : search_of call ≡ None) (at_a : path_number call caller.regs ≡ caller.regs.a)
+      (way : direction_of_call call ≡ Some Reading) (kind : ReadKind) (kind_is : kind_of call ≡ Some kind) (code : ℕ)
+    where
+      module _ (pipe : ℕ) (on : IsOn call caller io (Pipe pipe)) where
+        -- the caller is alone, and has moved no byte of a line
+        record IsEnded (now : Kept) : Type 0 where
+          path : now.path ≡ path_of caller io on.opened
+          alone : is_alone io caller.process.0 now.path.0 Reading ≡ true
+          unmoved : call ≡ Call.ReadLn → moved_before caller io ≡ 0
 
-      finds-none : (now : Kept) → IsEnded now → (length (pipe_bytes io pipe) == 0) ≡ true → (before after : List TerminalState) → after ≡ before → FindsNoByte call caller io (with_call (with_pipe_bytes io pipe (pipe_bytes io pipe)) caller.process.0 None) before after
-      finds-none now ended empty before after same = record {
-        pipe = pipe;
-        on = on;
-        reads = way;
-        empty = empty-list (pipe_bytes io pipe) empty;
-        alone =
-            ap (λ (path : SysPath). is_alone io caller.process.0 path.0 Reading) (sym ended.path) ∙ ended.alone;
-        unmoved = ended.unmoved;
-        still =
-            ap (λ (bytes : List ℕ). on_pipe io pipe bytes caller.process.0) (empty-list (pipe_bytes io pipe) empty);
-        nothing =
-            λ lives. record { now = ap (λ (io : Io). with_call io caller.process.0 None) (put-back pipe lives); same = same };
-        same = same;
-      }
+        finds-none : (now : Kept) → IsEnded now → (length (pipe_bytes io pipe) == 0) ≡ true
+            → (before after : List TerminalState) → after ≡ before → FindsNoByte call caller io
+            (with_call (with_pipe_bytes io pipe (pipe_bytes io pipe)) caller.process.0 None) before after
+        finds-none now ended empty before after same = record {
+          pipe = pipe;
+          on = on;
+          reads = way;
+          empty = empty-list (pipe_bytes io pipe) empty;
+          alone =
+              ap (λ (path : SysPath). is_alone io caller.process.0 path.0 Reading) (sym ended.path) ∙ ended.alone;
+          unmoved = ended.unmoved;
+          still =
+              ap (λ (bytes : List ℕ). on_pipe io pipe bytes caller.process.0) (empty-list (pipe_bytes io pipe) empty);
+          nothing =
+              λ lives. record { now = ap (λ (io : Io). with_call io caller.process.0 None) (put-back pipe lives); same = same };
+          same = same;
+        }
 
-      module _ (now : Kept) (path : now.path ≡ path_of caller io on.opened) (moved : now.moved ≡ moved_before caller io) where
-        pipe-read-known : kind ≡ Bytes → (alone empty : Bool) → is_alone io caller.process.0 now.path.0 Reading ≡ alone → (length (pipe_bytes io pipe) == 0) ≡ empty → Known (comes (read_leaves caller io pipe now (if empty then answer_unmoved alone Ans.End else Ans.Done (min now.count (length (pipe_bytes io pipe))))))
-        pipe-read-known bytes true true alone empty number is =
-            inl (same-number E_EOF number is, finds-none now (record { path = path; alone = alone; unmoved = no_line }) empty)
-          where
-            no_line : call ≡ Call.ReadLn → moved_before caller io ≡ 0
-            no_line line =
-                absurd (line-bytes (same_Some WholeLine Bytes (sym (ap kind_of line) ∙ kind_is ∙ ap Some bytes)))
-        pipe-read-known bytes false true alone empty number is = absurd (kept-on now number is)
-        pipe-read-known bytes all false alone empty number is =
-            absurd (answered (count_regs caller (min now.count (length (pipe_bytes io pipe)))) number is)
+        module _ (now : Kept) (path : now.path ≡ path_of caller io on.opened) (moved : now.moved ≡ moved_before caller io) where
+          pipe-read-known : kind ≡ Bytes → (alone empty : Bool) → is_alone io caller.process.0 now.path.0 Reading ≡
+              alone → (length (pipe_bytes io pipe) == 0) ≡ empty
+              → Known (comes (read_leaves caller io pipe now (if empty then answer_unmoved alone Ans.End else Ans.Done
+              (min now.count (length (pipe_bytes io pipe))))))
+          pipe-read-known bytes true true alone empty number is =
+              inl (same-number E_EOF number is, finds-none now (record { path = path; alone = alone; unmoved = no_line }) empty)
+            where
+              no_line : call ≡ Call.ReadLn → moved_before caller io ≡ 0
+              no_line line =
+                  absurd (line-bytes (same_Some WholeLine Bytes (sym (ap kind_of line) ∙ kind_is ∙ ap Some bytes)))
+          pipe-read-known bytes false true alone empty number is = absurd (kept-on now number is)
+          pipe-read-known bytes all false alone empty number is =
+              absurd (answered (count_regs caller (min now.count (length (pipe_bytes io pipe)))) number is)
 
-        pipe-line-known : (alone empty : Bool) → is_alone io caller.process.0 now.path.0 Reading ≡ alone → (length (pipe_bytes io pipe) == 0) ≡ empty → Known (comes (read_line_leaves caller io pipe now alone (if empty then answer_unmoved alone Ans.End else Ans.Done (min (count_left now) (line_length (pipe_bytes io pipe))))))
-        pipe-line-known true true alone empty number is = by_moved (now.moved == 0) refl is
-          where
-            by_moved : (none : Bool) → (now.moved == 0) ≡ none → (if none then fails E_EOF else answers (count_regs caller now.moved)) ≡ fails number → PipeEnds number (with_call (with_pipe_bytes io pipe (pipe_bytes io pipe)) caller.process.0 None)
-            by_moved true none is =
-                inl (same-number E_EOF number is, finds-none now (record { path = path; alone = alone; unmoved = λ line. sym moved ∙ eqb-true now.moved 0 none }) empty)
-            by_moved false none is = absurd (answered (count_regs caller now.moved) number is)
-        pipe-line-known false true alone empty number is = absurd (kept-on now number is)
-        pipe-line-known all false alone empty number is =
-            absurd (by_over (has_return (take count (pipe_bytes io pipe)) || (is_complete (moved_on now count) || all)) is)
-          where
-            count : ℕ
-            count = min (count_left now) (line_length (pipe_bytes io pipe))
+          pipe-line-known : (alone empty : Bool) → is_alone io caller.process.0 now.path.0 Reading ≡ alone
+              → (length (pipe_bytes io pipe) == 0) ≡ empty
+              → Known (comes (read_line_leaves caller io pipe now alone (if empty then answer_unmoved alone Ans.End else
+              Ans.Done (min (count_left now) (line_length (pipe_bytes io pipe))))))
+          pipe-line-known true true alone empty number is = by_moved (now.moved == 0) refl is
+            where
+              by_moved : (none : Bool) → (now.moved == 0) ≡ none
+                  → (if none then fails E_EOF else answers (count_regs caller now.moved)) ≡ fails number
+                  → PipeEnds number (with_call (with_pipe_bytes io pipe (pipe_bytes io pipe)) caller.process.0 None)
+              by_moved true none is =
+                  inl (same-number E_EOF number is, finds-none now (record { path = path; alone = alone; unmoved = λ line. sym moved ∙ eqb-true now.moved 0 none }) empty)
+              by_moved false none is = absurd (answered (count_regs caller now.moved) number is)
+          pipe-line-known false true alone empty number is = absurd (kept-on now number is)
+          pipe-line-known all false alone empty number is =
+              absurd (by_over (has_return (take count (pipe_bytes io pipe)) || (is_complete (moved_on now count) || all)) is)
+            where
+              count : ℕ
+              count = min (count_left now) (line_length (pipe_bytes io pipe))
 
-            by_over : (over : Bool) → (if over then answers (count_regs caller (moved_on now count).moved) else keeps (moved_on now count)) ≡ fails number → ⊥
-            by_over true is = answered (count_regs caller (moved_on now count).moved) number is
-            by_over false is = kept-on (moved_on now count) number is
+              by_over : (over : Bool) → (if over then answers (count_regs caller (moved_on now count).moved) else keeps (moved_on now count)) ≡ fails number → ⊥
+              by_over true is = answered (count_regs caller (moved_on now count).moved) number is
+              by_over false is = kept-on (moved_on now count) number is
 
-        pipe-known : (it : ReadKind) → kind ≡ it → Known (comes (pipe_read it caller io pipe now))
-        pipe-known Bytes is =
-            pipe-read-known is (is_alone io caller.process.0 now.path.0 Reading) (length (pipe_bytes io pipe) == 0) refl refl
-        pipe-known WholeLine is =
-            pipe-line-known (is_alone io caller.process.0 now.path.0 Reading) (length (pipe_bytes io pipe) == 0) refl refl
+          pipe-known : (it : ReadKind) → kind ≡ it → Known (comes (pipe_read it caller io pipe now))
+          pipe-known Bytes is =
+              pipe-read-known is (is_alone io caller.process.0 now.path.0 Reading) (length (pipe_bytes io pipe) == 0) refl refl
+          pipe-known WholeLine is =
+              pipe-line-known (is_alone io caller.process.0 now.path.0 Reading) (length (pipe_bytes io pipe) == 0) refl refl
 
-    read-target-known : (opened : OpenPath) → open_path io caller.process.0 (path_number call caller.regs) ≡ Some opened → (target : Target) → opened.desc.target ≡ target → Known (reads_target kind caller io (call_now caller io code opened caller.regs.y) target)
-    read-target-known opened names (File drive sector) is =
-        unknown_service refl (inr (record { moves = ap (is_some {T = Direction}) way; drive = drive; sector = sector; on = inl (record { opened = opened; names = names; target_is = is }) }))
-    read-target-known opened names (Folder drive sector) is =
-        unknown_service refl (inr (record { moves = ap (is_some {T = Direction}) way; drive = drive; sector = sector; on = inr (record { opened = opened; names = names; target_is = is }) }))
-    read-target-known opened names (Term terminal) is = (
-      record { opened = opened; names = names; target_is = is },
-      record { kind = kind_is; process = refl; most = ap (λ (count : ℕ). min count TYPE_AHEAD) (now-asked code opened) },
-    )
-    read-target-known opened names (Pipe pipe) is =
-        pipe-known pipe (record { opened = opened; names = names; target_is = is }) (call_now caller io code opened caller.regs.y)
-        (now-path code caller.regs.y opened) (now-moved code caller.regs.y opened) kind refl
+      read-target-known : (opened : OpenPath) → open_path io caller.process.0 (path_number call caller.regs) ≡ Some
+          opened → (target : Target) → opened.desc.target ≡ target
+          → Known (reads_target kind caller io (call_now caller io code opened caller.regs.y) target)
+      read-target-known opened names (File drive sector) is =
+          unknown_service refl (inr (record { moves = ap (is_some {T = Direction}) way; drive = drive; sector = sector; on = inl (record { opened = opened; names = names; target_is = is }) }))
+      read-target-known opened names (Folder drive sector) is =
+          unknown_service refl (inr (record { moves = ap (is_some {T = Direction}) way; drive = drive; sector = sector; on = inr (record { opened = opened; names = names; target_is = is }) }))
+      read-target-known opened names (Term terminal) is = (
+        record { opened = opened; names = names; target_is = is },
+        record { kind = kind_is; process = refl; most = ap (λ (count : ℕ). min count TYPE_AHEAD) (now-asked code opened) },
+      )
+      read-target-known opened names (Pipe pipe) is =
+          pipe-known pipe (record { opened = opened; names = names; target_is = is }) (call_now caller io code opened caller.regs.y)
+          (now-path code caller.regs.y opened) (now-moved code caller.regs.y opened) kind refl
 
-    read-known : (user_bytes caller.cells caller.regs.x caller.regs.y ≡ None → IsUnreadable call caller io) → ((opened : OpenPath) → open_path io caller.process.0 (path_number call caller.regs) ≡ Some opened → can_read opened.desc.mode ≡ false → LacksMode call caller io) → Known (reads_path kind code caller io)
-    read-known unreadable mode =
-        of-refuses (is_none (user_bytes caller.cells caller.regs.x caller.regs.y)) E_BPADDR (on_path caller io caller.regs.a can_read on_opened)
-        (λ missing. bad_address refl (unreadable (is-nothing (user_bytes caller.cells caller.regs.x caller.regs.y) missing)))
-        (λ there. on-path-known by_number caller.regs.a at_a can_read on_opened mode
-        (λ opened names. nothing-known (caller.regs.y == 0) (reads_target kind caller io (call_now caller io code opened caller.regs.y) opened.desc.target) (read-target-known opened names opened.desc.target refl)))
-      where
-        on_opened : OpenPath → IoStep
-        on_opened opened =
-            unless_nothing caller io (reads_target kind caller io (call_now caller io code opened caller.regs.y) opened.desc.target)
+      read-known : (user_bytes caller.cells caller.regs.x caller.regs.y ≡ None → IsUnreadable call caller io)
+          → ((opened : OpenPath) → open_path io caller.process.0 (path_number call caller.regs) ≡ Some opened
+          → can_read opened.desc.mode ≡ false → LacksMode call caller io) → Known (reads_path kind code caller io)
+      read-known unreadable mode =
+          of-refuses (is_none (user_bytes caller.cells caller.regs.x caller.regs.y)) E_BPADDR (on_path caller io caller.regs.a can_read on_opened)
+          (λ missing. bad_address refl (unreadable (is-nothing (user_bytes caller.cells caller.regs.x caller.regs.y) missing)))
+          (λ there. on-path-known by_number caller.regs.a at_a can_read on_opened mode
+          (λ opened names. nothing-known (caller.regs.y == 0) (reads_target kind caller io
+          (call_now caller io code opened caller.regs.y) opened.desc.target) (read-target-known opened names
+          opened.desc.target refl)))
+        where
+          on_opened : OpenPath → IoStep
+          on_opened opened =
+              unless_nothing caller io (reads_target kind caller io (call_now caller io code opened caller.regs.y) opened.desc.target)
 
   -- ---- writes
 
-  module _ (by_number : search_of call ≡ None) (moves : IsSome (direction_of_call call)) (sending : Sending) (sends : sent_by call caller io ≡ Some sending.bytes) (puts : sending.put ≡ put_by call sending.bytes) (asks : IsAgain call caller.regs io caller.process.0 → Asks caller io sending.bytes) (code : ℕ) where
+  module _ (by_number : search_of call ≡ None) (moves : IsSome (direction_of_call call)) (sending : Sending)
+      (sends : sent_by call caller io ≡ Some sending.bytes) (puts : sending.put ≡ put_by call sending.bytes)
+      (asks : IsAgain call caller.regs io caller.process.0 → Asks caller io sending.bytes) (code : ℕ) where
     module _ (opened : OpenPath) (names : open_path io caller.process.0 (path_number call caller.regs) ≡ Some opened) where
       abbrev now : Kept
       now = call_now caller io code opened (length sending.bytes)
@@ -412,7 +450,10 @@ module _ (call : IoCall) (caller : Caller) (io : Io) (drives terms : ℕ) where
         abbrev rest : List ℕ
         rest = drop now.moved sending.bytes
 
-        finds-no-reader : is_alone io caller.process.0 now.path.0 Writing ≡ true → (moved : List ℕ) → moved ≡ take (pipe_room held) rest → (Asks caller io sending.bytes → pipe_room held ≤ length rest) → (before after : List TerminalState) → after ≡ before → FindsNoReader call caller io (with_call (with_pipe_bytes io pipe (held ++ moved)) caller.process.0 None) before after
+        finds-no-reader : is_alone io caller.process.0 now.path.0 Writing ≡ true → (moved : List ℕ)
+            → moved ≡ take (pipe_room held) rest → (Asks caller io sending.bytes → pipe_room held ≤ length rest)
+            → (before after : List TerminalState) → after ≡ before → FindsNoReader call caller io
+            (with_call (with_pipe_bytes io pipe (held ++ moved)) caller.process.0 None) before after
         finds-no-reader alone moved moved_is few before after same = record {
           pipe = pipe;
           on = record { opened = opened; names = names; target_is = on };
@@ -421,9 +462,12 @@ module _ (call : IoCall) (caller : Caller) (io : Io) (drives terms : ℕ) where
           bytes = sending.bytes;
           sends = sends;
           now =
-              ap (λ (moved : List ℕ). on_pipe io pipe (held ++ moved) caller.process.0) (moved_is ∙ ap (λ (before : ℕ). take (pipe_room held) (drop before sending.bytes)) (now-moved code (length sending.bytes) opened));
+              ap (λ (moved : List ℕ). on_pipe io pipe (held ++ moved) caller.process.0)
+              (moved_is ∙ ap (λ (before : ℕ). take (pipe_room held) (drop before sending.bytes))
+              (now-moved code (length sending.bytes) opened));
           full =
-              λ again. subst (λ (before : ℕ). pipe_room (held ++ take (pipe_room held) (drop before sending.bytes)) ≡ 0) (now-moved code (length sending.bytes) opened) (room-after held rest (few (asks again)));
+              λ again. subst (λ (before : ℕ). pipe_room (held ++ take (pipe_room held) (drop before sending.bytes)) ≡
+              0) (now-moved code (length sending.bytes) opened) (room-after held rest (few (asks again)));
           same = same;
         }
 
@@ -436,18 +480,42 @@ module _ (call : IoCall) (caller : Caller) (io : Io) (drives terms : ℕ) where
         not-all : is_complete (moved_on now (min (length rest) (pipe_room held))) ≡ false → Asks caller io sending.bytes → pipe_room held ≤ length rest
         not-all over asks =
             elim (cases_lt (length rest) (pipe_room held)) [
-              | inl less ↦ absurd (eqb-false (now.moved + min (length rest) (pipe_room held)) now.count over (omega (arith, less, asks.count, asks.moved, now-count code (length sending.bytes) opened, now-moved code (length sending.bytes) opened, length-drop now.moved sending.bytes)))
+              | inl less ↦ absurd (eqb-false (now.moved + min (length rest) (pipe_room held)) now.count over
+                  (omega (
+                    arith,
+                    less,
+                    asks.count,
+                    asks.moved,
+                    now-count code (length sending.bytes) opened,
+                    now-moved
+                        code (length sending.bytes) opened,
+                    length-drop now.moved sending.bytes,
+                  )))
               | inr past ↦ past
             ]
 
-        pipe-write-known : (alone no_room : Bool) → is_alone io caller.process.0 now.path.0 Writing ≡ alone → (pipe_room held == 0) ≡ no_room → Known (comes (write_leaves io pipe now alone rest sending.regs (if no_room then answer_unmoved alone Ans.NoReader else Ans.Done (min (length rest) (pipe_room held)))))
+        pipe-write-known : (alone no_room : Bool) → is_alone io caller.process.0 now.path.0 Writing ≡ alone
+            → (pipe_room held == 0) ≡ no_room
+            → Known (comes (write_leaves io pipe now alone rest sending.regs (if no_room then answer_unmoved alone
+            Ans.NoReader else Ans.Done (min (length rest) (pipe_room held)))))
         pipe-write-known true true alone none number is =
-            inr (same-number E_WRITE number is, finds-no-reader alone [] (ap (λ (room : ℕ). take room rest) (sym (eqb-true (pipe_room held) 0 none))) (λ asks. let room : pipe_room held ≡ 0 = eqb-true (pipe_room held) 0 none in omega (arith, room)))
+            inr (
+              same-number E_WRITE number is,
+              finds-no-reader alone [] (ap (λ (room : ℕ). take room rest)
+                  (sym (eqb-true (pipe_room held) 0 none))) (λ asks. let room : pipe_room held ≡ 0 = eqb-true
+                  (pipe_room held) 0 none in omega (arith, room)),
+            )
         pipe-write-known false true alone none number is = absurd (kept-on now number is)
         pipe-write-known all false alone fits number is =
             by_over all alone (is_complete (moved_on now (min (length rest) (pipe_room held)))) refl is
           where
-            by_over : (all : Bool) → is_alone io caller.process.0 now.path.0 Writing ≡ all → (over : Bool) → is_complete (moved_on now (min (length rest) (pipe_room held))) ≡ over → (if over then answers sending.regs else (if all then fails E_WRITE else keeps (moved_on now (min (length rest) (pipe_room held))))) ≡ fails number → PipeEnds number (with_call (with_pipe_bytes io pipe (held ++ take (min (length rest) (pipe_room held)) rest)) caller.process.0 None)
+            by_over : (all : Bool) → is_alone io caller.process.0 now.path.0 Writing ≡ all → (over : Bool)
+                → is_complete (moved_on now (min (length rest) (pipe_room held))) ≡ over
+                → (if over then answers sending.regs else (if all then fails E_WRITE else keeps
+                (moved_on now (min (length rest) (pipe_room held))))) ≡ fails number
+                → PipeEnds number (with_call
+                (with_pipe_bytes io pipe (held ++ take (min (length rest) (pipe_room held)) rest)) caller.process.0
+                None)
             by_over all alone true over is = absurd (answered sending.regs number is)
             by_over true alone false over is =
                 inr (same-number E_WRITE number is, finds-no-reader alone (take (min (length rest) (pipe_room held)) rest) (as-many (min (length rest) (pipe_room held)) refl) (not-all over))
@@ -468,13 +536,22 @@ module _ (call : IoCall) (caller : Caller) (io : Io) (drives terms : ℕ) where
       sends-known = write-target-known opened.desc.target refl
 
   -- the bytes are there, and are sent
-  send-known : (by_number : search_of call ≡ None) (moves : IsSome (direction_of_call call)) (at_a : path_number call caller.regs ≡ caller.regs.a) (sending : List ℕ → Sending) (code : ℕ) (sent : Option (List ℕ)) → ((bytes : List ℕ) → (sending bytes).bytes ≡ bytes) → (sent_by call caller io ≡ sent) → ((bytes : List ℕ) → (sending bytes).put ≡ put_by call (sending bytes).bytes) → ((bytes : List ℕ) → sent ≡ Some bytes → IsAgain call caller.regs io caller.process.0 → Asks caller io bytes) → (sent ≡ None → IsUnreadable call caller io) → ((opened : OpenPath) → open_path io caller.process.0 (path_number call caller.regs) ≡ Some opened → can_write opened.desc.mode ≡ false → LacksMode call caller io) → Known (needs sent E_BPADDR (λ bytes. on_path caller io caller.regs.a can_write (λ opened. unless_nothing caller io (sends_on (sending bytes) code caller io opened))))
+  send-known : (by_number : search_of call ≡ None) (moves : IsSome (direction_of_call call))
+      (at_a : path_number call caller.regs ≡ caller.regs.a) (sending : List ℕ → Sending) (code : ℕ)
+      (sent : Option (List ℕ)) → ((bytes : List ℕ) → (sending bytes).bytes ≡ bytes) → (sent_by call caller io ≡ sent)
+      → ((bytes : List ℕ) → (sending bytes).put ≡ put_by call (sending bytes).bytes)
+      → ((bytes : List ℕ) → sent ≡ Some bytes → IsAgain call caller.regs io caller.process.0 → Asks caller io bytes)
+      → (sent ≡ None → IsUnreadable call caller io) → ((opened : OpenPath) → open_path io caller.process.0
+      (path_number call caller.regs) ≡ Some opened → can_write opened.desc.mode ≡ false → LacksMode call caller io)
+      → Known (needs sent E_BPADDR (λ bytes. on_path caller io caller.regs.a can_write
+      (λ opened. unless_nothing caller io (sends_on (sending bytes) code caller io opened))))
   send-known by_number moves at_a sending code sent same sends puts asks unreadable mode =
       of-needs sent E_BPADDR (λ bytes. on_path caller io caller.regs.a can_write (λ opened. unless_nothing caller io (sends_on (sending bytes) code caller io opened)))
       (λ none. bad_address refl (unreadable none))
       (λ bytes is. on-path-known by_number caller.regs.a at_a can_write (λ opened. unless_nothing caller io (sends_on (sending bytes) code caller io opened)) mode
       (λ opened names. nothing-known (caller.regs.y == 0) (sends_on (sending bytes) code caller io opened)
-      (sends-known by_number moves (sending bytes) (sends ∙ is ∙ ap Some (sym (same bytes))) (puts bytes) (λ again. subst (Asks caller io) (sym (same bytes)) (asks bytes is again)) code opened names)))
+      (sends-known by_number moves (sending bytes) (sends ∙ is ∙ ap Some (sym (same bytes))) (puts bytes)
+      (λ again. subst (Asks caller io) (sym (same bytes)) (asks bytes is again)) code opened names)))
 
 -- ---- each call
 
@@ -487,9 +564,14 @@ module _ (caller : Caller) (io : Io) (drives terms : ℕ) where
 
   dup-known : Known Call.Dup caller io drives terms (io_step Call.Dup caller io drives terms)
   dup-known =
-      of-needs Call.Dup caller io drives terms (slot_of io.paths caller.process.0 caller.regs.a) E_BPNUM (λ path. needs (free_number io.paths caller.process.0) E_PTHFUL (λ number. done (record caller.regs { a = number }) (with_paths io (paths_after_dup io.paths caller.process.0 caller.regs.a))))
+      of-needs Call.Dup caller io drives terms (slot_of io.paths caller.process.0 caller.regs.a) E_BPNUM
+      (λ path. needs (free_number io.paths caller.process.0) E_PTHFUL
+      (λ number. done (record caller.regs { a = number })
+      (with_paths io (paths_after_dup io.paths caller.process.0 caller.regs.a))))
       (slot-none Call.Dup caller io drives terms refl caller.regs.a refl)
-      (λ path is. of-needs Call.Dup caller io drives terms (free_number io.paths caller.process.0) E_PTHFUL (λ number. done (record caller.regs { a = number }) (with_paths io (paths_after_dup io.paths caller.process.0 caller.regs.a)))
+      (λ path is. of-needs Call.Dup caller io drives terms (free_number io.paths caller.process.0) E_PTHFUL
+      (λ number. done (record caller.regs { a = number })
+      (with_paths io (paths_after_dup io.paths caller.process.0 caller.regs.a)))
       (λ none. path_table_full refl (numbers (inl refl) none))
       (λ number free. done-known Call.Dup caller io drives terms (record caller.regs { a = number }) (with_paths io (paths_after_dup io.paths caller.process.0 caller.regs.a))))
 
@@ -504,14 +586,29 @@ module _ (caller : Caller) (io : Io) (drives terms : ℕ) where
     on-it : IsOn Call.GetStt caller io opened.desc.target
     on-it = record { opened = opened; names = names; target_is = refl }
 
-    status-known : (opt ready end : Bool) → (caller.regs.b == SS_OPT) ≡ opt → (caller.regs.b == SS_READY) ≡ ready → (caller.regs.b == SS_EOF) ≡ end → Known Call.GetStt caller io drives terms (if opt then gets_options caller io opened.desc.target else (if ready then gets_ready caller io opened.desc.target else (if end then gets_end caller io opened.desc.target else refused E_UNKSVC)))
+    status-known : (opt ready end : Bool) → (caller.regs.b == SS_OPT) ≡ opt → (caller.regs.b == SS_READY) ≡ ready
+        → (caller.regs.b == SS_EOF) ≡ end → Known Call.GetStt caller io drives terms (if opt then gets_options caller
+        io opened.desc.target else (if ready then gets_ready caller io opened.desc.target else
+        (if end then gets_end caller io opened.desc.target else refused E_UNKSVC)))
     status-known true ready end opt_is ready_is end_is =
-        of-refuses Call.GetStt caller io drives terms (is_none (user_bytes caller.cells caller.regs.x OPTION_BYTES)) E_BPADDR (comes (stores caller.regs.x (options opened.desc.target) (answers caller.regs) io))
-        (λ missing. bad_address refl (eqb-true caller.regs.b SS_OPT opt_is, bytes-gap caller.cells caller.regs.x OPTION_BYTES (is-nothing (user_bytes caller.cells caller.regs.x OPTION_BYTES) missing)))
+        of-refuses Call.GetStt caller io drives terms (is_none (user_bytes caller.cells caller.regs.x OPTION_BYTES))
+        E_BPADDR (comes (stores caller.regs.x (options opened.desc.target) (answers caller.regs) io))
+        (λ missing. bad_address refl (
+          eqb-true caller.regs.b SS_OPT opt_is,
+          bytes-gap caller.cells caller.regs.x
+              OPTION_BYTES (is-nothing (user_bytes caller.cells caller.regs.x OPTION_BYTES) missing),
+        ))
         (λ there number is. absurd (answered caller.regs number is))
     status-known false true end opt_is ready_is end_is =
         of-refuses Call.GetStt caller io drives terms (ready_count io opened.desc.target == 0) E_NOTRDY (done (record caller.regs { b = min 255 (ready_count io opened.desc.target) }) io)
-        (λ none. not_ready refl (record { asks = refl; code = eqb-true caller.regs.b SS_READY ready_is; target = opened.desc.target; on = on-it; none = eqb-true (ready_count io opened.desc.target) 0 none }))
+        (λ none. not_ready refl (record {
+          asks = refl;
+          code = eqb-true caller.regs.b SS_READY ready_is;
+          target =
+              opened.desc.target;
+          on = on-it;
+          none = eqb-true (ready_count io opened.desc.target) 0 none;
+        }))
         (λ there. done-known Call.GetStt caller io drives terms (record caller.regs { b = min 255 (ready_count io opened.desc.target) }) io)
     status-known false false true opt_is ready_is end_is =
         done-known Call.GetStt caller io drives terms (record caller.regs { b = 0 }) io
@@ -538,7 +635,8 @@ module _ (caller : Caller) (io : Io) (drives terms : ℕ) where
   error-known =
       on-path-known Call.PErr caller io drives terms refl STANDARD_ERROR refl can_write (λ opened. sends_on (sent_error caller) F_PERR caller io opened)
       (λ opened names lacks. (Writing, opened, refl, names, cannot-write opened.desc.mode lacks))
-      (λ opened names. sends-known Call.PErr caller io drives terms refl refl (sent_error caller) refl refl (asks-by Call.PErr caller io (error_line caller.regs.b) (λ kept is count. count)) F_PERR opened names)
+      (λ opened names. sends-known Call.PErr caller io drives terms refl refl (sent_error caller) refl refl
+      (asks-by Call.PErr caller io (error_line caller.regs.b) (λ kept is count. count)) F_PERR opened names)
 
 -- what an attempt of each call does
 pub step-known : (call : IoCall) (caller : Caller) (io : Io) (drives terms : ℕ) → Known call caller io drives terms (io_step call caller io drives terms)
@@ -564,6 +662,8 @@ step-known Call.Write caller io drives terms =
     (λ opened names lacks. (Writing, opened, refl, names, cannot-write caller io drives terms opened.desc.mode lacks))
 step-known Call.WritLn caller io drives terms =
     send-known Call.WritLn caller io drives terms refl refl refl (sent_line caller) I_WRITLN (line_bytes caller (kept_at io caller.process.0)) (λ bytes. refl) refl (λ bytes. refl)
-    (λ bytes is. asks-by Call.WritLn caller io bytes (λ kept kept_is count. sym (user-length caller.cells caller.regs.x kept.count bytes (subst (λ (place : Option Kept). line_bytes caller place ≡ Some bytes) kept_is is))))
+    (λ bytes is. asks-by Call.WritLn caller io bytes
+    (λ kept kept_is count. sym (user-length caller.cells caller.regs.x kept.count bytes
+    (subst (λ (place : Option Kept). line_bytes caller place ≡ Some bytes) kept_is is))))
     (λ none. (sent-gap caller io none, none))
     (λ opened names lacks. (Writing, opened, refl, names, cannot-write caller io drives terms opened.desc.mode lacks))

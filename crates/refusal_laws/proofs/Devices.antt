@@ -54,7 +54,8 @@ module _ (search : Search) (drives terms : ℕ) (list : PathList) (leads : Leads
   device-leads : LeadsToDevice (on_device search list (device_at drives terms list))
   device-leads = by_name list.device (by_dots (makes_dots search list) leads)
     where
-      by_dots : (dots : Bool) → LeadsToDevice (if dots then nowhere E_BPNAM else lead_by_device search drives terms list list.device) → LeadsToDevice (lead_by_device search drives terms list list.device)
+      by_dots : (dots : Bool) → LeadsToDevice (if dots then nowhere E_BPNAM else lead_by_device search drives terms
+          list list.device) → LeadsToDevice (lead_by_device search drives terms list list.device)
       by_dots true never = absurd never
       by_dots false leads = leads
 
@@ -158,12 +159,15 @@ not-there files path place = by_volume (volume_at files place.drive)
     by_file v None none = refl
     by_file v (Some file) none = absurd (none-some (file_with path place v file) (sym none))
 
-    by_volume : (v : Option DiskVolume) → option_and_then (λ (v : DiskVolume). option_map (file_with path place v) (v.files place.number)) v ≡ None → option_and_then (λ (v : DiskVolume). v.files place.number) v ≡ None
+    by_volume : (v : Option DiskVolume) → option_and_then (λ (v : DiskVolume). option_map (file_with path place v)
+        (v.files place.number)) v ≡ None → option_and_then (λ (v : DiskVolume). v.files place.number) v ≡ None
     by_volume None none = refl
     by_volume (Some v) none = by_file v (v.files place.number) none
 
 module _ (device : IoCall) (caller : Caller) (files : Files) where
-  lost-at : IsSome (direction_of_call device) → (target : Target) (place : FilePlace) → place_of_target target ≡ Some place → IsOn device caller files.io target → open_file files caller.process.0 (path_number device caller.regs) ≡ None → IsOnLostFile device caller files
+  lost-at : IsSome (direction_of_call device) → (target : Target) (place : FilePlace) → place_of_target target ≡ Some
+      place → IsOn device caller files.io target → open_file files caller.process.0 (path_number device caller.regs) ≡
+      None → IsOnLostFile device caller files
   lost-at moves target place at on none =
       let placed : place_of_target on.opened.desc.target ≡ Some place = ap place_of_target on.target_is ∙ at in
       record {
@@ -173,7 +177,9 @@ module _ (device : IoCall) (caller : Caller) (files : Files) where
         place = place;
         on = placed;
         lost =
-            not-there files on.opened place (sym (ap (option_and_then (open_file_at files on.opened)) placed) ∙ sym (ap (option_and_then (λ (opened : OpenPath). option_and_then (open_file_at files opened) (place_of_target opened.desc.target))) on.names) ∙ none);
+            not-there files on.opened place (sym (ap (option_and_then (open_file_at files on.opened)) placed) ∙ sym
+            (ap (option_and_then (λ (opened : OpenPath). option_and_then (open_file_at files opened)
+            (place_of_target opened.desc.target))) on.names) ∙ none);
       }
 
   is-lost : (disk : IsOnDisk device caller files.io) → open_file files caller.process.0 (path_number device caller.regs) ≡ None → IsOnLostFile device caller files

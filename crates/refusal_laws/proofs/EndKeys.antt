@@ -38,7 +38,9 @@ copied-ends most line key = by_tests (key == END_OF_FILE) (is_empty_line line) r
     by_last true is = no-line is
     by_last false is = no-end is
 
-    by_tests : (ends empty : Bool) → (key == END_OF_FILE) ≡ ends → is_empty_line line ≡ empty → (if ends && empty then file_ended line else moved most line key).end ≡ Some EndOfFile → IsEndKey line key (if ends && empty then file_ended line else moved most line key)
+    by_tests : (ends empty : Bool) → (key == END_OF_FILE) ≡ ends → is_empty_line line ≡ empty
+        → (if ends && empty then file_ended line else moved most line key).end ≡ Some EndOfFile → IsEndKey line key
+        (if ends && empty then file_ended line else moved most line key)
     by_tests true true key_is none over =
         record { key_is = eqb-true key END_OF_FILE key_is; empty = no-bytes line.bytes none; ends = refl }
     by_tests true false key_is none over = absurd (by_last (is_last_byte most line key) over)
@@ -49,7 +51,9 @@ unfolding edited
 edited-ends most line key =
     by_tests (key == BACKSPACE) (key == DELETE_LINE) (key == REPRINT) (key == DUPLICATE) (key == RETURN) (key == END_OF_FILE) refl
   where
-    by_empty : (empty : Bool) → is_empty_line line ≡ empty → key ≡ END_OF_FILE → (if empty then file_ended line else refused_key line).end ≡ Some EndOfFile → IsEndKey line key (if empty then file_ended line else refused_key line)
+    by_empty : (empty : Bool) → is_empty_line line ≡ empty → key ≡ END_OF_FILE
+        → (if empty then file_ended line else refused_key line).end ≡ Some EndOfFile → IsEndKey line key
+        (if empty then file_ended line else refused_key line)
     by_empty true none key_is over = record { key_is = key_is; empty = no-bytes line.bytes none; ends = refl }
     by_empty false none key_is over = absurd (no-end over)
 
@@ -57,7 +61,12 @@ edited-ends most line key =
     by_room true over = no-end over
     by_room false over = no-end over
 
-    by_tests : (back delete reprint again return ends : Bool) → (key == END_OF_FILE) ≡ ends → (if back then backspaced line else (if delete then deleted line else (if reprint then reprinted line else (if again then duplicated most line else (if return then returned line else (if ends then escaped line else typed_key most line key)))))).end ≡ Some EndOfFile → IsEndKey line key (if back then backspaced line else (if delete then deleted line else (if reprint then reprinted line else (if again then duplicated most line else (if return then returned line else (if ends then escaped line else typed_key most line key))))))
+    by_tests : (back delete reprint again return ends : Bool) → (key == END_OF_FILE) ≡ ends
+        → (if back then backspaced line else (if delete then deleted line else (if reprint then reprinted line else
+        (if again then duplicated most line else (if return then returned line else (if ends then escaped line else
+        typed_key most line key)))))).end ≡ Some EndOfFile → IsEndKey line key (if back then backspaced line else
+        (if delete then deleted line else (if reprint then reprinted line else (if again then duplicated most line
+        else (if return then returned line else (if ends then escaped line else typed_key most line key))))))
     by_tests true delete reprint again return ends is over = absurd (no-end over)
     by_tests false true reprint again return ends is over = absurd (no-end over)
     by_tests false false true again return ends is over = absurd (no-end over)
@@ -89,7 +98,8 @@ pub record EndsIn (step : Editing → ℕ → Edited) (line : Editing) (keys : L
 
 module _ (step : Editing → ℕ → Edited) (one : (line : Editing) (key : ℕ) → (step line key).end ≡ Some EndOfFile → IsEndKey line key (step line key)) where
   -- what is made of a key and those behind it, by how it ends
-  by-end : (line : Editing) (key : ℕ) (keys : List ℕ) (end : Option LineEnd) → (step line key).end ≡ end → typing step line (key ∷ keys) ≡ after_key end (step line key) keys (typing step (step line key).line keys)
+  by-end : (line : Editing) (key : ℕ) (keys : List ℕ) (end : Option LineEnd) → (step line key).end ≡ end
+      → typing step line (key ∷ keys) ≡ after_key end (step line key) keys (typing step (step line key).line keys)
   by-end line key keys end is =
       ap (λ (o : Option LineEnd). after_key o (step line key) keys (typing step (step line key).line keys)) is
 
@@ -124,7 +134,8 @@ module _ (step : Editing → ℕ → Edited) (one : (line : Editing) (key : ℕ)
   ends-in line [] over = absurd (no-end over)
   ends-in line (key ∷ keys) over = by_key (step line key).end refl (ends-in (step line key).line keys)
     where
-      by_key : (end : Option LineEnd) → (step line key).end ≡ end → ((typing step (step line key).line keys).end ≡ Some EndOfFile → EndsIn step (step line key).line keys) → EndsIn step line (key ∷ keys)
+      by_key : (end : Option LineEnd) → (step line key).end ≡ end → ((typing step (step line key).line keys).end ≡
+          Some EndOfFile → EndsIn step (step line key).line keys) → EndsIn step line (key ∷ keys)
       by_key None is rest =
           later line key keys is (rest (sym (ap (λ (t : Typing). t.end) (by-end line key keys None is)) ∙ over))
       by_key (Some EndOfFile) is rest = at-once line key keys is

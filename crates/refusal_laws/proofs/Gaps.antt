@@ -59,7 +59,9 @@ breaks-here fault cells at wrong =
     record { at = at; behind = omega arith; runs = runs-none cells at; wrong = wrong; starts = inl refl }
 
 -- one that stands behind a slash
-starts-then : (fault : NameFault) (cells : Cells) (from mid at : ℕ) → (fault ≡ NoName → user_cell cells (mid - 1) ≡ Some slash) → (at ≡ mid) ⊎ (fault ≡ NoName → user_cell cells (at - 1) ≡ Some slash) → (at ≡ from) ⊎ (fault ≡ NoName → user_cell cells (at - 1) ≡ Some slash)
+starts-then : (fault : NameFault) (cells : Cells) (from mid at : ℕ) → (fault ≡ NoName → user_cell cells (mid - 1) ≡
+    Some slash) → (at ≡ mid) ⊎ (fault ≡ NoName → user_cell cells (at - 1) ≡ Some slash)
+    → (at ≡ from) ⊎ (fault ≡ NoName → user_cell cells (at - 1) ≡ Some slash)
 starts-then fault cells from mid at slashed (inl same) =
     inr (λ no. ap (λ (k : ℕ). user_cell cells (k - 1)) same ∙ slashed no)
 starts-then fault cells from mid at slashed (inr before) = inr before
@@ -72,7 +74,8 @@ slash-before cells at byte there is_slash =
 unreadable-name : Unreadable ≡ NoName → ⊥
 unreadable-name is = cc
 
-breaks-then : (fault : NameFault) (cells : Cells) (from mid : ℕ) → from ≤ mid → Runs cells from mid → (fault ≡ NoName → user_cell cells (mid - 1) ≡ Some slash) → Breaks fault cells mid → Breaks fault cells from
+breaks-then : (fault : NameFault) (cells : Cells) (from mid : ℕ) → from ≤ mid → Runs cells from mid
+    → (fault ≡ NoName → user_cell cells (mid - 1) ≡ Some slash) → Breaks fault cells mid → Breaks fault cells from
 breaks-then fault cells from mid up runs slashed it =
     let behind : mid ≤ it.at = it.behind in
     record {
@@ -98,13 +101,18 @@ run-breaks : (cells : Cells) (at most : ℕ) → run_bytes cells at most ≡ Non
 run-breaks cells at zero none = absurd (none-some [] (sym none))
 run-breaks cells at (suc most) none = by_byte (user_cell cells at) refl (run-breaks cells (at + 1) most) none
   where
-    by_on : (byte : ℕ) → user_cell cells at ≡ Some byte → (on : Bool) → goes_on byte ≡ on → (run_bytes cells (at + 1) most ≡ None → Breaks Unreadable cells (at + 1)) → (if on then option_map (λ (run : List ℕ). byte ∷ run) (run_bytes cells (at + 1) most) else Some (byte ∷ [])) ≡ None → Breaks Unreadable cells at
+    by_on : (byte : ℕ) → user_cell cells at ≡ Some byte → (on : Bool) → goes_on byte ≡ on
+        → (run_bytes cells (at + 1) most ≡ None → Breaks Unreadable cells (at + 1))
+        → (if on then option_map (λ (run : List ℕ). byte ∷ run) (run_bytes cells (at + 1) most) else Some (byte ∷ []))
+        ≡ None → Breaks Unreadable cells at
     by_on byte is true on further none =
         breaks-then Unreadable cells at (at + 1) (omega arith) (runs-one cells at byte is (inl on)) (λ no. absurd (unreadable-name no))
         (further (mapped-none (λ (run : List ℕ). byte ∷ run) (run_bytes cells (at + 1) most) none))
     by_on byte is false on further none = absurd (none-some (byte ∷ []) (sym none))
 
-    by_byte : (byte : Option ℕ) → user_cell cells at ≡ byte → (run_bytes cells (at + 1) most ≡ None → Breaks Unreadable cells (at + 1)) → run_with (λ next. run_bytes cells next most) at byte ≡ None → Breaks Unreadable cells at
+    by_byte : (byte : Option ℕ) → user_cell cells at ≡ byte → (run_bytes cells (at + 1) most ≡ None
+        → Breaks Unreadable cells (at + 1)) → run_with (λ next. run_bytes cells next most) at byte ≡ None
+        → Breaks Unreadable cells at
     by_byte None is further none = breaks-here Unreadable cells at is
     by_byte (Some byte) is further none = by_on byte is (goes_on byte) refl further none
 
@@ -112,14 +120,19 @@ marked-byte : (byte : ℕ) → nat_lt byte 128 ≡ false → nat_le 128 byte ≡
 marked-byte byte high = le-leb 128 byte (ltb-false byte 128 high)
 
 -- the characters of a name that has no bit 7
-name-runs : (cells : Cells) (at most : ℕ) (bytes : List ℕ) → run_bytes cells at most ≡ Some bytes → is_marked (user_cell cells (at + length (name_run bytes) - 1)) ≡ false → Runs cells at (at + length (name_run bytes))
+name-runs : (cells : Cells) (at most : ℕ) (bytes : List ℕ) → run_bytes cells at most ≡ Some bytes
+    → is_marked (user_cell cells (at + length (name_run bytes) - 1)) ≡ false
+    → Runs cells at (at + length (name_run bytes))
 name-runs cells at zero bytes is unmarked =
     subst (λ (bytes : List ℕ). Runs cells at (at + length (name_run bytes))) (same_Some [] bytes is) (λ k up down. absurd (omega (arith, up, down)))
 name-runs cells at (suc most) bytes is unmarked =
     by_byte (user_cell cells at) refl (name-runs cells (at + 1) most) is
   where
     -- the last byte of the run
-    by_last : (byte : ℕ) → user_cell cells at ≡ Some byte → (char low : Bool) → is_name_character (low_bits byte) ≡ char → nat_lt byte 128 ≡ low → (char && low) ≡ false → is_marked (user_cell cells (at + length (if char then low_bits byte ∷ (if low then [] else []) else []) - 1)) ≡ false → Runs cells at (at + length (if char then low_bits byte ∷ (if low then [] else []) else []))
+    by_last : (byte : ℕ) → user_cell cells at ≡ Some byte → (char low : Bool) → is_name_character (low_bits byte) ≡
+        char → nat_lt byte 128 ≡ low → (char && low) ≡ false
+        → is_marked (user_cell cells (at + length (if char then low_bits byte ∷ (if low then [] else []) else []) -
+        1)) ≡ false → Runs cells at (at + length (if char then low_bits byte ∷ (if low then [] else []) else []))
     by_last byte there false low char_is low_is over unmarked = λ k up down. absurd (omega (arith, up, down))
     by_last byte there true true char_is low_is over unmarked = absurd (true≢false over)
     by_last byte there true false char_is low_is over unmarked =
@@ -127,27 +140,47 @@ name-runs cells at (suc most) bytes is unmarked =
         absurd (false≢true (sym unmarked ∙ ap (λ (k : ℕ). is_marked (user_cell cells k)) same ∙ ap is_marked there ∙ marked-byte byte low_is))
 
     -- one with others behind it
-    by_more : (byte : ℕ) → user_cell cells at ≡ Some byte → goes_on byte ≡ true → ((rest : List ℕ) → run_bytes cells (at + 1) most ≡ Some rest → is_marked (user_cell cells (at + 1 + length (name_run rest) - 1)) ≡ false → Runs cells (at + 1) (at + 1 + length (name_run rest))) → (rest : List ℕ) → run_bytes cells (at + 1) most ≡ Some rest → is_marked (user_cell cells (at + suc (length (name_run rest)) - 1)) ≡ false → Runs cells at (at + suc (length (name_run rest)))
+    by_more : (byte : ℕ) → user_cell cells at ≡ Some byte → goes_on byte ≡ true
+        → ((rest : List ℕ) → run_bytes cells (at + 1) most ≡ Some rest
+        → is_marked (user_cell cells (at + 1 + length (name_run rest) - 1)) ≡ false → Runs cells (at + 1)
+        (at + 1 + length (name_run rest))) → (rest : List ℕ) → run_bytes cells (at + 1) most ≡ Some rest
+        → is_marked (user_cell cells (at + suc (length (name_run rest)) - 1)) ≡ false
+        → Runs cells at (at + suc (length (name_run rest)))
     by_more byte there on further rest rest_is unmarked =
         let last : at + suc (length (name_run rest)) - 1 ≡ at + 1 + length (name_run rest) - 1 = omega arith in
         let end : at + 1 + length (name_run rest) ≡ at + suc (length (name_run rest)) = omega arith in
-        subst (Runs cells at) end (runs-then cells at (at + 1) (at + 1 + length (name_run rest)) (runs-one cells at byte there (inl on)) (further rest rest_is (ap (λ (k : ℕ). is_marked (user_cell cells k)) (sym last) ∙ unmarked)))
+        subst (Runs cells at) end (runs-then cells at (at + 1) (at + 1 + length (name_run rest))
+        (runs-one cells at byte there (inl on))
+        (further rest rest_is (ap (λ (k : ℕ). is_marked (user_cell cells k)) (sym last) ∙ unmarked)))
 
     by_chars : (byte : ℕ) (rest : List ℕ) (char low : Bool) → (char && low) ≡ true → length (if char then low_bits byte ∷ (if low then name_run rest else []) else []) ≡ suc (length (name_run rest))
     by_chars byte rest true true on = refl
     by_chars byte rest true false on = absurd (false≢true on)
     by_chars byte rest false low on = absurd (false≢true on)
 
-    by_on : (byte : ℕ) → user_cell cells at ≡ Some byte → (on : Bool) → goes_on byte ≡ on → ((rest : List ℕ) → run_bytes cells (at + 1) most ≡ Some rest → is_marked (user_cell cells (at + 1 + length (name_run rest) - 1)) ≡ false → Runs cells (at + 1) (at + 1 + length (name_run rest))) → (if on then option_map (λ (run : List ℕ). byte ∷ run) (run_bytes cells (at + 1) most) else Some (byte ∷ [])) ≡ Some bytes → Runs cells at (at + length (name_run bytes))
+    by_on : (byte : ℕ) → user_cell cells at ≡ Some byte → (on : Bool) → goes_on byte ≡ on
+        → ((rest : List ℕ) → run_bytes cells (at + 1) most ≡ Some rest
+        → is_marked (user_cell cells (at + 1 + length (name_run rest) - 1)) ≡ false → Runs cells (at + 1)
+        (at + 1 + length (name_run rest))) → (if on then option_map (λ (run : List ℕ). byte ∷ run)
+        (run_bytes cells (at + 1) most) else Some (byte ∷ [])) ≡ Some bytes
+        → Runs cells at (at + length (name_run bytes))
     by_on byte there true on further is =
         let it = mapped-some (λ (run : List ℕ). byte ∷ run) (run_bytes cells (at + 1) most) bytes is in
-        let long : length (name_run bytes) ≡ suc (length (name_run it.0)) = ap (λ (bytes : List ℕ). length (name_run bytes)) (sym it.2) ∙ by_chars byte it.0 (is_name_character (low_bits byte)) (nat_lt byte 128) on in
+        let long : length (name_run bytes) ≡ suc (length (name_run it.0)) = ap (λ (bytes : List ℕ). length
+        (name_run bytes)) (sym it.2) ∙ by_chars byte it.0 (is_name_character (low_bits byte)) (nat_lt byte 128) on
+        in
         subst (λ (n : ℕ). Runs cells at (at + n)) (sym long) (by_more byte there on further it.0 it.1 (ap (λ (n : ℕ). is_marked (user_cell cells (at + n - 1))) (sym long) ∙ unmarked))
     by_on byte there false on further is =
         let same : byte ∷ [] ≡ bytes = same_Some (byte ∷ []) bytes is in
-        subst (λ (bytes : List ℕ). Runs cells at (at + length (name_run bytes))) same (by_last byte there (is_name_character (low_bits byte)) (nat_lt byte 128) refl refl on (subst (λ (bytes : List ℕ). is_marked (user_cell cells (at + length (name_run bytes) - 1)) ≡ false) (sym same) unmarked))
+        subst (λ (bytes : List ℕ). Runs cells at (at + length (name_run bytes))) same
+        (by_last byte there (is_name_character (low_bits byte)) (nat_lt byte 128) refl refl on
+        (subst (λ (bytes : List ℕ). is_marked (user_cell cells (at + length (name_run bytes) - 1)) ≡ false)
+        (sym same) unmarked))
 
-    by_byte : (byte : Option ℕ) → user_cell cells at ≡ byte → ((rest : List ℕ) → run_bytes cells (at + 1) most ≡ Some rest → is_marked (user_cell cells (at + 1 + length (name_run rest) - 1)) ≡ false → Runs cells (at + 1) (at + 1 + length (name_run rest))) → run_with (λ next. run_bytes cells next most) at byte ≡ Some bytes → Runs cells at (at + length (name_run bytes))
+    by_byte : (byte : Option ℕ) → user_cell cells at ≡ byte → ((rest : List ℕ) → run_bytes cells (at + 1) most ≡ Some
+        rest → is_marked (user_cell cells (at + 1 + length (name_run rest) - 1)) ≡ false → Runs cells (at + 1)
+        (at + 1 + length (name_run rest))) → run_with (λ next. run_bytes cells next most) at byte ≡ Some bytes
+        → Runs cells at (at + length (name_run bytes))
     by_byte None there further is = absurd (none-some bytes is)
     by_byte (Some byte) there further is = by_on byte there (goes_on byte) refl further is
 
@@ -207,7 +240,9 @@ no-cell : (cells : Cells) (at : ℕ) → 65536 ≤ at → user_cell cells at ≡
 no-cell cells at past = ap (λ (low : Bool). if low then cells at else None) (le-ltb at 65536 past)
 
 -- behind a name that has no bit 7
-module _ (fault : NameFault) (cells : Cells) (at left : ℕ) (name : List ℕ) (read : Reads cells at name) (next : ℕ) (next_is : at + length name ≡ next) (unmarked : is_marked (user_cell cells (next - 1)) ≡ false) (further : names_at cells (next + 1) left ≡ Err fault → Breaks fault cells (next + 1)) where
+module _ (fault : NameFault) (cells : Cells) (at left : ℕ) (name : List ℕ) (read : Reads cells at name) (next : ℕ)
+    (next_is : at + length name ≡ next) (unmarked : is_marked (user_cell cells (next - 1)) ≡ false)
+    (further : names_at cells (next + 1) left ≡ Err fault → Breaks fault cells (next + 1)) where
   up : at ≤ next
   up = omega (arith, next_is)
 
@@ -231,7 +266,9 @@ module _ (fault : NameFault) (cells : Cells) (at left : ℕ) (name : List ℕ) (
       (further (before-err name (names_at cells (next + 1) left) fault is))
   by-after byte there is_slash false is = absurd (ok-err _ fault is)
 
-  by-slash : (byte : ℕ) → user_cell cells next ≡ Some byte → (is_slash : Bool) → (byte == slash) ≡ is_slash → (after : Option ℕ) → user_cell cells (next + 1) ≡ after → With (if is_slash then behind_slash after else nothing) → Breaks fault cells at
+  by-slash : (byte : ℕ) → user_cell cells next ≡ Some byte → (is_slash : Bool) → (byte == slash) ≡ is_slash
+      → (after : Option ℕ) → user_cell cells (next + 1) ≡ after → With (if is_slash then behind_slash after else
+      nothing) → Breaks fault cells at
   by-slash byte there true is_slash None none is =
       breaks-then fault cells at (next + 1) (omega (arith, up)) (runs-slash byte there is_slash) (λ no. slash-before cells next byte there is_slash)
       (subst (λ (fault : NameFault). Breaks fault cells (next + 1)) (ap fault_in is) (breaks-here Unreadable cells (next + 1) none))
@@ -245,12 +282,18 @@ module _ (fault : NameFault) (cells : Cells) (at left : ℕ) (name : List ℕ) (
       (subst (λ (fault : NameFault). Breaks fault cells next) (ap fault_in is) (breaks-here Unreadable cells next none))
   by-next (Some byte) there is = by-slash byte there (byte == slash) refl (user_cell cells (next + 1)) refl is
 
-by-marked : (fault : NameFault) (cells : Cells) (at left : ℕ) (name : List ℕ) → Reads cells at name → (next : ℕ) → at + length name ≡ next → (names_at cells (next + 1) left ≡ Err fault → Breaks fault cells (next + 1)) → (marked : Bool) → is_marked (user_cell cells (next - 1)) ≡ marked → names_with (λ next. names_at cells next left) name next (if marked then nothing else behind_name cells next (user_cell cells next)) ≡ Err fault → Breaks fault cells at
+by-marked : (fault : NameFault) (cells : Cells) (at left : ℕ) (name : List ℕ) → Reads cells at name → (next : ℕ)
+    → at + length name ≡ next → (names_at cells (next + 1) left ≡ Err fault → Breaks fault cells (next + 1))
+    → (marked : Bool) → is_marked (user_cell cells (next - 1)) ≡ marked
+    → names_with (λ next. names_at cells next left) name next (if marked then nothing else behind_name cells next
+    (user_cell cells next)) ≡ Err fault → Breaks fault cells at
 by-marked fault cells at left name read next next_is further true marked is = absurd (ok-err _ fault is)
 by-marked fault cells at left name read next next_is further false unmarked is =
     by-next fault cells at left name read next next_is unmarked further (user_cell cells next) refl is
 
-by-name : (fault : NameFault) (cells : Cells) (at left : ℕ) → ((next : ℕ) → at ≤ next → names_at cells (next + 1) left ≡ Err fault → Breaks fault cells (next + 1)) → (name : Result (List ℕ) NameFault) → name_at cells at ≡ name → names_behind (λ next. names_at cells next left) cells at name ≡ Err fault → Breaks fault cells at
+by-name : (fault : NameFault) (cells : Cells) (at left : ℕ) → ((next : ℕ) → at ≤ next → names_at cells (next + 1) left
+    ≡ Err fault → Breaks fault cells (next + 1)) → (name : Result (List ℕ) NameFault) → name_at cells at ≡ name
+    → names_behind (λ next. names_at cells next left) cells at name ≡ Err fault → Breaks fault cells at
 by-name fault cells at left further (Ok name) there is =
     by-marked fault cells at left name (reads-name cells at name there) (at + length name) refl (further (at + length name) (omega arith)) (is_marked (user_cell cells (at + length name - 1))) refl is
 by-name fault cells at left further (Err other) there is = name-breaks cells at fault (there ∙ ap Err (ap fault_in is))
@@ -305,7 +348,9 @@ ListBreaks fault cells at = (it : Breaks fault cells at) × (it.at ≡ at → us
 list-breaks : (fault : NameFault) (cells : Cells) (at : ℕ) → path_list cells at ≡ Err fault → ListBreaks fault cells at
 list-breaks fault cells at is = by_byte (user_cell cells at) refl is
   where
-    by_slash : (byte : ℕ) → user_cell cells at ≡ Some byte → (is_slash : Bool) → (byte == slash) ≡ is_slash → (if is_slash then device_list (names_from cells (at + 1)) else relative_list (names_from cells at)) ≡ Err fault → ListBreaks fault cells at
+    by_slash : (byte : ℕ) → user_cell cells at ≡ Some byte → (is_slash : Bool) → (byte == slash) ≡ is_slash
+        → (if is_slash then device_list (names_from cells (at + 1)) else relative_list (names_from cells at)) ≡ Err
+        fault → ListBreaks fault cells at
     by_slash byte there true is_slash is =
         let inner : Breaks fault cells (at + 1) = names-break fault cells (at + 1) 65536 (omega arith) (device-err (names_from cells (at + 1)) fault (has-name cells (at + 1) 65536) is) in
         let behind : at + 1 ≤ inner.at = inner.behind in
@@ -329,10 +374,13 @@ list-breaks fault cells at is = by_byte (user_cell cells at) refl is
     )
     by_byte (Some byte) there is = by_slash byte there (byte == slash) refl is
 
-name-place : (cells : Cells) (from at : ℕ) → from ≤ at → (at ≡ from → user_cell cells from ≡ Some slash → ⊥) → (at ≡ from) ⊎ (NoName ≡ NoName → user_cell cells (at - 1) ≡ Some slash) → (at ≡ from) × (user_cell cells at ≢ Some slash) ⊎ (from < at) × (user_cell cells (at - 1) ≡ Some slash)
+name-place : (cells : Cells) (from at : ℕ) → from ≤ at → (at ≡ from → user_cell cells from ≡ Some slash → ⊥)
+    → (at ≡ from) ⊎ (NoName ≡ NoName → user_cell cells (at - 1) ≡ Some slash)
+    → (at ≡ from) × (user_cell cells at ≢ Some slash) ⊎ (from < at) × (user_cell cells (at - 1) ≡ Some slash)
 name-place cells from at behind first starts = by_place (cases_eq at from) starts
   where
-    by_place : (at ≡ from) ⊎ (at ≢ from) → (at ≡ from) ⊎ (NoName ≡ NoName → user_cell cells (at - 1) ≡ Some slash) → (at ≡ from) × (user_cell cells at ≢ Some slash) ⊎ (from < at) × (user_cell cells (at - 1) ≡ Some slash)
+    by_place : (at ≡ from) ⊎ (at ≢ from) → (at ≡ from) ⊎ (NoName ≡ NoName → user_cell cells (at - 1) ≡ Some slash)
+        → (at ≡ from) × (user_cell cells at ≢ Some slash) ⊎ (from < at) × (user_cell cells (at - 1) ≡ Some slash)
     by_place (inl same) starts = inl (same, λ slashed. first same (ap (user_cell cells) (sym same) ∙ slashed))
     by_place (inr apart) (inl same) = absurd (apart same)
     by_place (inr apart) (inr before) = inr (omega (arith, behind, apart), before refl)
@@ -370,7 +418,9 @@ pub bytes-gap : (cells : Cells) (at count : ℕ) → user_bytes cells at count �
 bytes-gap cells at zero none = absurd (none-some [] (sym none))
 bytes-gap cells at (suc count) none = by_byte (user_cell cells at) refl (bytes-gap cells (at + 1) count) none
   where
-    by_byte : (byte : Option ℕ) → user_cell cells at ≡ byte → (user_bytes cells (at + 1) count ≡ None → HasGap cells (at + 1) count) → byte_before byte (user_bytes cells (at + 1) count) ≡ None → HasGap cells at (suc count)
+    by_byte : (byte : Option ℕ) → user_cell cells at ≡ byte → (user_bytes cells (at + 1) count ≡ None
+        → HasGap cells (at + 1) count) → byte_before byte (user_bytes cells (at + 1) count) ≡ None
+        → HasGap cells at (suc count)
     by_byte None there further none = gap-here cells at count there
     by_byte (Some byte) there further none =
         gap-then cells at count (further (mapped-none (λ (rest : List ℕ). byte ∷ rest) (user_bytes cells (at + 1) count) none))
@@ -379,12 +429,16 @@ line-gap : (cells : Cells) (at most : ℕ) → line_at cells at most ≡ None �
 line-gap cells at zero none = absurd (none-some [] (sym none))
 line-gap cells at (suc most) none = by_byte (user_cell cells at) refl (line-gap cells (at + 1) most) none
   where
-    by_return : (byte : ℕ) (return : Bool) → (line_at cells (at + 1) most ≡ None → HasGap cells (at + 1) most) → (if return then Some (byte ∷ []) else option_map (λ (line : List ℕ). byte ∷ line) (line_at cells (at + 1) most)) ≡ None → HasGap cells at (suc most)
+    by_return : (byte : ℕ) (return : Bool) → (line_at cells (at + 1) most ≡ None → HasGap cells (at + 1) most)
+        → (if return then Some (byte ∷ []) else option_map (λ (line : List ℕ). byte ∷ line)
+        (line_at cells (at + 1) most)) ≡ None → HasGap cells at (suc most)
     by_return byte true further none = absurd (none-some (byte ∷ []) (sym none))
     by_return byte false further none =
         gap-then cells at most (further (mapped-none (λ (line : List ℕ). byte ∷ line) (line_at cells (at + 1) most) none))
 
-    by_byte : (byte : Option ℕ) → user_cell cells at ≡ byte → (line_at cells (at + 1) most ≡ None → HasGap cells (at + 1) most) → line_with (λ next. line_at cells next most) at byte ≡ None → HasGap cells at (suc most)
+    by_byte : (byte : Option ℕ) → user_cell cells at ≡ byte → (line_at cells (at + 1) most ≡ None
+        → HasGap cells (at + 1) most) → line_with (λ next. line_at cells next most) at byte ≡ None
+        → HasGap cells at (suc most)
     by_byte None there further none = gap-here cells at most there
     by_byte (Some byte) there further none = by_return byte (byte == RETURN) further none
 

@@ -72,7 +72,10 @@ module _ (s t : State) (p : ℕ) (now : TimePacket) (call : PathCall) (number : 
     why-so : (it : FileEffect) → it.files.volumes ≡ s.files.volumes → FileCause (made_by s p now call) number → Why (files_after p (with_drives_after it drives))
     why-so it volumes cause = (record { volumes = volumes; none_failed = none }, cause)
 
-    by-deed : (deed : Deed) → deed_of (step_of s p now call) s.files ≡ deed → (reached : Option ℕ) → Splits call asker s.files (length s.terms) reached deed → Caused (made_by s p now call) deed → (it : FileEffect) → DoesDeed deed asker s.files it s.terms t.terms → it.end ≡ fails number → On (with_drives_after it drives) ⊎ Why (files_after p (with_drives_after it drives))
+    by-deed : (deed : Deed) → deed_of (step_of s p now call) s.files ≡ deed → (reached : Option ℕ) → Splits call asker
+        s.files (length s.terms) reached deed → Caused (made_by s p now call) deed → (it : FileEffect)
+        → DoesDeed deed asker s.files it s.terms t.terms → it.end ≡ fails number → On (with_drives_after it drives) ⊎
+        Why (files_after p (with_drives_after it drives))
     by-deed (leaves_so effect) deed_is reached splits caused it (is, same) ended =
         inr (why-so it (ap (λ (it : FileEffect). it.files.volumes) is ∙ splits.volumes) (caused number (sym (ap (λ (it : FileEffect). it.end) is) ∙ ended)))
     by-deed (as_io io) deed_is reached splits (inl on) it (effect, does, is) ended =
@@ -84,12 +87,15 @@ module _ (s t : State) (p : ℕ) (now : TimePacket) (call : PathCall) (number : 
         absurd (not-refused regs number (sym answered ∙ sym (ap (λ (it : FileEffect). it.end) changed.effect_is) ∙ ended))
     by-deed (changes change) deed_is reached splits answer it (inr long, same) ended =
         inr (why-so it (ap (λ (it : FileEffect). it.files.volumes) long.effect_is)
-        (finds_no_segment (sym (same-fails E_SLF number (sym (ap (λ (it : FileEffect). it.end) long.effect_is) ∙ ended))) (record { it = change; is = deed_is; v = long.old; mounted = long.is; full = long.too_long })))
+        (finds_no_segment (sym (same-fails E_SLF number (sym (ap (λ (it : FileEffect). it.end) long.effect_is) ∙
+        ended))) (record { it = change; is = deed_is; v = long.old; mounted = long.is; full = long.too_long })))
 
   goes-well : (effect : FileEffect) (well : GoesWell (step_of s p now call) asker s.files effect s.terms t.terms) → effect.end ≡ fails number → On effect ⊎ Why (files_after p effect)
   goes-well effect well ended =
       subst (λ (effect : FileEffect). On effect ⊎ Why (files_after p effect)) (sym well.effect_is)
-      (by-deed well.drives well.none_failed (deed_of (step_of s p now call) s.files) refl _ (step-splits call asker s.files (length s.terms)) (step-caused call asker s.files (length s.terms)) well.it well.does (sym (ap (λ (it : FileEffect). it.end) well.effect_is) ∙ ended))
+      (by-deed well.drives well.none_failed (deed_of (step_of s p now call) s.files) refl _
+      (step-splits call asker s.files (length s.terms)) (step-caused call asker s.files (length s.terms)) well.it
+      well.does (sym (ap (λ (it : FileEffect). it.end) well.effect_is) ∙ ended))
 
   -- ---- where its drive fails
 
@@ -128,14 +134,26 @@ module _ (s t : State) (p : ℕ) (now : TimePacket) (call : PathCall) (number : 
     ended = ends-refused it.effect.end s.inner p (io_effect it.effect) number (sym it.result_is)
 
     -- it is on a terminal or a pipe, on no file; or its drive failed; or it has its cause
-    pub file-refused : IsOnDevice call s.inner s.files p (refused number) t.files s.terms t.terms × IsOnNoFile call asker s.files (length s.terms) ⊎ FailsOnDrive s p now call number t ⊎ NoVolumeChanges s.files t.files × FileCause (made_by s p now call) number
+    pub file-refused : IsOnDevice call s.inner s.files p (refused number) t.files s.terms t.terms × IsOnNoFile call
+        asker s.files (length s.terms) ⊎ FailsOnDrive s p now call number t ⊎ NoVolumeChanges s.files t.files ×
+        FileCause (made_by s p now call) number
     file-refused = by_end it.does
       where
-        by_case : On it.effect ⊎ Why (files_after p it.effect) → IsOnDevice call s.inner s.files p (refused number) t.files s.terms t.terms × IsOnNoFile call asker s.files (length s.terms) ⊎ FailsOnDrive s p now call number t ⊎ Why t.files
+        by_case : On it.effect ⊎ Why (files_after p it.effect) → IsOnDevice call s.inner s.files p (refused number)
+            t.files s.terms t.terms × IsOnNoFile call asker s.files (length s.terms) ⊎ FailsOnDrive s p now call
+            number t ⊎ Why t.files
         by_case (inl (on, none)) =
-            inl (subst (λ (result : CallResult). IsOnDevice call s.inner s.files p result t.files s.terms t.terms) (sym it.result_is) (subst (λ (new : Files). IsOnDevice call s.inner s.files p (result_of s.inner p (io_effect it.effect)) new s.terms t.terms) (sym it.state) on), none)
+            inl (
+              subst (λ (result : CallResult). IsOnDevice call s.inner s.files p result t.files s.terms t.terms)
+                  (sym it.result_is) (subst (λ (new : Files). IsOnDevice call s.inner s.files p
+                  (result_of s.inner p (io_effect it.effect)) new s.terms t.terms) (sym it.state) on),
+              none,
+            )
         by_case (inr why) = inr (inr (subst Why (sym it.state) why))
 
-        by_end : GoesWell (step_of s p now call) asker s.files it.effect s.terms t.terms ⊎ (IsBroken (step_of s p now call) asker s.files it.effect × (t.terms ≡ s.terms)) → IsOnDevice call s.inner s.files p (refused number) t.files s.terms t.terms × IsOnNoFile call asker s.files (length s.terms) ⊎ FailsOnDrive s p now call number t ⊎ Why t.files
+        by_end : GoesWell (step_of s p now call) asker s.files it.effect s.terms t.terms ⊎
+            (IsBroken (step_of s p now call) asker s.files it.effect × (t.terms ≡ s.terms)) → IsOnDevice call s.inner
+            s.files p (refused number) t.files s.terms t.terms × IsOnNoFile call asker s.files (length s.terms) ⊎
+            FailsOnDrive s p now call number t ⊎ Why t.files
         by_end (inl well) = by_case (goes-well it.effect well ended)
         by_end (inr (broken, same)) = inr (inl (breaks it.effect broken ended it.state))

@@ -67,11 +67,15 @@ module _ (number : ℕ) {P : Type 0} where
   by-refuses true error next fits rest is = fits refl (same-number error number is)
   by-refuses false error next fits rest is = rest refl is
 
-  by-needs : {A : Type 0} (o : Option A) (error : ℕ) (next : A → CallResult) → (o ≡ None → number ≡ error → P) → ((a : A) → o ≡ Some a → next a ≡ refused number → P) → needs o error next ≡ refused number → P
+  by-needs : {A : Type 0} (o : Option A) (error : ℕ) (next : A → CallResult) → (o ≡ None → number ≡ error → P)
+      → ((a : A) → o ≡ Some a → next a ≡ refused number → P) → needs o error next ≡ refused number → P
   by-needs None error next none rest is = none refl (same-number error number is)
   by-needs (Some a) error next none rest is = rest a refl is
 
-  by-name : (read : Result (List ℕ) NameFault) (error : ℕ) (next : List ℕ → CallResult) → (read ≡ Err Unreadable → number ≡ E_BPADDR → P) → (read ≡ Err NoName → number ≡ error → P) → ((name : List ℕ) → read ≡ Ok name → next name ≡ refused number → P) → reads_name read error next ≡ refused number → P
+  by-name : (read : Result (List ℕ) NameFault) (error : ℕ) (next : List ℕ → CallResult)
+      → (read ≡ Err Unreadable → number ≡ E_BPADDR → P) → (read ≡ Err NoName → number ≡ error → P)
+      → ((name : List ℕ) → read ≡ Ok name → next name ≡ refused number → P) → reads_name read error next ≡ refused
+      number → P
   by-name (Ok name) error next gap bad rest is = rest name refl is
   by-name (Err Unreadable) error next gap bad rest is = gap refl (same-number E_BPADDR number is)
   by-name (Err NoName) error next gap bad rest is = bad refl (same-number error number is)
@@ -82,7 +86,9 @@ abbrev entered_so : ℕ → ModuleEntry → Entered
 entered_so number entry = record { number = number; entry = entry }
 
 -- a module that is found by its name is entered
-entered-there : (entries : List (Option ModuleEntry)) (number : Option ℕ) (found : Entered) → option_and_then (entered_at entries) number ≡ Some found → module_entry_at entries found.number ≡ Some found.entry
+entered-there : (entries : List (Option ModuleEntry)) (number : Option ℕ) (found : Entered)
+    → option_and_then (entered_at entries) number ≡ Some found → module_entry_at entries found.number ≡ Some
+    found.entry
 entered-there entries None found is = absurd (none-some found is)
 entered-there entries (Some n) found is = by_entry (module_entry_at entries n) refl is
   where
@@ -94,7 +100,8 @@ entered-there entries (Some n) found is = by_entry (module_entry_at entries n) r
 -- ---- the bytes that a call reads
 
 -- a byte before others that are all there
-length-before : (byte : Option ℕ) (rest : Option (List ℕ)) (count : ℕ) → ((bytes : List ℕ) → rest ≡ Some bytes → length bytes ≡ count) → (bytes : List ℕ) → byte_before byte rest ≡ Some bytes → length bytes ≡ suc count
+length-before : (byte : Option ℕ) (rest : Option (List ℕ)) (count : ℕ) → ((bytes : List ℕ) → rest ≡ Some bytes
+    → length bytes ≡ count) → (bytes : List ℕ) → byte_before byte rest ≡ Some bytes → length bytes ≡ suc count
 length-before None rest count long bytes is = absurd (none-some bytes is)
 length-before (Some first) None count long bytes is = absurd (none-some bytes is)
 length-before (Some first) (Some rest) count long bytes is =
@@ -173,14 +180,18 @@ module _ (m : Inner) (p number : ℕ) where
 
   -- ---- F$Mem
 
-  resized-caused : (free wants : Bool) → is_free_run (map_at m.memory p) (map_at m.memory p).low (blocks_more m p) ≡ free → wants_blocks m.memory (blocks_more m p) ≡ wants → (grows : MemoryState) (next : MemoryState → Inner) → changes (if free then (if wants then Err NoRam else Ok grows) else Err MemFull) (λ memory. done (next memory)) ≡ refused number → Why Call.Mem
+  resized-caused : (free wants : Bool) → is_free_run (map_at m.memory p) (map_at m.memory p).low (blocks_more m p) ≡
+      free → wants_blocks m.memory (blocks_more m p) ≡ wants → (grows : MemoryState) (next : MemoryState → Inner)
+      → changes (if free then (if wants then Err NoRam else Ok grows) else Err MemFull) (λ memory. done (next memory))
+      ≡ refused number → Why Call.Mem
   resized-caused false wants free_is wants_is grows next is =
       no_slots (same-number E_MEMFUL number is) refl (inr free_is)
   resized-caused true true free_is wants_is grows next is =
       no_blocks (same-number E_NORAM number is) refl (ltb-true (free_blocks m.memory) (blocks_more m p) wants_is)
   resized-caused true false free_is wants_is grows next is = absurd (not-done number _ is)
 
-  grown-caused : (more : Bool) (next : MemoryState → Inner) → changes (if more then grown m.memory p (blocks_more m p) else Ok (cut m.memory p (blocks_asked m p))) (λ memory. done (next memory)) ≡ refused number → Why Call.Mem
+  grown-caused : (more : Bool) (next : MemoryState → Inner) → changes (if more then grown m.memory p (blocks_more m p)
+      else Ok (cut m.memory p (blocks_asked m p))) (λ memory. done (next memory)) ≡ refused number → Why Call.Mem
   grown-caused true next is =
       resized-caused (is_free_run (map_at m.memory p) (map_at m.memory p).low (blocks_more m p)) (wants_blocks m.memory (blocks_more m p)) refl refl _ next is
   grown-caused false next is = absurd (not-done number _ is)
@@ -188,7 +199,10 @@ module _ (m : Inner) (p number : ℕ) where
   mem-caused : attempted Call.Mem m p ≡ refused number → Why Call.Mem
   mem-caused = by_size (d_of (regs_at m p) == 0) _ _
     where
-      by_size : (asks : Bool) (answer : Inner) (next : MemoryState → Inner) → (if asks then done answer else refuses (nat_lt most_pages (page_count (d_of (regs_at m p)))) E_MEMFUL (changes (resized m.memory p (blocks_asked m p)) (λ memory. done (next memory)))) ≡ refused number → Why Call.Mem
+      by_size : (asks : Bool) (answer : Inner) (next : MemoryState → Inner)
+          → (if asks then done answer else refuses (nat_lt most_pages (page_count (d_of (regs_at m p)))) E_MEMFUL
+          (changes (resized m.memory p (blocks_asked m p)) (λ memory. done (next memory)))) ≡ refused number
+          → Why Call.Mem
       by_size true answer next is = absurd (not-done number answer is)
       by_size false answer next is =
           by-refuses number (nat_lt most_pages (page_count (d_of (regs_at m p)))) E_MEMFUL _
@@ -206,7 +220,10 @@ module _ (m : Inner) (p number : ℕ) where
       answer (Some NoProcess) = refused E_IPRCID
       answer (Some Pending) = refused E_USIGP
 
-      by_reach : (reached wake pends : Bool) → is_reached m.records (user_at m p) (regs_at m p).a ≡ reached → ((regs_at m p).b == wake_signal) ≡ wake → is_some (record_at m.records (regs_at m p).a).signal ≡ pends → answer (if not reached then Some NoProcess else (if not wake && pends then Some Pending else None)) ≡ refused number → Why Call.Send
+      by_reach : (reached wake pends : Bool) → is_reached m.records (user_at m p) (regs_at m p).a ≡ reached
+          → ((regs_at m p).b == wake_signal) ≡ wake → is_some (record_at m.records (regs_at m p).a).signal ≡ pends
+          → answer (if not reached then Some NoProcess else (if not wake && pends then Some Pending else None)) ≡
+          refused number → Why Call.Send
       by_reach false wake pends reached_is wake_is pends_is is =
           not_reached (same-number E_IPRCID number is) (inl refl) reached_is
       by_reach true false true reached_is wake_is pends_is is =
@@ -229,7 +246,9 @@ module _ (m : Inner) (p number : ℕ) where
       answer (Err NoChild) = refused E_NOCHLD
       answer (Err NotYet) = waits m
 
-      by_child : (ended : Option ℕ) (has : Bool) → ended_child m.records p ≡ ended → has_child m.records p ≡ has → answer (option_map_or (λ (child : ℕ). Ok (child_and_status m.records child)) ended (if has then Err NotYet else Err NoChild)) ≡ refused number → Why Call.Wait
+      by_child : (ended : Option ℕ) (has : Bool) → ended_child m.records p ≡ ended → has_child m.records p ≡ has
+          → answer (option_map_or (λ (child : ℕ). Ok (child_and_status m.records child)) ended
+          (if has then Err NotYet else Err NoChild)) ≡ refused number → Why Call.Wait
       by_child None false ended_is has_is is = no_child (same-number E_NOCHLD number is) refl has_is ended_is
       by_child None true ended_is has_is is = absurd (not-waits number m is)
       by_child (Some child) has ended_is has_is is = absurd (not-done number _ is)
@@ -239,7 +258,10 @@ module _ (m : Inner) (p number : ℕ) where
   sleep-caused : attempted Call.Sleep m p ≡ refused number → Why Call.Sleep
   sleep-caused = by_wait (is_waiting (record_at m.records p).life) (may_wake m.tick (own_at m p))
     where
-      by_wait : (waits may : Bool) → (if waits then (if may then done (with_regs_of m p (record (regs_at m p) { x = ticks_left m.tick (own_at m p) })) else CallResult.waits m) else falls_asleep m p) ≡ refused number → Why Call.Sleep
+      by_wait : (waits may : Bool)
+          → (if waits then (if may then done
+          (with_regs_of m p (record (regs_at m p) { x = ticks_left m.tick (own_at m p) })) else CallResult.waits m)
+          else falls_asleep m p) ≡ refused number → Why Call.Sleep
       by_wait true true is = absurd (not-done number _ is)
       by_wait true false is = absurd (not-waits number _ is)
       by_wait false may is = absurd (not-waits number _ is)
@@ -258,12 +280,18 @@ module _ (m : Inner) (p number : ℕ) where
       abbrev blocks : ℕ
       blocks = blocks_for m p no_file (in_memory m found)
 
-      by-free : (few : Bool) → nat_lt (free_blocks m.memory + (map_at m.memory q).low) blocks ≡ few → changes (if few then Err NoRam else Ok (with_first_slots m.memory q found.entry.group blocks)) (λ memory. done (next memory)) ≡ refused number → Starts
+      by-free : (few : Bool) → nat_lt (free_blocks m.memory + (map_at m.memory q).low) blocks ≡ few
+          → changes (if few then Err NoRam else Ok (with_first_slots m.memory q found.entry.group blocks))
+          (λ memory. done (next memory)) ≡ refused number → Starts
       by-free true few is =
           no_memory q begins_is (same-number E_NORAM number is) (ltb-true (free_blocks m.memory + (map_at m.memory q).low) blocks few)
       by-free false few is = absurd (not-done number _ is)
 
-      by-slots : (most over : Bool) → has_most_links found.entry ≡ most → nat_lt 8 (blocks + length found.entry.group) ≡ over → changes (if most || over then Err MemFull else (if nat_lt (free_blocks m.memory + (map_at m.memory q).low) blocks then Err NoRam else Ok (with_first_slots m.memory q found.entry.group blocks))) (λ memory. done (next memory)) ≡ refused number → Starts
+      by-slots : (most over : Bool) → has_most_links found.entry ≡ most → nat_lt 8 (blocks + length found.entry.group)
+          ≡ over → changes (if most || over then Err MemFull else
+          (if nat_lt (free_blocks m.memory + (map_at m.memory q).low) blocks then Err NoRam else Ok
+          (with_first_slots m.memory q found.entry.group blocks))) (λ memory. done (next memory)) ≡ refused number
+          → Starts
       by-slots true over a b is = no_place q begins_is (same-number E_MEMFUL number is) (inl a)
       by-slots false true a b is =
           no_place q begins_is (same-number E_MEMFUL number is) (inr (ltb-true 8 (blocks + length found.entry.group) b))
@@ -275,12 +303,17 @@ module _ (m : Inner) (p number : ℕ) where
           (subst (λ (entry : Option ModuleEntry). changes (option_map_or (started_with m.memory q blocks) entry (Err MemFull)) (λ memory. done (next memory)) ≡ refused number) there is)
 
       -- the pages are tested, and then the memory is taken
-      pages-caused : module_entry_at m.memory.modules found.number ≡ Some found.entry → (pages : ℕ) → pages ≡ pages_for m p no_file (in_memory m found) → refuses (nat_lt most_pages pages) E_MEMFUL (changes (started m.memory q found.number (blocks_of_pages pages)) (λ memory. done (next memory))) ≡ refused number → Starts
+      pages-caused : module_entry_at m.memory.modules found.number ≡ Some found.entry → (pages : ℕ)
+          → pages ≡ pages_for m p no_file (in_memory m found) → refuses (nat_lt most_pages pages) E_MEMFUL
+          (changes (started m.memory q found.number (blocks_of_pages pages)) (λ memory. done (next memory))) ≡ refused
+          number → Starts
       pages-caused there pages pages_is is =
           by-refuses number (nat_lt most_pages (pages_for m p no_file (in_memory m found))) E_MEMFUL _
           (λ many number_is. many_pages number_is (ltb-true most_pages (pages_for m p no_file (in_memory m found)) many))
           (λ few is. change-caused there is)
-          (subst (λ (pages : ℕ). refuses (nat_lt most_pages pages) E_MEMFUL (changes (started m.memory q found.number (blocks_of_pages pages)) (λ memory. done (next memory))) ≡ refused number) pages_is is)
+          (subst (λ (pages : ℕ). refuses (nat_lt most_pages pages) E_MEMFUL
+          (changes (started m.memory q found.number (blocks_of_pages pages)) (λ memory. done (next memory))) ≡
+          refused number) pages_is is)
 
     -- the program that is read is that of the module
     abbrev program_with : List ℕ → ℕ → Program
@@ -291,8 +324,12 @@ module _ (m : Inner) (p number : ℕ) where
       count = count;
     }
 
-    module _ (next : Program → CallResult) (comes : module_entry_at m.memory.modules found.number ≡ Some found.entry → (parameters : List ℕ) (count : ℕ) → length parameters ≡ (regs_at m p).y → next (program_with parameters count) ≡ refused number → Starts) where
-      by-kind : (name parameters : List ℕ) → length parameters ≡ (regs_at m p).y → found_entry m.memory.modules name (regs_at m p).a ≡ Some found → refuses (not (found.entry.info.kind == program_kind)) E_NEMOD (next (program_with parameters (length name))) ≡ refused number → Why call
+    module _ (next : Program → CallResult) (comes : module_entry_at m.memory.modules found.number ≡ Some found.entry
+        → (parameters : List ℕ) (count : ℕ) → length parameters ≡ (regs_at m p).y
+        → next (program_with parameters count) ≡ refused number → Starts) where
+      by-kind : (name parameters : List ℕ) → length parameters ≡ (regs_at m p).y → found_entry m.memory.modules name
+          (regs_at m p).a ≡ Some found → refuses (not (found.entry.info.kind == program_kind)) E_NEMOD
+          (next (program_with parameters (length name))) ≡ refused number → Why call
       by-kind name parameters long there is =
           by-refuses number (not (found.entry.info.kind == program_kind)) E_NEMOD _
           (λ other number_is. not-started-so (no_program number_is (eqb-false found.entry.info.kind program_kind (not-is (found.entry.info.kind == program_kind) other))))
@@ -311,7 +348,9 @@ module _ (m : Inner) (p number : ℕ) where
             count = length name;
           }))))
 
-      by-read : (parameters : List ℕ) → length parameters ≡ (regs_at m p).y → (read : Option (List ℕ)) → option_and_then (λ name. found_entry m.memory.modules name (regs_at m p).a) read ≡ Some found → after_name parameters read ≡ refused number → Why call
+      by-read : (parameters : List ℕ) → length parameters ≡ (regs_at m p).y → (read : Option (List ℕ))
+          → option_and_then (λ name. found_entry m.memory.modules name (regs_at m p).a) read ≡ Some found
+          → after_name parameters read ≡ refused number → Why call
       by-read parameters long None there is = absurd (none-some found there)
       by-read parameters long (Some name) there is =
           by-kind name parameters long there (subst (λ (entered : Option Entered). needs entered E_MNF (λ found. refuses (not (found.entry.info.kind == program_kind)) E_NEMOD (next (record {
@@ -321,7 +360,10 @@ module _ (m : Inner) (p number : ℕ) where
             count = length name;
           }))) ≡ refused number) there is)
 
-      by-program : (name : ProgramName) → option_and_then (λ name. found_entry m.memory.modules name (regs_at m p).a) (module_name name) ≡ Some found → refuses (is_unreadable name) E_BPADDR (needs (parameters_of m p) E_BPADDR (λ parameters. refuses (not (asks_for_program (regs_at m p).a)) E_NEMOD (after_name parameters (module_name name)))) ≡ refused number → Why call
+      by-program : (name : ProgramName) → option_and_then (λ name. found_entry m.memory.modules name (regs_at m p).a)
+          (module_name name) ≡ Some found → refuses (is_unreadable name) E_BPADDR (needs (parameters_of m p) E_BPADDR
+          (λ parameters. refuses (not (asks_for_program (regs_at m p).a)) E_NEMOD
+          (after_name parameters (module_name name)))) ≡ refused number → Why call
       by-program Unreadable there is = absurd (none-some found there)
       by-program PathList there is = absurd (none-some found there)
       by-program (OneName name) there is =
@@ -354,14 +396,20 @@ module _ (m : Inner) (p number : ℕ) where
     fork-caused : attempted Call.Fork m p ≡ refused number → Why Call.Fork
     fork-caused is =
         reads-caused Call.Fork refl found named (forks m p)
-        (λ there parameters count long is. by-needs number (free_process m.records) E_PRCFUL (λ child. begun child (program_with Call.Fork refl found named parameters count) (forked child (program_with Call.Fork refl found named parameters count)))
+        (λ there parameters count long is. by-needs number (free_process m.records) E_PRCFUL
+        (λ child. begun child (program_with Call.Fork refl found named parameters count)
+        (forked child (program_with Call.Fork refl found named parameters count)))
         (λ none number_is. no_process number_is none)
-        (λ child free is. pages-caused Call.Fork refl found named child free (forked child (program_with Call.Fork refl found named parameters count)) there (area_pages found.entry (regs_at m p).b (length parameters)) (pages-same found parameters long) is) is) is
+        (λ child free is. pages-caused Call.Fork refl found named child free
+        (forked child (program_with Call.Fork refl found named parameters count)) there
+        (area_pages found.entry (regs_at m p).b (length parameters)) (pages-same found parameters long) is) is) is
 
     chain-caused : attempted Call.Chain m p ≡ refused number → Why Call.Chain
     chain-caused is =
         reads-caused Call.Chain refl found named (chains m p)
-        (λ there parameters count long is. pages-caused Call.Chain refl found named p refl (chained (program_with Call.Chain refl found named parameters count)) there (area_pages found.entry (regs_at m p).b (length parameters)) (pages-same found parameters long) is) is
+        (λ there parameters count long is. pages-caused Call.Chain refl found named p refl
+        (chained (program_with Call.Chain refl found named parameters count)) there
+        (area_pages found.entry (regs_at m p).b (length parameters)) (pages-same found parameters long) is) is
 
   -- ---- any of them
 

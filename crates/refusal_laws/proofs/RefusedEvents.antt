@@ -62,17 +62,23 @@ time-caused : (m : Inner) (now : TimePacket) (p number : ℕ) (call : TimeCall) 
 time-caused m now p number Time.Time answer =
     by_missing (is_none (user_bytes (cells_at m p) (regs_at m p).x PACKET_BYTES)) refl answer
   where
-    by_missing : (missing : Bool) → is_none (user_bytes (cells_at m p) (regs_at m p).x PACKET_BYTES) ≡ missing → refused number ≡ result_of m p (refuses missing E_BPADDR (tells (regs_at m p).x now)) → TimeCause m p Time.Time number
+    by_missing : (missing : Bool) → is_none (user_bytes (cells_at m p) (regs_at m p).x PACKET_BYTES) ≡ missing
+        → refused number ≡ result_of m p (refuses missing E_BPADDR (tells (regs_at m p).x now))
+        → TimeCause m p Time.Time number
     by_missing true missing is = no_packet (sym (same-refusal number E_BPADDR is)) (is_nothing (user_bytes (cells_at m p) (regs_at m p).x PACKET_BYTES) missing)
     by_missing false missing is = let never : ⊥ = cc in absurd never
 time-caused m now p number Time.STime answer =
     by_bytes (user_bytes (cells_at m p) (regs_at m p).x PACKET_BYTES) refl answer
   where
-    by_time : (bytes : List ℕ) → user_bytes (cells_at m p) (regs_at m p).x PACKET_BYTES ≡ Some bytes → (fits : Bool) → is_time_packet (packet_of bytes) ≡ fits → refused number ≡ result_of m p (refuses (not fits) E_BADTIME (sets (record { from = packet_of bytes; since = m.tick }))) → TimeCause m p Time.STime number
+    by_time : (bytes : List ℕ) → user_bytes (cells_at m p) (regs_at m p).x PACKET_BYTES ≡ Some bytes → (fits : Bool)
+        → is_time_packet (packet_of bytes) ≡ fits → refused number ≡ result_of m p (refuses (not fits) E_BADTIME
+        (sets (record { from = packet_of bytes; since = m.tick }))) → TimeCause m p Time.STime number
     by_time bytes there true fits is = let never : ⊥ = cc in absurd never
     by_time bytes there false fits is = no_time bytes (sym (same-refusal number E_BADTIME is)) refl there fits
 
-    by_bytes : (bytes : Option (List ℕ)) → user_bytes (cells_at m p) (regs_at m p).x PACKET_BYTES ≡ bytes → refused number ≡ result_of m p (needs bytes E_BPADDR (λ bytes. sets_clock m.tick (packet_of bytes))) → TimeCause m p Time.STime number
+    by_bytes : (bytes : Option (List ℕ)) → user_bytes (cells_at m p) (regs_at m p).x PACKET_BYTES ≡ bytes
+        → refused number ≡ result_of m p (needs bytes E_BPADDR (λ bytes. sets_clock m.tick (packet_of bytes)))
+        → TimeCause m p Time.STime number
     by_bytes None none is = no_packet (sym (same-refusal number E_BPADDR is)) none
     by_bytes (Some bytes) there is = by_time bytes there (is_time_packet (packet_of bytes)) refl is
 
@@ -96,12 +102,15 @@ module _ (s t : State) (code number : ℕ) where
       Why-load files =
           FaultAnswers read_from s.files (refused number) files ⊎ NoneFailed s.files.drives files.drives × Cause
 
-      why-load : (files : Files) → NoneFailed s.files.drives files.drives ⊎ FaultAnswers read_from s.files (refused number) files → FaultAnswers read_from s.files (refused number) files ⊎ Cause → Why-load files
+      why-load : (files : Files) → NoneFailed s.files.drives files.drives ⊎ FaultAnswers read_from s.files
+          (refused number) files → FaultAnswers read_from s.files (refused number) files ⊎ Cause → Why-load files
       why-load files drives (inl fault) = inl fault
       why-load files (inr fault) (inr cause) = inl fault
       why-load files (inl none) (inr cause) = inr (none, cause)
 
-      load-left : (files : Files) → LeavesFiles read_from s.files (refused number) files → FaultAnswers read_from s.files (refused number) files ⊎ Cause → rest_of t ≡ with_files s files → RefusedLoad s p now test Cause number t
+      load-left : (files : Files) → LeavesFiles read_from s.files (refused number) files → FaultAnswers read_from
+          s.files (refused number) files ⊎ Cause → rest_of t ≡ with_files s files → RefusedLoad s p now test Cause
+          number t
       load-left files left why is =
           let same : t.files ≡ files = ap (λ (rest : Rest). rest.files) is in
           record {
@@ -120,22 +129,36 @@ module _ (s t : State) (code number : ℕ) where
     abbrev terminals : ℕ
     terminals = length s.terms
 
-    entered-left : (call : ProcCall) → service_of code ≡ on_processes call → IsSome (named_program s.inner p) → (files : Files) → refused number ≡ attempted call s.inner p → files ≡ s.files → rest_of t ≡ with_files s files → LeavesRest s p now code number t
+    entered-left : (call : ProcCall) → service_of code ≡ on_processes call → IsSome (named_program s.inner p)
+        → (files : Files) → refused number ≡ attempted call s.inner p → files ≡ s.files → rest_of t ≡ with_files s
+        files → LeavesRest s p now code number t
     entered-left call asked named files answer same is =
         of_processes call asked (λ starts. named) (sym answer) (proc-caused s.inner p number call (λ starts. named) (sym answer)) (is ∙ ap (with_files s) same)
 
-    fork-left : service_of code ≡ on_processes Call.Fork → (files : Files) → ForkAttempts s.inner asking s.files terminals p (refused number) files → rest_of t ≡ with_files s files → (named : Option Entered) → named_program s.inner p ≡ named → LeavesRest s p now code number t
+    fork-left : service_of code ≡ on_processes Call.Fork → (files : Files) → ForkAttempts s.inner asking s.files
+        terminals p (refused number) files → rest_of t ≡ with_files s files → (named : Option Entered)
+        → named_program s.inner p ≡ named → LeavesRest s p now code number t
     fork-left asked files it is None none =
-        of_fork asked none (load-left (tests_program s.inner p) (ForkCause s.inner asking s.files terminals p number) files (fork-leaves s.inner asking s.files terminals p (refused number) files it) (fork-caused s.inner asking s.files terminals p number files it none) is)
+        of_fork asked none (load-left (tests_program s.inner p) (ForkCause s.inner asking s.files terminals p number)
+        files (fork-leaves s.inner asking s.files terminals p (refused number) files it)
+        (fork-caused s.inner asking s.files terminals p number files it none) is)
     fork-left asked files it is (Some entered) there =
-        let attempt : (refused number ≡ f_fork s.inner p) × (files ≡ s.files) = subst (λ (named : Option Entered). MatchOption named (StartsFile forks s.inner asking s.files terminals p (refused number) files) (λ entered. (refused number ≡ f_fork s.inner p) × (files ≡ s.files))) there it in
+        let attempt : (refused number ≡ f_fork s.inner p) × (files ≡ s.files) = subst (λ (named : Option Entered).
+        MatchOption named (StartsFile forks s.inner asking s.files terminals p (refused number) files)
+        (λ entered. (refused number ≡ f_fork s.inner p) × (files ≡ s.files))) there it in
         entered-left Call.Fork asked (ap (λ (named : Option Entered). is_some named) there) files attempt.0 attempt.1 is
 
-    chain-left : service_of code ≡ on_processes Call.Chain → (files : Files) → ChainAttempts s.inner asking s.files terminals p (refused number) files → rest_of t ≡ with_files s files → (named : Option Entered) → named_program s.inner p ≡ named → LeavesRest s p now code number t
+    chain-left : service_of code ≡ on_processes Call.Chain → (files : Files) → ChainAttempts s.inner asking s.files
+        terminals p (refused number) files → rest_of t ≡ with_files s files → (named : Option Entered)
+        → named_program s.inner p ≡ named → LeavesRest s p now code number t
     chain-left asked files it is None none =
-        of_chain asked none (load-left (tests_program s.inner p) (ChainCause s.inner asking s.files terminals p number) files (chain-leaves s.inner asking s.files terminals p (refused number) files it) (chain-caused s.inner asking s.files terminals p number files it none) is)
+        of_chain asked none (load-left (tests_program s.inner p) (ChainCause s.inner asking s.files terminals p
+        number) files (chain-leaves s.inner asking s.files terminals p (refused number) files it)
+        (chain-caused s.inner asking s.files terminals p number files it none) is)
     chain-left asked files it is (Some entered) there =
-        let attempt : (refused number ≡ f_chain s.inner p) × (files ≡ s.files) = subst (λ (named : Option Entered). MatchOption named (StartsFile chains s.inner asking s.files terminals p (refused number) files) (λ entered. (refused number ≡ f_chain s.inner p) × (files ≡ s.files))) there it in
+        let attempt : (refused number ≡ f_chain s.inner p) × (files ≡ s.files) = subst (λ (named : Option Entered).
+        MatchOption named (StartsFile chains s.inner asking s.files terminals p (refused number) files)
+        (λ entered. (refused number ≡ f_chain s.inner p) × (files ≡ s.files))) there it in
         entered-left Call.Chain asked (ap (λ (named : Option Entered). is_some named) there) files attempt.0 attempt.1 is
 
     -- ---- calls on paths
@@ -196,7 +219,9 @@ module _ (s t : State) (code number : ℕ) where
 
     serves-left : (service : Service) → service_of code ≡ service → Serves service s now p (refused number) (rest_of t) → LeavesRest s p now code number t
     serves-left loads asked (files, it, is) =
-        of_load asked (load-left (λ step. step) (LoadCause s.inner asking s.files terminals p number) files (load-leaves s.inner asking s.files terminals p (refused number) files it) (load-caused s.inner asking s.files terminals p number files it) is)
+        of_load asked (load-left (λ step. step) (LoadCause s.inner asking s.files terminals p number) files
+        (load-leaves s.inner asking s.files terminals p (refused number) files it) (load-caused s.inner asking
+        s.files terminals p number files it) is)
     serves-left (on_processes Call.Fork) asked (files, it, is) =
         fork-left asked files it is (named_program s.inner p) refl
     serves-left (on_processes Call.Chain) asked (files, it, is) =

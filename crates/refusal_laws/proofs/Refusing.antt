@@ -51,19 +51,27 @@ record EndsFile (request : Reading) (old new : Terminal) (echo : List ℕ) : Typ
 ends-file : (request : Reading) (old new : Terminal) → End ≡ (read_attempt request old).answer → new ≡ (read_attempt request old).terminal → EndsFile request old new (read_attempt request old).echo
 ends-file request old new = by_turn (is_taken request.process old) refl
   where
-    by_end : is_taken request.process old ≡ false → (end : Option LineEnd) → (typed request old.line old.ahead).end ≡ end → End ≡ (attempt_by end (typed request old.line old.ahead) request).answer → new ≡ (attempt_by end (typed request old.line old.ahead) request).terminal → EndsFile request old new (attempt_by end (typed request old.line old.ahead) request).echo
+    by_end : is_taken request.process old ≡ false → (end : Option LineEnd) → (typed request old.line old.ahead).end ≡
+        end → End ≡ (attempt_by end (typed request old.line old.ahead) request).answer
+        → new ≡ (attempt_by end (typed request old.line old.ahead) request).terminal → EndsFile request old new
+        (attempt_by end (typed request old.line old.ahead) request).echo
     by_end turn None is answer now = absurd (wait-end (sym answer))
     by_end turn (Some Line) is answer now =
         absurd (done-end (length (typed request old.line old.ahead).line.bytes) (sym answer))
     by_end turn (Some EndOfFile) is answer now =
         record { turn = turn; over = is; left = now; echo_is = refl }
 
-    by_turn : (taken : Bool) → is_taken request.process old ≡ taken → End ≡ (if taken then kept_waiting request old else typed_attempt request old).answer → new ≡ (if taken then kept_waiting request old else typed_attempt request old).terminal → EndsFile request old new (if taken then kept_waiting request old else typed_attempt request old).echo
+    by_turn : (taken : Bool) → is_taken request.process old ≡ taken → End ≡ (if taken then kept_waiting request old
+        else typed_attempt request old).answer → new ≡ (if taken then kept_waiting request old else typed_attempt
+        request old).terminal → EndsFile request old new (if taken then kept_waiting request old else typed_attempt
+        request old).echo
     by_turn true taken answer now = absurd (wait-end (sym answer))
     by_turn false taken answer now = by_end taken (typed request old.line old.ahead).end refl answer now
 
 -- one terminal changed so, and so
-one-changed : (change other : TerminalState → TerminalState → Type 0) (n : ℕ) (before after : List TerminalState) → (changed : ChangesOneTerminal change n before after) → other changed.0 changed.1 → ChangesOneTerminal other n before after
+one-changed : (change other : TerminalState → TerminalState → Type 0) (n : ℕ) (before after : List TerminalState)
+    → (changed : ChangesOneTerminal change n before after) → other changed.0 changed.1 → ChangesOneTerminal other n
+    before after
 one-changed change other n before after changed it = (changed.0, changed.1, changed.2, changed.3, it)
 
 module _ (call : IoCall) (caller : Caller) (io : Io) (drives : ℕ) (before after : List TerminalState) (number : ℕ) where
@@ -125,7 +133,9 @@ module _ (call : IoCall) (caller : Caller) (io : Io) (drives : ℕ) (before afte
           (changed.4.outcome, record { faults = changed.4.driver.faults; keys = changed.4.driver.keys });
     }
 
-    by-answer : (answer : Progress) → ChangesOneTerminal (Reads request answer old new) read.terminal before after → read_ends caller read answer ≡ Some end → end ≡ fails number → Gives (on_terminal io read.terminal new caller.process.0)
+    by-answer : (answer : Progress) → ChangesOneTerminal (Reads request answer old new) read.terminal before after
+        → read_ends caller read answer ≡ Some end → end ≡ fails number
+        → Gives (on_terminal io read.terminal new caller.process.0)
     by-answer (Done count) changed ends over =
         absurd (answered (count_regs caller count) number (same_Some (answers (count_regs caller count)) end ends ∙ over))
     by-answer Wait changed ends over =
@@ -138,8 +148,12 @@ module _ (call : IoCall) (caller : Caller) (io : Io) (drives : ℕ) (before afte
 
   -- ---- a write to a terminal
 
-  module _ (write : TerminalWrite) (on : IsOn call caller io (Term write.terminal)) (bytes : List ℕ) (sends : sent_by call caller io ≡ Some bytes) (puts : write.put ≡ put_by call bytes) (new : Terminal) (end : IoEnd) where
-    by-fault : ChangesOneTerminal (Writes caller.process write.put write.count Fault (terminal_at io write.terminal) new) write.terminal before after → WriteFails call caller io (on_terminal io write.terminal new caller.process.0) before after
+  module _ (write : TerminalWrite) (on : IsOn call caller io (Term write.terminal)) (bytes : List ℕ)
+      (sends : sent_by call caller io ≡ Some bytes) (puts : write.put ≡ put_by call bytes) (new : Terminal)
+      (end : IoEnd) where
+    by-fault : ChangesOneTerminal (Writes caller.process write.put write.count Fault (terminal_at io write.terminal)
+        new) write.terminal before after → WriteFails call caller io (on_terminal io write.terminal new
+        caller.process.0) before after
     by-fault changed = record {
       terminal = write.terminal;
       on = on;
@@ -148,11 +162,15 @@ module _ (call : IoCall) (caller : Caller) (io : Io) (drives : ℕ) (before afte
       now =
           ap (λ (t : Terminal). on_terminal io write.terminal t caller.process.0) changed.4.outcome.terminal;
       out =
-          one-changed (Writes caller.process write.put write.count Fault (terminal_at io write.terminal) new) (λ was now. PutsPart (put_by call bytes) was now × HasFailed was now) write.terminal before after changed
+          one-changed (Writes caller.process write.put write.count Fault (terminal_at io write.terminal) new)
+          (λ was now. PutsPart (put_by call bytes) was now × HasFailed was now) write.terminal before after
+          changed
           (subst (λ (bytes : List ℕ). PutsPart bytes changed.0 changed.1) puts changed.4.outcome.part, record { faults = changed.4.driver.faults; keys = changed.4.driver.keys });
     }
 
-    by-write : (answer : Progress) → ChangesOneTerminal (Writes caller.process write.put write.count answer (terminal_at io write.terminal) new) write.terminal before after → write_ends write answer ≡ Some end → end ≡ fails number → Gives (on_terminal io write.terminal new caller.process.0)
+    by-write : (answer : Progress) → ChangesOneTerminal (Writes caller.process write.put write.count answer
+        (terminal_at io write.terminal) new) write.terminal before after → write_ends write answer ≡ Some end
+        → end ≡ fails number → Gives (on_terminal io write.terminal new caller.process.0)
     by-write (Done count) changed ends over =
         absurd (answered write.regs number (same_Some (answers write.regs) end ends ∙ over))
     by-write Wait changed ends over = absurd (none-some end ends)
@@ -168,7 +186,9 @@ module _ (call : IoCall) (caller : Caller) (io : Io) (drives : ℕ) (before afte
   nothing-kept effect over =
       ap (λ (end : IoEnd). with_call effect.io caller.process.0 (kept_in end)) over
 
-  by-step : (step : IoStep) (effect : IoEffect) → Known call caller io drives (length before) step → Does step caller io effect before after → effect.end ≡ fails number → Gives (with_call effect.io caller.process.0 None)
+  by-step : (step : IoStep) (effect : IoEffect) → Known call caller io drives (length before) step
+      → Does step caller io effect before after → effect.end ≡ fails number
+      → Gives (with_call effect.io caller.process.0 None)
   by-step (refused other) effect known (is, same) over =
       let same_number : other ≡ number = sym (same-number other number (sym (ap (λ (effect : IoEffect). effect.end) is) ∙ over)) in
       inl (subst (StatedCause call caller io drives (length before)) same_number known, record { now = ap (λ (effect : IoEffect). with_call effect.io caller.process.0 None) is; same = same })
@@ -209,7 +229,9 @@ ended-by number p m effect (answers regs) is = absurd (refused-done number _ is)
 ended-by number p m effect (fails other) is = ap fails (same-refusal number other is)
 ended-by number p m effect (keeps kept) is = absurd (refused-waits number _ is)
 
-pub refusal : (call : IoCall) (m : Inner) (io new : Io) (drives p number : ℕ) (before after : List TerminalState) → IoAttempts call m io drives p (CallResult.refused number) new before after → Comes call (caller_of m p) io drives number new before after
+pub refusal : (call : IoCall) (m : Inner) (io new : Io) (drives p number : ℕ) (before after : List TerminalState)
+    → IoAttempts call m io drives p (CallResult.refused number) new before after → Comes call (caller_of m p) io
+    drives number new before after
 refusal call m io new drives p number before after attempt =
     let over : attempt.effect.end ≡ fails number = ended-by number p m attempt.effect attempt.effect.end attempt.result_is in
     subst (λ (new : Io). Comes call (caller_of m p) io drives number new before after) (sym (attempt.state ∙ nothing-kept call (caller_of m p) io drives before after number attempt.effect over))

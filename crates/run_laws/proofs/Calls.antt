@@ -50,7 +50,9 @@ some-loaded m (Ok file) next =
     let it = Enters-some file.bytes (new_numbers m.memory (file_blocks file.bytes)) false 0 m.memory.modules in
     by_outcome it.0 (loaded_by m.memory file.bytes it.0) refl it.1
   where
-    by_outcome : (entries : Result (List (Option ModuleEntry)) (ℕ × ℕ)) (outcome : Result Loaded ℕ) → loaded_by m.memory file.bytes entries ≡ outcome → EntersModules file.bytes (new_numbers m.memory (file_blocks file.bytes)) false 0 m.memory.modules entries → SomeLoaded m (Ok file) next
+    by_outcome : (entries : Result (List (Option ModuleEntry)) (ℕ × ℕ)) (outcome : Result Loaded ℕ)
+        → loaded_by m.memory file.bytes entries ≡ outcome → EntersModules file.bytes
+        (new_numbers m.memory (file_blocks file.bytes)) false 0 m.memory.modules entries → SomeLoaded m (Ok file) next
     by_outcome entries (Err number) is it =
         record { result = refused number; goes = (Err number, record { entries = entries; modules = it; is = sym is }, refl) }
     by_outcome entries (Ok loaded) is it =
@@ -81,14 +83,18 @@ module _ (m : Inner) (asker : Asker) (files : Files) (terms p : ℕ) where
   some-fork : SomeLoad (ForkAttempts m asker files terms p)
   some-fork = by_named (named_program m p) (some-start forks)
     where
-      by_named : (named : Option Entered) → SomeLoad (StartsFile forks m asker files terms p) → SomeLoad (λ result new. MatchOption named (StartsFile forks m asker files terms p result new) (λ named. (result ≡ f_fork m p) × (new ≡ files)))
+      by_named : (named : Option Entered) → SomeLoad (StartsFile forks m asker files terms p)
+          → SomeLoad (λ result new. MatchOption named (StartsFile forks m asker files terms p result new)
+          (λ named. (result ≡ f_fork m p) × (new ≡ files)))
       by_named None it = record { result = it.result; new = it.new; attempt = it.attempt; drives = it.drives }
       by_named (Some named) it = record { result = f_fork m p; new = files; attempt = (refl, refl); drives = refl }
 
   some-chain : SomeLoad (ChainAttempts m asker files terms p)
   some-chain = by_named (named_program m p) (some-start chains)
     where
-      by_named : (named : Option Entered) → SomeLoad (StartsFile chains m asker files terms p) → SomeLoad (λ result new. MatchOption named (StartsFile chains m asker files terms p result new) (λ named. (result ≡ f_chain m p) × (new ≡ files)))
+      by_named : (named : Option Entered) → SomeLoad (StartsFile chains m asker files terms p)
+          → SomeLoad (λ result new. MatchOption named (StartsFile chains m asker files terms p result new)
+          (λ named. (result ≡ f_chain m p) × (new ≡ files)))
       by_named None it = record { result = it.result; new = it.new; attempt = it.attempt; drives = it.drives }
       by_named (Some named) it = record { result = f_chain m p; new = files; attempt = (refl, refl); drives = refl }
 

@@ -48,7 +48,9 @@ module _ (asker : Asker) (files : Files) (drive : ℕ) (v : DiskVolume) (is : vo
         (record { old = file; new = with_attributes file attributes asker.now; is = there; changed = refl; volume = refl })
 
     module _ (below : n < (shape v).total) (some : 0 < cluster_size v) where
-      pub some-write : (at : ℕ) (bytes : List ℕ) → clusters_needed (cluster_size v) file.segments (length (written file.contents at bytes)) ≤ free_total v → SomeChange (changing (writes n at bytes)) asker files
+      pub some-write : (at : ℕ) (bytes : List ℕ) → clusters_needed (cluster_size v) file.segments
+          (length (written file.contents at bytes)) ≤ free_total v → SomeChange (changing (writes n at bytes)) asker
+          files
       some-write at bytes enough =
           by_choice (file-choice v n file there below some (length (written file.contents at bytes)) enough)
         where
@@ -119,7 +121,9 @@ looked-up contents name n is = by_entry (find (entry_has_name name) (directory_e
           place = place;
           there = ap (λ (test : Bool). if test then Some place else None) test;
           named =
-              ap descriptor_field (by_place entry (slice_get (range_with_len 0 count) place) refl (sym (slice_get-map (directory_entry contents) (range_with_len 0 count) place) ∙ at)) ∙ same_Some (descriptor_field entry) n is;
+              ap descriptor_field (by_place entry (slice_get (range_with_len 0 count) place) refl
+              (sym (slice_get-map (directory_entry contents) (range_with_len 0 count) place) ∙ at)) ∙ same_Some
+              (descriptor_field entry) n is;
         }
 
 module _ (asker : Asker) (files : Files) (drive : ℕ) (v : DiskVolume) (is : volume_at files drive ≡ Some v) (beside : ℕ → FileEffect) (d : ℕ) (dir : DiskFile) (there : v.files d ≡ Some dir) where

@@ -35,7 +35,9 @@ empty-of [] few = refl
 empty-of (c ∷ clusters) few = absurd (omega (arith, few))
 
 -- where no clusters are needed there is one choice
-choice-one : (k : ℕ) (free : ℕ → Bool) (segments : List (ℕ × ℕ)) (size : ℕ) (gained others : List ℕ) → clusters_needed k segments size ≡ 0 → IsChoice k free segments size gained → IsChoice k free segments size others → gained ≡ others
+choice-one : (k : ℕ) (free : ℕ → Bool) (segments : List (ℕ × ℕ)) (size : ℕ) (gained others : List ℕ)
+    → clusters_needed k segments size ≡ 0 → IsChoice k free segments size gained → IsChoice k free segments size
+    others → gained ≡ others
 choice-one k free segments size gained others none one two =
     empty-of gained (omega (arith, one.enough, none)) ∙ sym (empty-of others (omega (arith, two.enough, none)))
 
@@ -70,7 +72,8 @@ create-takes (deletes d n name) v new = absurd new
 
 -- ---- changes of a volume
 
-sized-one : (k : ℕ) (free : ℕ → Bool) (n size : ℕ) (now : TimePacket) (old new other : DiskFile) → clusters_needed k old.segments size ≡ 0 → SizesFile k free n size now old new → SizesFile k free n size now old other → new ≡ other
+sized-one : (k : ℕ) (free : ℕ → Bool) (n size : ℕ) (now : TimePacket) (old new other : DiskFile) → clusters_needed k
+    old.segments size ≡ 0 → SizesFile k free n size now old new → SizesFile k free n size now old other → new ≡ other
 sized-one k free n size now old _ _ none (stays same) (stays same_too) = refl
 sized-one k free n size now old _ _ none (stays same) (cuts less) = absurd (omega (arith, same, less))
 sized-one k free n size now old _ other none (stays same) (lengthens more it) = absurd (omega (arith, same, more))
@@ -84,14 +87,20 @@ sized-one k free n size now old new other none (lengthens more it) (lengthens mo
     ∙ ap (λ (gained : List ℕ). lengthened_file old size now (with_clusters k old.segments gained)) (choice-one k free old.segments size it.gained second.gained none it.choice second.choice)
     ∙ sym second.file
 
-written-one : (k : ℕ) (free : ℕ → Bool) (at : ℕ) (bytes : List ℕ) (now : TimePacket) (old new other : DiskFile) → clusters_needed k old.segments (length (written old.contents at bytes)) ≡ 0 → WritesFile k free at bytes now old new → WritesFile k free at bytes now old other → new ≡ other
+written-one : (k : ℕ) (free : ℕ → Bool) (at : ℕ) (bytes : List ℕ) (now : TimePacket) (old new other : DiskFile)
+    → clusters_needed k old.segments (length (written old.contents at bytes)) ≡ 0 → WritesFile k free at bytes now old
+    new → WritesFile k free at bytes now old other → new ≡ other
 written-one k free at bytes now old new other none one two =
     one.file
-    ∙ ap (λ (gained : List ℕ). written_file old at bytes now (with_clusters k old.segments gained)) (choice-one k free old.segments (length (written old.contents at bytes)) one.gained two.gained none one.choice two.choice)
+    ∙ ap (λ (gained : List ℕ). written_file old at bytes now (with_clusters k old.segments gained))
+    (choice-one k free old.segments (length (written old.contents at bytes)) one.gained two.gained none one.choice
+    two.choice)
     ∙ sym two.file
 
 -- a change of one file by a rule that gives one file where no clusters are needed
-file-one : (size : DiskFile → ℕ) (change : DiskFile → DiskFile → Type 0) (v w x : DiskVolume) (n : ℕ) → ((old new other : DiskFile) → clusters_needed (cluster_size v) old.segments (size old) ≡ 0 → change old new → change old other → new ≡ other) → Changes change v w n → Changes change v x n → NeedsClusters v n size ⊎ (w ≡ x)
+file-one : (size : DiskFile → ℕ) (change : DiskFile → DiskFile → Type 0) (v w x : DiskVolume) (n : ℕ)
+    → ((old new other : DiskFile) → clusters_needed (cluster_size v) old.segments (size old) ≡ 0 → change old new
+    → change old other → new ≡ other) → Changes change v w n → Changes change v x n → NeedsClusters v n size ⊎ (w ≡ x)
 file-one size change v w x n same one two = by_needed (zero-or (clusters_needed (cluster_size v) one.old.segments (size one.old)))
   where
     old : two.old ≡ one.old
@@ -128,14 +137,17 @@ module _ (it : VolumeChange) (asker : Asker) (files : Files) (effect other : Fil
   changed-one : ((m n : ℕ) → it.effect m ≡ it.effect n) → IsChanged it asker files effect → IsChanged it asker files other → TakesFrom files it ⊎ (effect ≡ other)
   changed-one fixed one two =
       let old : two.old ≡ one.old = same_Some two.old one.old (sym two.is ∙ one.is) in
-      by_made (makes-one it.change asker.user asker.now one.old one.new two.new one.number two.number one.makes (subst (λ (old : DiskVolume). Makes it.change asker.user asker.now old two.new two.number) old two.makes))
+      by_made (makes-one it.change asker.user asker.now one.old one.new two.new one.number two.number one.makes
+      (subst (λ (old : DiskVolume). Makes it.change asker.user asker.now old two.new two.number) old two.makes))
     where
       by_made : TakesClusters it.change one.old ⊎ (one.new ≡ two.new) → TakesFrom files it ⊎ (effect ≡ other)
       by_made (inl takes) = inl (taking one.old one.is takes)
       by_made (inr new) =
           inr (one.effect_is ∙ (λ i. with_volume_after (fixed one.number two.number i) it.drive (new i)) ∙ sym two.effect_is)
 
-  changes-one : CreatesFile it.change ⊎ ((m n : ℕ) → it.effect m ≡ it.effect n) → IsChanged it asker files effect ⊎ IsTooLong it files effect → IsChanged it asker files other ⊎ IsTooLong it files other → TakesFrom files it ⊎ (effect ≡ other)
+  changes-one : CreatesFile it.change ⊎ ((m n : ℕ) → it.effect m ≡ it.effect n) → IsChanged it asker files effect ⊎
+      IsTooLong it files effect → IsChanged it asker files other ⊎ IsTooLong it files other → TakesFrom files it ⊎
+      (effect ≡ other)
   changes-one fixed (inr long) two = inl (taking long.old long.is (long-takes it.change long.old long.too_long))
   changes-one fixed (inl one) (inr long) = inl (taking long.old long.is (long-takes it.change long.old long.too_long))
   changes-one (inl new) (inl one) (inl two) = inl (taking one.old one.is (create-takes it.change one.old new))
@@ -174,7 +186,10 @@ module _ (call : PathCall) (asker : Asker) (files : Files) (reached : Option ℕ
       inl (regs, ap (λ (effect : FileEffect). effect.end) changed.effect_is ∙ is)
   change-done terms it effect so (inr long) = inr (E_SLF, ap (λ (effect : FileEffect). effect.end) long.effect_is)
 
-  deed-one : (terms : ℕ) (deed : Deed) (one two effect other : FileEffect) → Splits call asker files terms reached deed → DoesDeed deed asker files one before after → DoesDeed deed asker files two before others → effect ≡ with_drives_after one files.drives → other ≡ with_drives_after two files.drives → BothTake asker files deed effect other before after others ⊎ OneDeed effect other after others
+  deed-one : (terms : ℕ) (deed : Deed) (one two effect other : FileEffect) → Splits call asker files terms reached
+      deed → DoesDeed deed asker files one before after → DoesDeed deed asker files two before others
+      → effect ≡ with_drives_after one files.drives → other ≡ with_drives_after two files.drives
+      → BothTake asker files deed effect other before after others ⊎ OneDeed effect other after others
   deed-one terms (leaves_so it) one two effect other splits (is, same) (is_too, same_too) effect_is other_is =
       inr (record {
         effects = effect_is ∙ ap (λ (effect : FileEffect). with_drives_after effect files.drives) (is ∙ sym is_too) ∙ sym other_is;
@@ -207,7 +222,10 @@ module _ (call : PathCall) (asker : Asker) (files : Files) (reached : Option ℕ
       not_failed broken.drive
       (subst (λ (effect : FileEffect). Rose (drive_at files.drives broken.drive).faults (drive_at effect.files.drives broken.drive).faults) (sym broken.effect_is) broken.failed.rose)
 
-  pub attempt-one : (terms : ℕ) (step : FileStep) (effect other : FileEffect) → Splits call asker files terms reached (deed_of step files) → FileDoes step asker files effect before after → FileDoes step asker files other before others → NoDriveFailed files.drives effect.files.drives → NoDriveFailed files.drives other.files.drives → BothTake asker files (deed_of step files) effect other before after others ⊎ OneDeed effect other after others
+  pub attempt-one : (terms : ℕ) (step : FileStep) (effect other : FileEffect) → Splits call asker files terms reached
+      (deed_of step files) → FileDoes step asker files effect before after → FileDoes step asker files other before
+      others → NoDriveFailed files.drives effect.files.drives → NoDriveFailed files.drives other.files.drives
+      → BothTake asker files (deed_of step files) effect other before after others ⊎ OneDeed effect other after others
   attempt-one terms step effect other splits (inr (broken, same)) two not_failed not_failed_too =
       absurd (broken-not step effect broken not_failed)
   attempt-one terms step effect other splits (inl one) (inr (broken, same)) not_failed not_failed_too =

@@ -150,7 +150,15 @@ module _ (call : PathCall) (asker : Asker) (files : Files) (terms : List Termina
     device-ends device =
         io-ends (io_step device asker.caller files.io (length files.drives) (length terms))
         (call-there device asker.caller files.io (length terms) (io_step device asker.caller files.io (length files.drives) (length terms)) on
-        (step-gives device (λ new. Unit {0}) asker.caller files.io (length files.drives) (length terms) (record { same = tt; pipes = λ pipes. tt; dup = tt; close = tt; on_terminal = λ terminal within. tt; on_pipe = λ pipe free. tt })))
+        (step-gives device (λ new. Unit {0}) asker.caller files.io (length files.drives) (length terms)
+        (record {
+          same = tt;
+          pipes = λ pipes. tt;
+          dup = tt;
+          close = tt;
+          on_terminal = λ terminal within. tt;
+          on_pipe = λ pipe free. tt;
+        })))
 
   nothing-ends : (opened : Option OpenPath) → Ends (comes (as_io (io_needs opened E_BPNUM (λ opened. io_done asker.caller.regs files.io))))
   nothing-ends None = io-ends (io_refused E_BPNUM) tt
@@ -206,7 +214,9 @@ module _ (call : PathCall) (asker : Asker) (files : Files) (terms : List Termina
     }
 
     -- a walk, and what is done with the file where it ends
-    walks-ends : (execute : Bool) (place : FilePlace) (names : List (List ℕ)) (next : Found → FileStep) → ((found : Found) → IsFound files found → On found.place.drive (next found)) → Ends (walks asker files execute place names next)
+    walks-ends : (execute : Bool) (place : FilePlace) (names : List (List ℕ)) (next : Found → FileStep)
+        → ((found : Found) → IsFound files found → On found.place.drive (next found))
+        → Ends (walks asker files execute place names next)
     walks-ends execute place names next on =
         needs-by Ends none-ends (volume_at files place.drive) E_MNF (λ v. reaches place.drive (walk_ends place.drive v (walk v.files asker.user execute place.number names) next))
         (λ v is. reaches-ends place.drive (walk_ends place.drive v (walk v.files asker.user execute place.number names) next) (by_end v is (walk v.files asker.user execute place.number names)))
@@ -231,8 +241,13 @@ module _ (call : PathCall) (asker : Asker) (files : Files) (terms : List Termina
       open-on =
           refuses-by P no (not (may_open found.file asker.user asker.caller.regs.a)) E_FNA (refuses (is_not_shared files found asker.caller.regs.a) E_SHARE (begins_on asker files list found))
           (λ may. refuses-by P no (is_not_shared files found asker.caller.regs.a) E_SHARE (begins_on asker files list found)
-          (λ shared. needs-by P no (new_number files.io.paths asker.caller.process.0) E_PTHFUL (λ number. done (opened_regs asker.caller.regs list number) (with_path_table files (paths_after_begin files.io.paths asker.caller.process.0 (new_desc (target_on found.file found.place) asker.caller.regs.a))))
-          (λ number free. leaves-on found.place.drive (leaves (answers (opened_regs asker.caller.regs list number)) (with_path_table files (paths_after_begin files.io.paths asker.caller.process.0 (new_desc (target_on found.file found.place) asker.caller.regs.a)))))))
+          (λ shared. needs-by P no (new_number files.io.paths asker.caller.process.0) E_PTHFUL
+          (λ number. done (opened_regs asker.caller.regs list number)
+          (with_path_table files (paths_after_begin files.io.paths asker.caller.process.0
+          (new_desc (target_on found.file found.place) asker.caller.regs.a))))
+          (λ number free. leaves-on found.place.drive (leaves (answers (opened_regs asker.caller.regs list number))
+          (with_path_table files (paths_after_begin files.io.paths asker.caller.process.0
+          (new_desc (target_on found.file found.place) asker.caller.regs.a)))))))
 
       abbrev directories-then : Files
       directories-then =
@@ -245,7 +260,9 @@ module _ (call : PathCall) (asker : Asker) (files : Files) (terms : List Termina
 
       room-on : (size : ℕ) (next : FileStep) → P next → P (has_room_for found size next)
       room-on size next holds =
-          refuses-by P no (nat_lt (free_total found.volume) (clusters_for found size)) E_FULL (refuses (nat_lt 0 (entry_clusters (cluster_size found.volume) found.file) && (length found.file.segments == 48)) E_SLF next)
+          refuses-by P no (nat_lt (free_total found.volume) (clusters_for found size)) E_FULL
+          (refuses (nat_lt 0 (entry_clusters (cluster_size found.volume) found.file) &&
+          (length found.file.segments == 48)) E_SLF next)
           (λ room. refuses-by P no (nat_lt 0 (entry_clusters (cluster_size found.volume) found.file) && (length found.file.segments == 48)) E_SLF next (λ fits. holds))
 
       module _ (name : List ℕ) where
@@ -258,7 +275,10 @@ module _ (call : PathCall) (asker : Asker) (files : Files) (terms : List Termina
 
         create-on : IsMaking call → P (creates_in asker files list name found)
         create-on making =
-            refuses-by P no (not (may_change found.file asker.user (is_for_execution asker.caller.regs.a))) E_FNA (refuses (says_directory asker.caller.regs.b) E_FNA (refuses (is_some (look_up found.file.contents name)) E_CEF (creates_with_path asker files list name found)))
+            refuses-by P no (not (may_change found.file asker.user (is_for_execution asker.caller.regs.a))) E_FNA
+            (refuses (says_directory asker.caller.regs.b) E_FNA
+            (refuses (is_some (look_up found.file.contents name)) E_CEF (creates_with_path asker files list name
+            found)))
             (λ may. refuses-by P no (says_directory asker.caller.regs.b) E_FNA (refuses (is_some (look_up found.file.contents name)) E_CEF (creates_with_path asker files list name found))
             (λ plain. refuses-by P no (is_some (look_up found.file.contents name)) E_CEF (creates_with_path asker files list name found)
             (λ new. needs-by P no (new_number files.io.paths asker.caller.process.0) E_PTHFUL (λ number. has_room_for found 0 (comes (changes (new-file number))))
@@ -273,7 +293,9 @@ module _ (call : PathCall) (asker : Asker) (files : Files) (terms : List Termina
 
         make-on : IsMaking call → P (makes_in asker files list name found)
         make-on making =
-            refuses-by P no (not (may_change found.file asker.user false)) E_FNA (refuses (is_some (look_up found.file.contents name)) E_CEF (has_room_for found new_directory_size (comes (changes new-directory))))
+            refuses-by P no (not (may_change found.file asker.user false)) E_FNA
+            (refuses (is_some (look_up found.file.contents name)) E_CEF (has_room_for found new_directory_size
+            (comes (changes new-directory))))
             (λ may. refuses-by P no (is_some (look_up found.file.contents name)) E_CEF (has_room_for found new_directory_size (comes (changes new-directory)))
             (λ new. room-on new_directory_size (comes (changes new-directory)) (inr (making, found.volume, there.mounted, before refl))))
 
@@ -288,9 +310,13 @@ module _ (call : PathCall) (asker : Asker) (files : Files) (terms : List Termina
         delete-on execute =
             refuses-by P no (not (may_change found.file asker.user execute)) E_FNA (needs (look_up found.file.contents name) E_PNNF (deletes_file asker files list name found))
             (λ may. needs-by P no (look_up found.file.contents name) E_PNNF (deletes_file asker files list name found)
-            (λ n named. refuses-by P no (not (may_delete (found.volume.files n) asker.user)) E_FNA (refuses (is_open files (record { drive = found.place.drive; number = n })) E_SHARE (comes (changes (deletion n))))
+            (λ n named. refuses-by P no (not (may_delete (found.volume.files n) asker.user)) E_FNA
+            (refuses (is_open files (record { drive = found.place.drive; number = n })) E_SHARE
+            (comes (changes (deletion n))))
             (λ file. refuses-by P no (is_open files (record { drive = found.place.drive; number = n })) E_SHARE (comes (changes (deletion n)))
-            (λ closed. change-on found.place.drive (deletion n) (some-deletion asker files found.place.drive found.volume there.mounted (λ new. leaves (answers (past_list asker.caller.regs list)) files) found.place.number found.file there.there n name named)))))
+            (λ closed. change-on found.place.drive (deletion n) (some-deletion asker files found.place.drive
+            found.volume there.mounted (λ new. leaves (answers (past_list asker.caller.regs list)) files)
+            found.place.number found.file there.there n name named)))))
 
     -- ---- a file that a path is on
 
@@ -310,24 +336,33 @@ module _ (call : PathCall) (asker : Asker) (files : Files) (terms : List Termina
       read-ends : (part : List ℕ → List ℕ) → Ends (reads_file asker files part opened)
       read-ends part =
           reaches-ends drive (refuses (nat_le (length opened.file.contents) opened.opened.desc.at) E_EOF (comes (leaves_so (answers_bytes asker files opened (part (bytes_here asker opened))))))
-          (refuses-by (On drive) (none-on drive) (nat_le (length opened.file.contents) opened.opened.desc.at) E_EOF (comes (leaves_so (answers_bytes asker files opened (part (bytes_here asker opened)))))
+          (refuses-by (On drive) (none-on drive) (nat_le (length opened.file.contents) opened.opened.desc.at) E_EOF
+          (comes (leaves_so (answers_bytes asker files opened (part (bytes_here asker opened)))))
           (λ more. leaves-on drive (answers_bytes asker files opened (part (bytes_here asker opened)))))
 
       abbrev changing : Change → Regs → Files → VolumeChange
       changing change regs after =
           record { drive = opened.place.drive; change = change; effect = λ n. leaves (answers regs) after }
 
-      change-ends : (change : Change) (size : ℕ) (regs : Regs) (after : Files) → (clusters_needed (cluster_size opened.volume) opened.file.segments size ≤ free_total opened.volume → SomeChange (changing change regs after) asker files) → Ends (changes_file files opened change size regs after)
+      change-ends : (change : Change) (size : ℕ) (regs : Regs) (after : Files)
+          → (clusters_needed (cluster_size opened.volume) opened.file.segments size ≤ free_total opened.volume
+          → SomeChange (changing change regs after) asker files) → Ends (changes_file files opened change size regs
+          after)
       change-ends change size regs after some =
-          reaches-ends drive (refuses (nat_lt (free_total opened.volume) (clusters_needed (cluster_size opened.volume) opened.file.segments size)) E_FULL (comes (changes (changing change regs after))))
-          (refuses-by (On drive) (none-on drive) (nat_lt (free_total opened.volume) (clusters_needed (cluster_size opened.volume) opened.file.segments size)) E_FULL (comes (changes (changing change regs after)))
+          reaches-ends drive (refuses (nat_lt (free_total opened.volume) (clusters_needed (cluster_size opened.volume)
+          opened.file.segments size)) E_FULL (comes (changes (changing change regs after))))
+          (refuses-by (On drive) (none-on drive) (nat_lt (free_total opened.volume)
+          (clusters_needed (cluster_size opened.volume) opened.file.segments size)) E_FULL
+          (comes (changes (changing change regs after)))
           (λ room. change-on drive (changing change regs after) (some (ltb-false (free_total opened.volume) (clusters_needed (cluster_size opened.volume) opened.file.segments size) room))))
 
       write-ends : (bytes : List ℕ) (regs : Regs) → Ends (writes_bytes files opened bytes regs)
       write-ends bytes regs =
           let after = with_position files opened.opened (opened.opened.desc.at + length bytes) in
           change-ends (writes opened.place.number opened.opened.desc.at bytes) (length (written opened.file.contents opened.opened.desc.at bytes)) regs after
-          (some-write asker files drive opened.volume is (λ n. leaves (answers regs) after) opened.place.number opened.file there (mounted.numbers drive opened.volume is opened.place.number opened.file there) (kinds.clusters drive opened.volume is) opened.opened.desc.at bytes)
+          (some-write asker files drive opened.volume is (λ n. leaves (answers regs) after) opened.place.number
+          opened.file there (mounted.numbers drive opened.volume is opened.place.number opened.file there)
+          (kinds.clusters drive opened.volume is) opened.opened.desc.at bytes)
 
       send-ends : (bytes : List ℕ) → Ends (sends_bytes asker files opened bytes)
       send-ends bytes =
@@ -362,7 +397,12 @@ module _ (call : PathCall) (asker : Asker) (files : Files) (terms : List Termina
       done-ends : (regs : Regs) → Ends (done regs files)
       done-ends regs = leaves-ends (leaves (answers regs) files)
 
-      status-by : (opt ready size pos end fd : Bool) → Ends (if opt then gets_bytes asker files OPTION_BYTES (λ step. step) (options opened.opened.desc.target) else (if ready then done (record asker.caller.regs { b = 0 }) files else (if size then gets_size asker files opened else (if pos then done (long_regs asker.caller.regs opened.opened.desc.at) files else (if end then gets_end asker files opened else (if fd then gets_descriptor asker files opened else refused E_UNKSVC))))))
+      status-by : (opt ready size pos end fd : Bool) → Ends (if opt then gets_bytes asker files OPTION_BYTES
+          (λ step. step) (options opened.opened.desc.target) else
+          (if ready then done (record asker.caller.regs { b = 0 }) files else (if size then gets_size asker files
+          opened else (if pos then done (long_regs asker.caller.regs opened.opened.desc.at) files else
+          (if end then gets_end asker files opened else (if fd then gets_descriptor asker files opened else refused
+          E_UNKSVC))))))
       status-by true ready size pos end fd = bytes-end OPTION_BYTES (options opened.opened.desc.target)
       status-by false true size pos end fd = done-ends (record asker.caller.regs { b = 0 })
       status-by false false true pos end fd = size-ends
@@ -378,16 +418,22 @@ module _ (call : PathCall) (asker : Asker) (files : Files) (terms : List Termina
 
       set-size : Ends (sets_size asker files opened)
       set-size =
-          refuses-by Ends none-ends (not (can_write opened.opened.desc.mode)) E_BMODE (changes_file files opened (sizes opened.place.number (long_of asker.caller.regs)) (long_of asker.caller.regs) asker.caller.regs files)
+          refuses-by Ends none-ends (not (can_write opened.opened.desc.mode)) E_BMODE
+          (changes_file files opened (sizes opened.place.number (long_of asker.caller.regs))
+          (long_of asker.caller.regs) asker.caller.regs files)
           (λ allowed. change-ends (sizes opened.place.number (long_of asker.caller.regs)) (long_of asker.caller.regs) asker.caller.regs files
-          (some-size asker files drive opened.volume is (λ n. leaves (answers asker.caller.regs) files) opened.place.number opened.file there (mounted.numbers drive opened.volume is opened.place.number opened.file there) (kinds.clusters drive opened.volume is) (long_of asker.caller.regs)))
+          (some-size asker files drive opened.volume is (λ n. leaves (answers asker.caller.regs) files)
+          opened.place.number opened.file there (mounted.numbers drive opened.volume is opened.place.number
+          opened.file there) (kinds.clusters drive opened.volume is) (long_of asker.caller.regs)))
 
       set-attributes : Ends (sets_attributes_of asker files opened)
       set-attributes =
           let change = changing (sets_attributes opened.place.number (asker.caller.regs.x % 256)) asker.caller.regs files in
           reaches-ends drive (refuses (not (owns_file opened.file asker.user)) E_FNA (comes (changes change)))
           (refuses-by (On drive) (none-on drive) (not (owns_file opened.file asker.user)) E_FNA (comes (changes change))
-          (λ owns. change-on drive change (some-attributes asker files drive opened.volume is (λ n. leaves (answers asker.caller.regs) files) opened.place.number opened.file there (asker.caller.regs.x % 256))))
+          (λ owns. change-on drive change (some-attributes asker files drive opened.volume is
+          (λ n. leaves (answers asker.caller.regs) files) opened.place.number opened.file there
+          (asker.caller.regs.x % 256))))
 
       set-by : (size attributes : Bool) → Ends (if size then sets_size asker files opened else (if attributes then sets_attributes_of asker files opened else refused E_UNKSVC))
       set-by true attributes = set-size
@@ -396,20 +442,29 @@ module _ (call : PathCall) (asker : Asker) (files : Files) (terms : List Termina
 
     -- ---- a call on a number
 
-    file-ends : (number : ℕ) (o : Option OpenFile) → open_file files asker.caller.process.0 number ≡ o → (otherwise : IoStep) (next : OpenFile → FileStep) → Ends (comes (as_io otherwise)) → ((opened : OpenFile) → IsNamed files asker.caller.process.0 number opened → Ends (next opened)) → Ends (by_kind o otherwise next)
+    file-ends : (number : ℕ) (o : Option OpenFile) → open_file files asker.caller.process.0 number ≡ o
+        → (otherwise : IoStep) (next : OpenFile → FileStep) → Ends (comes (as_io otherwise))
+        → ((opened : OpenFile) → IsNamed files asker.caller.process.0 number opened → Ends (next opened))
+        → Ends (by_kind o otherwise next)
     file-ends number None is otherwise next other holds = other
     file-ends number (Some opened) is otherwise next other holds =
         holds opened (is-named files asker.caller.process.0 number opened is)
 
-    number-ends : (number : ℕ) (otherwise : IoStep) (next : OpenFile → FileStep) → Ends (comes (as_io otherwise)) → ((opened : OpenFile) → IsNamed files asker.caller.process.0 number opened → Ends (next opened)) → Ends (on_file asker files number otherwise next)
+    number-ends : (number : ℕ) (otherwise : IoStep) (next : OpenFile → FileStep) → Ends (comes (as_io otherwise))
+        → ((opened : OpenFile) → IsNamed files asker.caller.process.0 number opened → Ends (next opened))
+        → Ends (on_file asker files number otherwise next)
     number-ends number otherwise next other holds =
         file-ends number (open_file files asker.caller.process.0 number) refl otherwise next other holds
 
     module _ (on : AreOnTerminals (length terms) files.io.paths) where
       reads-end : (otherwise : IoStep) (part : List ℕ → List ℕ) → Ends (comes (as_io otherwise)) → Ends (reads_on asker files otherwise part)
       reads-end otherwise part other =
-          number-ends asker.caller.regs.a otherwise (λ opened. refuses (is_none (user_bytes asker.caller.cells asker.caller.regs.x asker.caller.regs.y)) E_BPADDR (moves_bytes asker files opened can_read (reads_file asker files part opened))) other
-          (λ opened named. refuses-by Ends none-ends (is_none (user_bytes asker.caller.cells asker.caller.regs.x asker.caller.regs.y)) E_BPADDR (moves_bytes asker files opened can_read (reads_file asker files part opened))
+          number-ends asker.caller.regs.a otherwise
+          (λ opened. refuses (is_none (user_bytes asker.caller.cells asker.caller.regs.x asker.caller.regs.y))
+          E_BPADDR (moves_bytes asker files opened can_read (reads_file asker files part opened))) other
+          (λ opened named. refuses-by Ends none-ends (is_none (user_bytes asker.caller.cells asker.caller.regs.x
+          asker.caller.regs.y)) E_BPADDR (moves_bytes asker files opened can_read (reads_file asker files part
+          opened))
           (λ fits. moves-ends opened named.mounted named.there can_read (reads_file asker files part opened) (read-ends opened named.mounted named.there part)))
 
       -- ---- calls with a path list
@@ -458,11 +513,15 @@ module _ (call : PathCall) (asker : Asker) (files : Files) (terms : List Termina
       step-by : (other : PathCall) → call ≡ other → Ends (file_step other asker files (length terms))
       step-by Call.Dup is = device-ends on Device.Dup
       step-by Call.Create is =
-          list-by Ends none-ends (list_of asker) (tests_mode (can_write asker.caller.regs.a)) (λ list. creates_on_way asker files (length terms) list (way_to_new asker files (length terms) (is_for_execution asker.caller.regs.a) list))
+          list-by Ends none-ends (list_of asker) (tests_mode (can_write asker.caller.regs.a))
+          (λ list. creates_on_way asker files (length terms) list (way_to_new asker files (length terms)
+          (is_for_execution asker.caller.regs.a) list))
           (mode-ends (can_write asker.caller.regs.a))
           (λ list. create-way (subst IsMaking (sym is) tt) list (way_to_new asker files (length terms) (is_for_execution asker.caller.regs.a) list))
       step-by Call.Open is =
-          list-by Ends none-ends (list_of asker) (tests_mode (is_mode asker.caller.regs.a)) (λ list. opens_on_way asker files (length terms) list (way_of asker files (length terms) (is_for_execution asker.caller.regs.a) list))
+          list-by Ends none-ends (list_of asker) (tests_mode (is_mode asker.caller.regs.a))
+          (λ list. opens_on_way asker files (length terms) list (way_of asker files (length terms)
+          (is_for_execution asker.caller.regs.a) list))
           (mode-ends (is_mode asker.caller.regs.a))
           (λ list. open-way list (way_of asker files (length terms) (is_for_execution asker.caller.regs.a) list))
       step-by Call.MakDir is =
@@ -470,33 +529,53 @@ module _ (call : PathCall) (asker : Asker) (files : Files) (terms : List Termina
           (λ step holds. holds)
           (λ list. make-way (subst IsMaking (sym is) tt) list (way_to_new asker files (length terms) false list))
       step-by Call.ChgDir is =
-          list-by Ends none-ends (list_of asker) (tests_mode (is_mode asker.caller.regs.a)) (λ list. goes_on_way asker files list (way_of asker files (length terms) (is_for_execution asker.caller.regs.a) list))
+          list-by Ends none-ends (list_of asker) (tests_mode (is_mode asker.caller.regs.a))
+          (λ list. goes_on_way asker files list (way_of asker files (length terms)
+          (is_for_execution asker.caller.regs.a) list))
           (mode-ends (is_mode asker.caller.regs.a))
           (λ list. go-way list (way_of asker files (length terms) (is_for_execution asker.caller.regs.a) list))
       step-by Call.Delete is = delete-by false (λ step. step) (λ step holds. holds)
       step-by Call.DeletX is =
           delete-by (is_for_execution asker.caller.regs.a) (tests_mode (is_mode asker.caller.regs.a)) (mode-ends (is_mode asker.caller.regs.a))
       step-by Call.Seek is =
-          number-ends asker.caller.regs.a (seeks_nothing asker.caller files.io) (λ opened. done asker.caller.regs (with_position files opened.opened (long_of asker.caller.regs))) (nothing-ends (open_path files.io asker.caller.process.0 asker.caller.regs.a))
+          number-ends asker.caller.regs.a (seeks_nothing asker.caller files.io) (λ opened. done asker.caller.regs
+          (with_position files opened.opened (long_of asker.caller.regs)))
+          (nothing-ends (open_path files.io asker.caller.process.0 asker.caller.regs.a))
           (λ opened named. leaves-ends (leaves (answers asker.caller.regs) (with_position files opened.opened (long_of asker.caller.regs))))
       step-by Call.Read is = reads-end (reads_device asker.caller files.io) (λ bytes. bytes) (device-ends on Device.Read)
       step-by Call.Write is =
-          number-ends asker.caller.regs.a (writes_device asker.caller files.io) (λ opened. needs (user_bytes asker.caller.cells asker.caller.regs.x asker.caller.regs.y) E_BPADDR (sends_bytes asker files opened)) (device-ends on Device.Write)
-          (λ opened named. needs-by Ends none-ends (user_bytes asker.caller.cells asker.caller.regs.x asker.caller.regs.y) E_BPADDR (sends_bytes asker files opened) (λ bytes there. send-ends opened named.mounted named.there bytes))
+          number-ends asker.caller.regs.a (writes_device asker.caller files.io)
+          (λ opened. needs (user_bytes asker.caller.cells asker.caller.regs.x asker.caller.regs.y) E_BPADDR
+          (sends_bytes asker files opened)) (device-ends on Device.Write)
+          (λ opened named. needs-by Ends none-ends (user_bytes asker.caller.cells asker.caller.regs.x
+          asker.caller.regs.y) E_BPADDR (sends_bytes asker files opened) (λ bytes there. send-ends opened
+          named.mounted named.there bytes))
       step-by Call.ReadLn is = reads-end (reads_device_line asker.caller files.io) first_line (device-ends on Device.ReadLn)
       step-by Call.WritLn is =
-          number-ends asker.caller.regs.a (writes_device_line asker.caller files.io) (λ opened. needs (line_at asker.caller.cells asker.caller.regs.x asker.caller.regs.y) E_BPADDR (sends_bytes asker files opened)) (device-ends on Device.WritLn)
-          (λ opened named. needs-by Ends none-ends (line_at asker.caller.cells asker.caller.regs.x asker.caller.regs.y) E_BPADDR (sends_bytes asker files opened) (λ bytes there. send-ends opened named.mounted named.there bytes))
+          number-ends asker.caller.regs.a (writes_device_line asker.caller files.io)
+          (λ opened. needs (line_at asker.caller.cells asker.caller.regs.x asker.caller.regs.y) E_BPADDR
+          (sends_bytes asker files opened)) (device-ends on Device.WritLn)
+          (λ opened named. needs-by Ends none-ends (line_at asker.caller.cells asker.caller.regs.x
+          asker.caller.regs.y) E_BPADDR (sends_bytes asker files opened) (λ bytes there. send-ends opened
+          named.mounted named.there bytes))
       step-by Call.GetStt is =
           number-ends asker.caller.regs.a (gets_of_device asker.caller files.io) (λ opened. gets_status asker files opened asker.caller.regs.b) (device-ends on Device.GetStt)
           (λ opened named. status-ends opened named.mounted named.there asker.caller.regs.b)
       step-by Call.SetStt is =
-          number-ends asker.caller.regs.a (sets_of_device asker.caller files.io) (λ opened. if asker.caller.regs.b == SS_SIZE then sets_size asker files opened else (if asker.caller.regs.b == SS_ATTR then sets_attributes_of asker files opened else refused E_UNKSVC)) (device-ends on Device.SetStt)
+          number-ends asker.caller.regs.a (sets_of_device asker.caller files.io) (λ opened. if asker.caller.regs.b ==
+          SS_SIZE then sets_size asker files opened else (if asker.caller.regs.b == SS_ATTR then
+          sets_attributes_of asker files opened else refused E_UNKSVC)) (device-ends on Device.SetStt)
           (λ opened named. set-by opened named.mounted named.there (asker.caller.regs.b == SS_SIZE) (asker.caller.regs.b == SS_ATTR))
       step-by Call.Close is = device-ends on Device.Close
       step-by Call.PErr is =
-          number-ends STANDARD_ERROR (tells_device asker.caller files.io) (λ opened. refuses (not (can_write opened.opened.desc.mode)) E_BMODE (writes_bytes files opened (error_line asker.caller.regs.b) asker.caller.regs)) (device-ends on Device.PErr)
-          (λ opened named. refuses-by Ends none-ends (not (can_write opened.opened.desc.mode)) E_BMODE (writes_bytes files opened (error_line asker.caller.regs.b) asker.caller.regs) (λ allowed. write-ends opened named.mounted named.there (error_line asker.caller.regs.b) asker.caller.regs))
+          number-ends STANDARD_ERROR (tells_device asker.caller files.io)
+          (λ opened. refuses (not (can_write opened.opened.desc.mode)) E_BMODE
+          (writes_bytes files opened (error_line asker.caller.regs.b) asker.caller.regs))
+          (device-ends on Device.PErr)
+          (λ opened named. refuses-by Ends none-ends (not (can_write opened.opened.desc.mode)) E_BMODE
+          (writes_bytes files opened (error_line asker.caller.regs.b) asker.caller.regs)
+          (λ allowed. write-ends opened named.mounted named.there (error_line asker.caller.regs.b)
+          asker.caller.regs))
 
       pub step-ends : Ends (file_step call asker files (length terms))
       step-ends = step-by call refl

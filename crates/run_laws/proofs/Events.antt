@@ -58,7 +58,10 @@ fork-drives files p (refused number) = refl
 fork-drives files p (waits t) = refl
 fork-drives files p (ends status) = refl
 
-module _ (s : State) (p : ℕ) (now : TimePacket) (result other : CallResult) (rest then_rest : Rest) (none : NoneOf s.terms rest.terms) (none_too : NoneOf s.terms then_rest.terms) (still : NoDriveFailed s.files.drives rest.files.drives) (still_too : NoDriveFailed s.files.drives then_rest.files.drives) where
+module _ (s : State) (p : ℕ) (now : TimePacket) (result other : CallResult) (rest then_rest : Rest)
+    (none : NoneOf s.terms rest.terms) (none_too : NoneOf s.terms then_rest.terms)
+    (still : NoDriveFailed s.files.drives rest.files.drives) (still_too : NoDriveFailed s.files.drives
+    then_rest.files.drives) where
   -- what an attempt on paths does
   abbrev step_of : PathCall → FileStep
   step_of call = file_step call (asker_of s.inner p now) s.files (length s.terms)
@@ -68,15 +71,23 @@ module _ (s : State) (p : ℕ) (now : TimePacket) (result other : CallResult) (r
   drives-of left files after still is same =
       subst (NoDriveFailed s.files.drives) same (subst (λ (left : Rest). NoDriveFailed s.files.drives left.files.drives) is still)
 
-  serves-one : (service : Service) → Serves service s now p result rest → Serves service s now p other then_rest → BothServe service s p now result other rest then_rest ⊎ OneEnd result other rest then_rest
+  serves-one : (service : Service) → Serves service s now p result rest → Serves service s now p other then_rest
+      → BothServe service s p now result other rest then_rest ⊎ OneEnd result other rest then_rest
   serves-one loads (files, it, is) (second, it_too, is_too) =
-      let one : OneLoad result other files second = load-one s.inner (asker_of s.inner p now) s.files (length s.terms) p result other files second (drives-of rest files files still is refl) (drives-of then_rest second second still_too is_too refl) it it_too in
+      let one : OneLoad result other files second = load-one s.inner (asker_of s.inner p now) s.files (length s.terms)
+      p result other files second (drives-of rest files files still is refl) (drives-of then_rest second second
+      still_too is_too refl) it it_too in
       inr (record { results = one.results; rests = is ∙ ap (with_files s) one.files ∙ sym is_too })
   serves-one (on_processes Call.Fork) (files, it, is) (second, it_too, is_too) =
-      let one : OneLoad result other files second = fork-one s.inner (asker_of s.inner p now) s.files (length s.terms) p result other files second (drives-of rest files (files_after_fork files p result) still is (fork-drives files p result)) (drives-of then_rest second (files_after_fork second p other) still_too is_too (fork-drives second p other)) it it_too in
+      let one : OneLoad result other files second = fork-one s.inner (asker_of s.inner p now) s.files (length s.terms)
+      p result other files second (drives-of rest files (files_after_fork files p result) still is
+      (fork-drives files p result)) (drives-of then_rest second (files_after_fork second p other) still_too is_too
+      (fork-drives second p other)) it it_too in
       inr (record { results = one.results; rests = is ∙ (λ i. with_files s (files_after_fork (one.files i) p (one.results i))) ∙ sym is_too })
   serves-one (on_processes Call.Chain) (files, it, is) (second, it_too, is_too) =
-      let one : OneLoad result other files second = chain-one s.inner (asker_of s.inner p now) s.files (length s.terms) p result other files second (drives-of rest files files still is refl) (drives-of then_rest second second still_too is_too refl) it it_too in
+      let one : OneLoad result other files second = chain-one s.inner (asker_of s.inner p now) s.files
+      (length s.terms) p result other files second (drives-of rest files files still is refl)
+      (drives-of then_rest second second still_too is_too refl) it it_too in
       inr (record { results = one.results; rests = is ∙ ap (with_files s) one.files ∙ sym is_too })
   serves-one (on_processes call) it it_too =
       let results : result ≡ other = it.0 ∙ sym it_too.0 in
@@ -85,11 +96,15 @@ module _ (s : State) (p : ℕ) (now : TimePacket) (result other : CallResult) (r
       let clocks : clock ≡ second = it.clock_is ∙ sym it_too.clock_is in
       inr (record { results = it.result_is ∙ sym it_too.result_is; rests = is ∙ (λ i. record (rest_of s) { clock = clocks i }) ∙ sym is_too })
   serves-one (on_paths call) (it, clock) (it_too, clock_too) =
-      by_deed (attempt-one call (asker_of s.inner p now) s.files (drive_of (step_of call)) s.terms rest.terms then_rest.terms none none_too (length s.terms) (step_of call) it.effect it_too.effect (step-splits call (asker_of s.inner p now) s.files (length s.terms)) it.does it_too.does
+      by_deed (attempt-one call (asker_of s.inner p now) s.files (drive_of (step_of call)) s.terms rest.terms
+      then_rest.terms none none_too (length s.terms) (step_of call) it.effect it_too.effect
+      (step-splits call (asker_of s.inner p now) s.files (length s.terms)) it.does it_too.does
       (subst (λ (new : Files). NoDriveFailed s.files.drives new.drives) it.state still)
       (subst (λ (new : Files). NoDriveFailed s.files.drives new.drives) it_too.state still_too))
     where
-      by_deed : BothTake (asker_of s.inner p now) s.files (deed_of (step_of call) s.files) it.effect it_too.effect s.terms rest.terms then_rest.terms ⊎ OneDeed it.effect it_too.effect rest.terms then_rest.terms → BothServe (on_paths call) s p now result other rest then_rest ⊎ OneEnd result other rest then_rest
+      by_deed : BothTake (asker_of s.inner p now) s.files (deed_of (step_of call) s.files) it.effect it_too.effect
+          s.terms rest.terms then_rest.terms ⊎ OneDeed it.effect it_too.effect rest.terms then_rest.terms
+          → BothServe (on_paths call) s p now result other rest then_rest ⊎ OneEnd result other rest then_rest
       by_deed (inl both) =
           inl (record {
             call = call;
@@ -120,7 +135,11 @@ goes-on : (m : Inner) (p : ℕ) (effect : FileEffect) → IsDone effect.end → 
 goes-on m p effect (inl (regs, is)) = ap (λ (end : IoEnd). call_event_end (result_by end m p (io_effect effect))) is
 goes-on m p effect (inr (number, is)) = ap (λ (end : IoEnd). call_event_end (result_by end m p (io_effect effect))) is
 
-chooses : (s : State) (choice : MayChoose s) (end : EventEnd) (t : State) (result : CallResult) (rest : Rest) (effect : FileEffect) → MakesChange choice.deed.it (asker_of s.inner choice.p choice.now) s.files effect s.terms rest.terms → result ≡ io_result s.inner choice.p (io_effect effect) → rest.files ≡ files_after choice.p effect → rest.clock ≡ s.clock → end ≡ call_event_end result → t ≡ with_rest s (after_attempt s.inner choice.p result) rest → ChoosesClusters s choice end t
+chooses : (s : State) (choice : MayChoose s) (end : EventEnd) (t : State) (result : CallResult) (rest : Rest)
+    (effect : FileEffect) → MakesChange choice.deed.it (asker_of s.inner choice.p choice.now) s.files effect s.terms
+    rest.terms → result ≡ io_result s.inner choice.p (io_effect effect) → rest.files ≡ files_after choice.p effect
+    → rest.clock ≡ s.clock → end ≡ call_event_end result → t ≡ with_rest s (after_attempt s.inner choice.p result)
+    rest → ChoosesClusters s choice end t
 chooses s choice end t result rest effect it result_is files clock ending is = record {
   effect = it.made;
   does = it.does;
@@ -134,7 +153,9 @@ chooses s choice end t result rest effect it result_is files clock ending is = r
     left : rest.files ≡ files_after choice.p (with_drives_after it.made s.files.drives)
     left = files ∙ ap (files_after choice.p) it.effect_is
 
-acts-one : (act : Act) (s : State) (p : ℕ) (end other : EventEnd) (t u : State) → s.chosen ≡ Some p → act_of s.inner p ≡ act → Acts act s p end t → Acts act s p other u → NoneFailed s t → NoneFailed s u → SameButClusters s end t other u ⊎ SameEvent end t other u
+acts-one : (act : Act) (s : State) (p : ℕ) (end other : EventEnd) (t u : State) → s.chosen ≡ Some p
+    → act_of s.inner p ≡ act → Acts act s p end t → Acts act s p other u → NoneFailed s t → NoneFailed s u
+    → SameButClusters s end t other u ⊎ SameEvent end t other u
 acts-one executes s p end other t u chosen next (ending, is) (ending_too, is_too) none none_too =
     inr (record { ends = ending ∙ sym ending_too; last = is ∙ sym is_too })
 acts-one (delivers signal) s p end other t u chosen next (ending, is) (ending_too, is_too) none none_too =
@@ -179,5 +200,7 @@ event-one s t u end other (p, chosen, lives, acts) (q, chosen_too, lives_too, ac
 
 pub tick-one : (s t u : State) → Tick s t → Tick s u → NoneFailed s t → NoneFailed s u → t ≡ u
 tick-one s t u (desk, arrives, is) (second, arrives_too, is_too) none none_too =
-    let same : desk ≡ second = arrivals-one (s.inner.tick + 1) 0 (length s.terms) (desk_of s) desk second arrives arrives_too (subst (λ (t : State). NoneOf s.terms t.terms) is none.terminals) (subst (λ (t : State). NoneOf s.terms t.terms) is_too none_too.terminals) in
+    let same : desk ≡ second = arrivals-one (s.inner.tick + 1) 0 (length s.terms) (desk_of s) desk second arrives
+    arrives_too (subst (λ (t : State). NoneOf s.terms t.terms) is none.terminals)
+    (subst (λ (t : State). NoneOf s.terms t.terms) is_too none_too.terminals) in
     is ∙ ap (λ (desk : Desk). record s { inner = desk.inner; files = with_io s.files desk.io; terms = desk.terms }) same ∙ sym is_too

@@ -25,7 +25,9 @@ pub some-free : (free : ℕ → Bool) (from n : ℕ) → 0 < count_of free from 
 some-free free from zero some = absurd (omega arith)
 some-free free from (suc n) some = by_first (some-free free (from + 1) n) (free from) refl some
   where
-    by_first : (0 < count_of free (from + 1) n → (x : ℕ) × (free x ≡ true)) → (first : Bool) → free from ≡ first → 0 < length (if first then from ∷ filter free (range_with_len (from + 1) n) else filter free (range_with_len (from + 1) n)) → (x : ℕ) × (free x ≡ true)
+    by_first : (0 < count_of free (from + 1) n → (x : ℕ) × (free x ≡ true)) → (first : Bool) → free from ≡ first
+        → 0 < length (if first then from ∷ filter free (range_with_len (from + 1) n) else filter free
+        (range_with_len (from + 1) n)) → (x : ℕ) × (free x ≡ true)
     by_first later true is some = (from, is)
     by_first later false is some = later some
 
@@ -156,7 +158,9 @@ record SomeGains (count k : ℕ) (free : ℕ → Bool) (segments : List (ℕ × 
   pub gained : Gains k free segments clusters
 
 -- after a first one
-gains-then : (count k : ℕ) (free : ℕ → Bool) (segments : List (ℕ × ℕ)) (c : ℕ) → MayGain k (free_beside k free segments) segments c → SomeGains count k free (appended_segments segments (c * k) k) → SomeGains (suc count) k free segments
+gains-then : (count k : ℕ) (free : ℕ → Bool) (segments : List (ℕ × ℕ)) (c : ℕ)
+    → MayGain k (free_beside k free segments) segments c → SomeGains count k free (appended_segments segments (c * k)
+    k) → SomeGains (suc count) k free segments
 gains-then count k free segments c may rest =
     record { clusters = c ∷ rest.clusters; long = ap suc rest.long; gained = (may, rest.gained) }
 
@@ -166,7 +170,9 @@ some-gains (suc count) k free segments bound some enough =
     let there = some-free (free_beside k free segments) 0 bound (omega (arith, enough)) in
     let gain = some-gain k (free_beside k free segments) segments there.0 there.1 in
     let after = appended_segments segments (gain.0 * k) k in
-    let drop : count_of (free_beside k free segments) 0 bound ≤ suc (count_of (free_beside k free after) 0 bound) = drop-one (free_beside k free segments) (free_beside k free after) gain.0 (still-free k free segments gain.0 some) 0 bound in
+    let drop : count_of (free_beside k free segments) 0 bound ≤ suc (count_of (free_beside k free after) 0 bound) =
+    drop-one (free_beside k free segments) (free_beside k free after) gain.0 (still-free k free segments gain.0
+    some) 0 bound in
     gains-then count k free segments gain.0 gain.1 (some-gains count k free after bound some (omega (arith, enough, drop)))
 
 -- a choice, or clusters of which one finds no place
@@ -174,7 +180,8 @@ abbrev pub ChoiceOrNot : ℕ → (ℕ → Bool) → List (ℕ × ℕ) → ℕ �
 ChoiceOrNot k free segments size =
     ((clusters : List ℕ) × IsChoice k free segments size clusters) ⊎ ((clusters : List ℕ) × IsOneTooMany k free segments size clusters)
 
-pub some-choice : (k : ℕ) (free : ℕ → Bool) (segments : List (ℕ × ℕ)) (size bound : ℕ) → 1 ≤ k → clusters_needed k segments size ≤ count_of (free_beside k free segments) 0 bound → ChoiceOrNot k free segments size
+pub some-choice : (k : ℕ) (free : ℕ → Bool) (segments : List (ℕ × ℕ)) (size bound : ℕ) → 1 ≤ k → clusters_needed k
+    segments size ≤ count_of (free_beside k free segments) 0 bound → ChoiceOrNot k free segments size
 some-choice k free segments size bound some enough = by_gains (some-gains (clusters_needed k segments size) k free segments bound some enough)
   where
     by_gains : SomeGains (clusters_needed k segments size) k free segments → ChoiceOrNot k free segments size
@@ -197,7 +204,8 @@ module _ (v : DiskVolume) (n : ℕ) (file : DiskFile) (is : v.files n ≡ Some f
       false_from_ne_true (uses (cluster_size v) file.segments c)
       (λ used. (
       let w = any_witness (λ s. s / cluster_size v == c) (sectors_of file.segments) used in
-      let owned : has_cluster (shape v) n file (w.0 / cluster_size v) ≡ true = cluster_from_owns (shape v) n file w.0 (owns_own (shape v) n file w.0 (or_right (n == w.0) (has (sectors_of file.segments) w.0) w.1)) in
+      let owned : has_cluster (shape v) n file (w.0 / cluster_size v) ≡ true = cluster_from_owns (shape v) n file w.0
+      (owns_own (shape v) n file w.0 (or_right (n == w.0) (has (sectors_of file.segments) w.0) w.1)) in
       both_ways (has_cluster (shape v) n file c) (unused (shape v) v c n file free below is)
       (subst (λ (c : ℕ). has_cluster (shape v) n file c ≡ true) (eqb-true (w.0 / cluster_size v) c w.2) owned)))
 
@@ -211,4 +219,6 @@ module _ (v : DiskVolume) (n : ℕ) (file : DiskFile) (is : v.files n ≡ Some f
   pub file-choice : (size : ℕ) → clusters_needed (cluster_size v) file.segments size ≤ free_total v → ChoiceOrNot (cluster_size v) (is_free_in v) file.segments size
   file-choice size enough =
       some-choice (cluster_size v) (is_free_in v) file.segments size (cluster_count (shape v)) (omega (arith, some))
-      (subst (λ (xs : List ℕ). clusters_needed (cluster_size v) file.segments size ≤ length xs) (sym (filter_agree (free_beside (cluster_size v) (is_free_in v) file.segments) (is_free_in v) beside-same (range_with_len 0 (cluster_count (shape v))))) enough)
+      (subst (λ (xs : List ℕ). clusters_needed (cluster_size v) file.segments size ≤ length xs)
+      (sym (filter_agree (free_beside (cluster_size v) (is_free_in v) file.segments) (is_free_in v) beside-same
+      (range_with_len 0 (cluster_count (shape v))))) enough)

@@ -73,7 +73,9 @@ module _ (m : Inner) (p : ℕ) (lives : IsLiving m.records p) where
   instruction-goes next (Aborts status) going = absurd (false≢true going)
 
   -- a delivery, where the call of the process was broken off before
-  module _ (signal : ℕ) (next : act_of m p ≡ delivers signal) (found : Inner) (own : found.own ≡ m.own) (place : p < length found.records) (found_lives : IsLiving found.records p) (life : (record_at found.records p).life ≡ (record_at m.records p).life) where
+  module _ (signal : ℕ) (next : act_of m p ≡ delivers signal) (found : Inner) (own : found.own ≡ m.own)
+      (place : p < length found.records) (found_lives : IsLiving found.records p)
+      (life : (record_at found.records p).life ≡ (record_at m.records p).life) where
     abbrev taken : Inner
     taken = with_records found (with_signal found.records p None)
 
@@ -83,7 +85,10 @@ module _ (m : Inner) (p : ℕ) (lives : IsLiving m.records p) where
     -- a process that does not wait has no call where a signal is delivered
     no-call-there : is_waiting (record_at found.records p).life ≡ false → (own_at found p).call ≡ None
     no-call-there runs =
-        ap (λ (owns : List Own). (slice_index_or owns p no_own).call) own ∙ by_call (own_at m p).call (record_at m.records p).signal (sym (ap (λ held. next_act (own_at m p).call held (record_at m.records p).signal) (sym (ap is_waiting life) ∙ runs)) ∙ next)
+        ap (λ (owns : List Own). (slice_index_or owns p no_own).call) own ∙ by_call (own_at m p).call
+        (record_at m.records p).signal
+        (sym (ap (λ held. next_act (own_at m p).call held (record_at m.records p).signal)
+        (sym (ap is_waiting life) ∙ runs)) ∙ next)
       where
         by_call : (call signal_there : Option ℕ) → next_act call false signal_there ≡ delivers signal → call ≡ None
         by_call None signal_there is = refl
@@ -103,7 +108,9 @@ module _ (m : Inner) (p : ℕ) (lives : IsLiving m.records p) where
         let before : rank (act_of m p) ≡ 1 = ap rank next in
         omega arith
 
-    frame-goes : (intercept : Intercept) (regs : Regs) (frame : ℕ) (held : Bool) → is_waiting (record_at found.records p).life ≡ held → GoesOn m p (with_frame (interrupted-by held) p intercept signal regs frame)
+    frame-goes : (intercept : Intercept) (regs : Regs) (frame : ℕ) (held : Bool)
+        → is_waiting (record_at found.records p).life ≡ held → GoesOn m p (with_frame (interrupted-by held) p
+        intercept signal regs frame)
     frame-goes intercept regs frame true is =
         let after = goes_on taken p (interrupted_regs found p signal) in
         let place_then : p < length after.records = simp length-set place in
@@ -113,7 +120,9 @@ module _ (m : Inner) (p : ℕ) (lives : IsLiving m.records p) where
           nearer =
               inr (executes-then (with_frame after p intercept signal regs frame)
               (no-call (with_records taken after.records) p _ refl)
-              (put-signal after.records _ place_then ∙ put-signal (with_regs taken.records p (interrupted_regs found p signal)) _ (simp length-set place) ∙ put-signal taken.records _ (simp length-set place) ∙ taken-signal));
+              (put-signal after.records _ place_then ∙ put-signal
+              (with_regs taken.records p (interrupted_regs found p signal)) _ (simp length-set place) ∙ put-signal
+              taken.records _ (simp length-set place) ∙ taken-signal));
         }
     frame-goes intercept regs frame false is =
         let place_then : p < length taken.records = simp length-set place in
@@ -129,7 +138,11 @@ module _ (m : Inner) (p : ℕ) (lives : IsLiving m.records p) where
     routine-goes intercept =
         by_room (has_no_room found p (stack_top (regs_at found p).s)) (is_waiting (record_at found.records p).life) refl
       where
-        by_room : (none held : Bool) → is_waiting (record_at found.records p).life ≡ held → is_going (delivery_end (if none then Err E_PRCABT else Ok (with_frame (interrupted-by held) p intercept signal (interrupted_regs found p signal) (stack_top (regs_at found p).s - 12)))) ≡ true → GoesOn m p (after_delivery found p (if none then Err E_PRCABT else Ok (with_frame (interrupted-by held) p intercept signal (interrupted_regs found p signal) (stack_top (regs_at found p).s - 12))))
+        by_room : (none held : Bool) → is_waiting (record_at found.records p).life ≡ held
+            → is_going (delivery_end (if none then Err E_PRCABT else Ok (with_frame (interrupted-by held) p intercept
+            signal (interrupted_regs found p signal) (stack_top (regs_at found p).s - 12)))) ≡ true
+            → GoesOn m p (after_delivery found p (if none then Err E_PRCABT else Ok (with_frame (interrupted-by held)
+            p intercept signal (interrupted_regs found p signal) (stack_top (regs_at found p).s - 12))))
         by_room true held is going = absurd (false≢true going)
         by_room false held is going =
             frame-goes intercept (interrupted_regs found p signal) (stack_top (regs_at found p).s - 12) held is
@@ -141,7 +154,10 @@ module _ (m : Inner) (p : ℕ) (lives : IsLiving m.records p) where
         answer None = Err signal
         answer (Some intercept) = if signal == 0 then Err signal else routine_begun found p intercept signal
 
-        by_zero : (intercept : Intercept) (zero : Bool) → is_going (delivery_end (if zero then Err signal else routine_begun found p intercept signal)) ≡ true → GoesOn m p (after_delivery found p (if zero then Err signal else routine_begun found p intercept signal))
+        by_zero : (intercept : Intercept) (zero : Bool)
+            → is_going (delivery_end (if zero then Err signal else routine_begun found p intercept signal)) ≡ true
+            → GoesOn m p (after_delivery found p (if zero then Err signal else routine_begun found p intercept
+            signal))
         by_zero intercept true going = absurd (false≢true going)
         by_zero intercept false going = routine-goes intercept going
 
@@ -150,7 +166,9 @@ module _ (m : Inner) (p : ℕ) (lives : IsLiving m.records p) where
         by_intercept (Some intercept) going = by_zero intercept (signal == 0) going
 
   -- what a signal finds
-  pub broken-goes : (signal : ℕ) → act_of m p ≡ delivers signal → (count : Option ℕ) → is_going (delivery_end (delivered (broken_off m p count) p signal)) ≡ true → GoesOn m p (after_delivery (broken_off m p count) p (delivered (broken_off m p count) p signal))
+  pub broken-goes : (signal : ℕ) → act_of m p ≡ delivers signal → (count : Option ℕ)
+      → is_going (delivery_end (delivered (broken_off m p count) p signal)) ≡ true
+      → GoesOn m p (after_delivery (broken_off m p count) p (delivered (broken_off m p count) p signal))
   broken-goes signal next None = delivered-goes signal next m refl within lives refl
   broken-goes signal next (Some count) =
       let r : Record = record (record_at m.records p) { regs = record (regs_at m p) { y = count } } in

@@ -81,7 +81,9 @@ numbers-entered : (v w : DiskVolume) (d n : ℕ) (name : List ℕ) (plan : Plan)
 numbers-entered v w d n name plan some it =
     let both = it.both in
     let made = both.made in
-    let new : n < (shape v).total = below-total made.cluster (cluster_size v) n (shape v).total made.first some (leb-true ((made.cluster + 1) * cluster_size v) (shape v).total (free-whole (shape v) v made.cluster made.taken)) in
+    let new : n < (shape v).total = below-total made.cluster (cluster_size v) n (shape v).total made.first some
+    (leb-true ((made.cluster + 1) * cluster_size v) (shape v).total (free-whole (shape v) v made.cluster
+    made.taken)) in
     subst (KeepsNumbers v) (sym it.volume)
     (numbers-then v (replaced v d (Some both.new)) (replaced (replaced v d (Some both.new)) n (Some both.file))
     (numbers-put v d (Some both.new) (λ file is has. has d both.old both.is))
@@ -144,7 +146,9 @@ mounted-same files new volumes drives mounted = record {
     at : (drive : ℕ) → volume_at new drive ≡ volume_at files drive
     at drive = ap (λ (volumes : List (Option DiskVolume)). slice_index_or volumes drive None) volumes
 
-mounted-set : (files new : Files) (drive : ℕ) (old left : DiskVolume) → volume_at files drive ≡ Some old → new.volumes ≡ slice_set files.volumes drive (Some left) → length new.drives ≡ length files.drives → KeepsNumbers old left → AreMounted files → AreMounted new
+mounted-set : (files new : Files) (drive : ℕ) (old left : DiskVolume) → volume_at files drive ≡ Some old
+    → new.volumes ≡ slice_set files.volumes drive (Some left) → length new.drives ≡ length files.drives
+    → KeepsNumbers old left → AreMounted files → AreMounted new
 mounted-set files new drive old left is volumes drives keeps mounted = record {
   drives =
       λ other v there. subst (λ (n : ℕ). other < n) (sym drives) (in_drive other v there (cases_eq other drive));
@@ -162,14 +166,18 @@ mounted-set files new drive old left is volumes drives keeps mounted = record {
 
     numbers_at : (other : ℕ) (v : DiskVolume) → volume_at new other ≡ Some v → (other ≡ drive) ⊎ (other ≡ drive → ⊥) → HasNumbers v
     numbers_at other v there (inl same) =
-        subst HasNumbers (same_Some left v (sym (volume-new files drive old left is) ∙ sym (ap (volume_at (with_volume files drive left)) same) ∙ sym (at other) ∙ there)) (numbers-of old left keeps (mounted.numbers drive old is))
+        subst HasNumbers (same_Some left v (sym (volume-new files drive old left is) ∙ sym
+        (ap (volume_at (with_volume files drive left)) same) ∙ sym (at other) ∙ there))
+        (numbers-of old left keeps (mounted.numbers drive old is))
     numbers_at other v there (inr apart) =
         mounted.numbers other v (sym (volume-other files drive old left is other apart) ∙ sym (at other) ∙ there)
 
 -- ---- an attempt of a call on paths, files and directories
 
 module _ (call : PathCall) (asker : Asker) (files : Files) (kinds : AreKinds files) (mounted : AreMounted files) (old new : List TerminalState) where
-  deed-mounted : (reached : Option ℕ) (deed : Deed) (it : FileEffect) (drives : List DriveState) → length drives ≡ length files.drives → Splits call asker files (length old) reached deed → DoesDeed deed asker files it old new → AreMounted (with_drives it.files drives)
+  deed-mounted : (reached : Option ℕ) (deed : Deed) (it : FileEffect) (drives : List DriveState)
+      → length drives ≡ length files.drives → Splits call asker files (length old) reached deed → DoesDeed deed asker
+      files it old new → AreMounted (with_drives it.files drives)
   deed-mounted reached (leaves_so effect) it drives many left (is, same) =
       subst (λ (it : FileEffect). AreMounted (with_drives it.files drives)) (sym is)
       (mounted-same files (with_drives effect.files drives) left.volumes many mounted)
@@ -193,7 +201,9 @@ module _ (call : PathCall) (asker : Asker) (files : Files) (kinds : AreKinds fil
   pub does-mounted : (effect : FileEffect) → FileDoes (file_step call asker files (length old)) asker files effect old new → AreMounted effect.files
   does-mounted effect (inl well) =
       subst (λ (effect : FileEffect). AreMounted effect.files) (sym well.effect_is)
-      (deed-mounted (drive_of (file_step call asker files (length old))) (deed_of (file_step call asker files (length old)) files) well.it well.drives (none-many files.drives well.drives well.none_failed) (step-splits call asker files (length old)) well.does)
+      (deed-mounted (drive_of (file_step call asker files (length old)))
+      (deed_of (file_step call asker files (length old)) files) well.it well.drives
+      (none-many files.drives well.drives well.none_failed) (step-splits call asker files (length old)) well.does)
   does-mounted effect (inr (broken, same)) =
       subst (λ (effect : FileEffect). AreMounted effect.files) (sym broken.effect_is)
       (mounted-set files (with_drives (with_volume files broken.drive broken.left) broken.drives) broken.drive broken.old broken.left broken.is refl broken.failed.as_many
@@ -213,7 +223,8 @@ zip-long (image ∷ images) [] mounted = absurd mounted
 zip-long (image ∷ images) (v ∷ volumes) mounted =
     let rest : length volumes ≡ length images = zip-long images volumes mounted.1 in omega (arith, rest)
 
-pub mounted-first : (images : List (List ℕ)) (volumes : List DiskVolume) (drives : List DriveState) → AllZip Vol images volumes → length images ≤ length drives → AreMounted (first_files volumes drives)
+pub mounted-first : (images : List (List ℕ)) (volumes : List DiskVolume) (drives : List DriveState)
+    → AllZip Vol images volumes → length images ≤ length drives → AreMounted (first_files volumes drives)
 mounted-first images volumes drives mounted few = record {
   drives = in_drive;
   numbers =
@@ -226,7 +237,17 @@ mounted-first images volumes drives mounted few = record {
     long : length places ≡ length drives
     long =
         let many : length volumes ≡ length images = zip-long images volumes mounted in
-        omega (arith, many, few, length-append (map (λ (v : DiskVolume). Some v) volumes) (replicate (length drives - length volumes) (let none : Option DiskVolume = None in none)), length-map volumes (λ (v : DiskVolume). Some v), length-replicate (length drives - length volumes) (let none : Option DiskVolume = None in none))
+        omega (
+          arith,
+          many,
+          few,
+          length-append (map (λ (v : DiskVolume). Some v) volumes)
+              (replicate (length drives - length volumes) (let none : Option DiskVolume = None in none)),
+          length-map
+              volumes (λ (v : DiskVolume). Some v),
+          length-replicate (length drives - length volumes)
+              (let none : Option DiskVolume = None in none),
+        )
 
     in_drive : (drive : ℕ) (v : DiskVolume) → volume_at (first_files volumes drives) drive ≡ Some v → drive < length drives
     in_drive drive v is =

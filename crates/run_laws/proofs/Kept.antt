@@ -40,7 +40,8 @@ bare-same : (old new : Files) → new.volumes ≡ old.volumes → Bare old → B
 bare-same old new same bare drive =
     ap (λ (volumes : List (Option DiskVolume)). slice_index_or volumes drive None) same ∙ bare drive
 
-bare-volumes : {reached : Option ℕ} (old : Files) (result : CallResult) (new : Files) → NoVolumeChanges old new ⊎ OneVolumeChanges reached old new ⊎ OneDriveFails reached old result new → Bare old → Bare new
+bare-volumes : {reached : Option ℕ} (old : Files) (result : CallResult) (new : Files) → NoVolumeChanges old new ⊎
+    OneVolumeChanges reached old new ⊎ OneDriveFails reached old result new → Bare old → Bare new
 bare-volumes old result new (inl stay) bare = bare-same old new stay.volumes bare
 bare-volumes old result new (inr (inl one)) bare = absurd (none-some one.old (sym (bare one.drive) ∙ one.was))
 bare-volumes old result new (inr (inr fails)) bare = absurd (none-some fails.old (sym (bare fails.drive) ∙ fails.was))

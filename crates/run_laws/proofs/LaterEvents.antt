@@ -36,20 +36,129 @@ use Rattle.run_laws.proofs.LaterKeys.{At, at-zip, length-all, on_terms}
 abbrev keyed : TerminalState → List Key → TerminalState
 keyed terminal keys = record terminal { keys = keys }
 
-reads-keyed : (request : Reading) (answer : Progress) (old new : Terminal) (before now : TerminalState) (keys : List Key) → Reads request answer old new before now → Reads request answer old new (keyed before keys) (keyed now keys)
-reads-keyed request (Progress.Done count) old new before now keys it = record { outcome = record { answer_is = it.outcome.answer_is; terminal = it.outcome.terminal; echo = it.outcome.echo }; turn = it.turn; driver = record { keys = refl; never_falls = it.driver.never_falls; faults = it.driver.faults } }
-reads-keyed request Progress.Wait old new before now keys it = record { outcome = record { answer_is = it.outcome.answer_is; terminal = it.outcome.terminal; echo = it.outcome.echo }; turn = it.turn; driver = record { keys = refl; never_falls = it.driver.never_falls; faults = it.driver.faults } }
-reads-keyed request Progress.End old new before now keys it = record { outcome = record { answer_is = it.outcome.answer_is; terminal = it.outcome.terminal; echo = it.outcome.echo }; turn = it.turn; driver = record { keys = refl; never_falls = it.driver.never_falls; faults = it.driver.faults } }
-reads-keyed request Progress.Fault old new before now keys it = record { outcome = record { front = it.outcome.front; key = it.outcome.key; rest = it.outcome.rest; count = it.outcome.count; keys = it.outcome.keys; unfinished = it.outcome.unfinished; part = it.outcome.part; echo = it.outcome.echo; terminal = it.outcome.terminal }; turn = it.turn; driver = record { keys = refl; never_falls = it.driver.never_falls; faults = it.driver.faults } }
-reads-keyed request Progress.NoMemory old new before now keys it = record { outcome = record { front = it.outcome.front; key = it.outcome.key; rest = it.outcome.rest; count = it.outcome.count; keys = it.outcome.keys; unfinished = it.outcome.unfinished; part = it.outcome.part; echo = it.outcome.echo; terminal = it.outcome.terminal }; turn = it.turn; driver = record { keys = refl; never_falls = it.driver.never_falls; faults = it.driver.faults } }
+reads-keyed : (request : Reading) (answer : Progress) (old new : Terminal) (before now : TerminalState)
+    (keys : List Key) → Reads request answer old new before now → Reads request answer old new (keyed before keys)
+    (keyed now keys)
+reads-keyed request (Progress.Done count) old new before now keys it = record {
+  outcome = record { answer_is = it.outcome.answer_is; terminal = it.outcome.terminal; echo = it.outcome.echo };
+  turn = it.turn;
+  driver = record { keys = refl; never_falls = it.driver.never_falls; faults = it.driver.faults };
+}
+reads-keyed request Progress.Wait old new before now keys it = record {
+  outcome = record { answer_is = it.outcome.answer_is; terminal = it.outcome.terminal; echo = it.outcome.echo };
+  turn = it.turn;
+  driver = record { keys = refl; never_falls = it.driver.never_falls; faults = it.driver.faults };
+}
+reads-keyed request Progress.End old new before now keys it = record {
+  outcome = record { answer_is = it.outcome.answer_is; terminal = it.outcome.terminal; echo = it.outcome.echo };
+  turn = it.turn;
+  driver = record { keys = refl; never_falls = it.driver.never_falls; faults = it.driver.faults };
+}
+reads-keyed request Progress.Fault old new before now keys it = record {
+  outcome = record {
+    front = it.outcome.front;
+    key = it.outcome.key;
+    rest = it.outcome.rest;
+    count =
+        it.outcome.count;
+    keys = it.outcome.keys;
+    unfinished = it.outcome.unfinished;
+    part = it.outcome.part;
+    echo =
+        it.outcome.echo;
+    terminal = it.outcome.terminal;
+  };
+  turn = it.turn;
+  driver = record {
+    keys = refl;
+    never_falls =
+        it.driver.never_falls;
+    faults = it.driver.faults;
+  };
+}
+reads-keyed request Progress.NoMemory old new before now keys it = record {
+  outcome = record {
+    front = it.outcome.front;
+    key = it.outcome.key;
+    rest = it.outcome.rest;
+    count =
+        it.outcome.count;
+    keys = it.outcome.keys;
+    unfinished = it.outcome.unfinished;
+    part = it.outcome.part;
+    echo =
+        it.outcome.echo;
+    terminal = it.outcome.terminal;
+  };
+  turn = it.turn;
+  driver = record {
+    keys = refl;
+    never_falls =
+        it.driver.never_falls;
+    faults = it.driver.faults;
+  };
+}
 
 module _ (process : Pid) (put : List ℕ) (count : ℕ) (old new : Terminal) (before now : TerminalState) (keys : List Key) where
   writes-keyed : (answer : Progress) → Writes process put count answer old new before now → Writes process put count answer old new (keyed before keys) (keyed now keys)
-  writes-keyed (Progress.Done n) it = record { outcome = record { answer_is = it.outcome.answer_is; terminal = it.outcome.terminal; put = it.outcome.put }; driver = record { keys = refl; never_falls = it.driver.never_falls; faults = it.driver.faults } }
-  writes-keyed Progress.Wait it = record { outcome = record { answer_is = it.outcome.answer_is; terminal = it.outcome.terminal; put = it.outcome.put }; driver = record { keys = refl; never_falls = it.driver.never_falls; faults = it.driver.faults } }
-  writes-keyed Progress.End it = record { outcome = record { answer_is = it.outcome.answer_is; terminal = it.outcome.terminal; put = it.outcome.put }; driver = record { keys = refl; never_falls = it.driver.never_falls; faults = it.driver.faults } }
-  writes-keyed Progress.Fault it = record { outcome = record { terminal = it.outcome.terminal; part = it.outcome.part }; driver = record { keys = refl; never_falls = it.driver.never_falls; faults = it.driver.faults } }
-  writes-keyed Progress.NoMemory it = record { outcome = record { terminal = it.outcome.terminal; part = it.outcome.part }; driver = record { keys = refl; never_falls = it.driver.never_falls; faults = it.driver.faults } }
+  writes-keyed (Progress.Done n) it = record {
+    outcome = record {
+      answer_is = it.outcome.answer_is;
+      terminal =
+          it.outcome.terminal;
+      put = it.outcome.put;
+    };
+    driver = record {
+      keys = refl;
+      never_falls = it.driver.never_falls;
+      faults = it.driver.faults;
+    };
+  }
+  writes-keyed Progress.Wait it = record {
+    outcome = record {
+      answer_is = it.outcome.answer_is;
+      terminal =
+          it.outcome.terminal;
+      put = it.outcome.put;
+    };
+    driver = record {
+      keys = refl;
+      never_falls = it.driver.never_falls;
+      faults = it.driver.faults;
+    };
+  }
+  writes-keyed Progress.End it = record {
+    outcome = record {
+      answer_is = it.outcome.answer_is;
+      terminal =
+          it.outcome.terminal;
+      put = it.outcome.put;
+    };
+    driver = record {
+      keys = refl;
+      never_falls = it.driver.never_falls;
+      faults = it.driver.faults;
+    };
+  }
+  writes-keyed Progress.Fault it = record {
+    outcome = record {
+      terminal = it.outcome.terminal;
+      part = it.outcome.part;
+    };
+    driver = record { keys = refl; never_falls = it.driver.never_falls; faults = it.driver.faults };
+  }
+  writes-keyed Progress.NoMemory it = record {
+    outcome = record {
+      terminal = it.outcome.terminal;
+      part =
+          it.outcome.part;
+    };
+    driver = record {
+      keys = refl;
+      never_falls = it.driver.never_falls;
+      faults = it.driver.faults;
+    };
+  }
 
 keyed-is : (later : ℕ) (rest : Rests) (one other : TerminalState) → SameBut later rest one other → other ≡ keyed one other.keys
 keyed-is later rest one other same = λ i. record { keys = other.keys; put = same.put i; faults = same.faults i }
@@ -80,14 +189,27 @@ too-same later rests before after others all is = subst (λ (after : List Termin
 
 module _ (later : ℕ) (rests : List Rests) (before after others : List TerminalState) (all : AreSameBut later rests before others) where
   -- a terminal that changes so keeps its keys, and changes so with others
-  change-too : (n : ℕ) (Change : TerminalState → TerminalState → Type 0) → ((old now : TerminalState) → Change old now → now.keys ≡ old.keys) → ((old now : TerminalState) (keys : List Key) → Change old now → Change (keyed old keys) (keyed now keys)) → ChangesOneTerminal Change n before after → Too later rests after (ChangesOneTerminal Change n others)
+  change-too : (n : ℕ) (Change : TerminalState → TerminalState → Type 0) → ((old now : TerminalState) → Change old now
+      → now.keys ≡ old.keys) → ((old now : TerminalState) (keys : List Key) → Change old now → Change (keyed old keys)
+      (keyed now keys)) → ChangesOneTerminal Change n before after → Too later rests after
+      (ChangesOneTerminal Change n others)
   change-too n Change keeps rekeys (old, now, there, is, changed) =
       let here : At later rests before others n old = at-zip later rests before others n old all there in
       record {
         terms = slice_set others n (keyed now here.y.keys);
-        comes = (here.y, keyed now here.y.keys, here.there, refl, subst (λ (old : TerminalState). Change old (keyed now here.y.keys)) (sym (keyed-is later here.rest old here.y here.same)) (rekeys old now here.y.keys changed));
+        comes = (
+          here.y,
+          keyed now here.y.keys,
+          here.there,
+          refl,
+          subst (λ (old : TerminalState). Change old
+              (keyed now here.y.keys)) (sym (keyed-is later here.rest old here.y here.same)) (rekeys old now here.y.keys
+              changed),
+        );
         same =
-            too-same later rests (slice_set before n now) after (slice_set others n (keyed now here.y.keys)) (here.set now (keyed now here.y.keys) (still-same later here.rest old now here.y here.same (keeps old now changed))) is;
+            too-same later rests (slice_set before n now) after (slice_set others n (keyed now here.y.keys))
+            (here.set now (keyed now here.y.keys) (still-same later here.rest old now here.y here.same
+            (keeps old now changed))) is;
       }
 
   does-too : (step : IoStep) (caller : Caller) (io : Io) (effect : IoEffect) → Does step caller io effect before after → Too later rests after (Does step caller io effect others)
@@ -96,10 +218,18 @@ module _ (later : ℕ) (rests : List Rests) (before after others : List Terminal
   does-too (comes it) caller io effect (is, same) =
       record { terms = others; comes = (is, refl); same = too-same later rests before after others all same }
   does-too (reads read) caller io effect it =
-      let too : Too later rests after (ChangesOneTerminal (Reads (request_of caller read) it.answer (terminal_at io read.terminal) it.new) read.terminal others) = change-too read.terminal (Reads (request_of caller read) it.answer (terminal_at io read.terminal) it.new) (λ old now changed. changed.driver.keys) (λ old now keys changed. reads-keyed (request_of caller read) it.answer (terminal_at io read.terminal) it.new old now keys changed) it.device in
+      let too : Too later rests after (ChangesOneTerminal (Reads (request_of caller read) it.answer
+      (terminal_at io read.terminal) it.new) read.terminal others) = change-too read.terminal
+      (Reads (request_of caller read) it.answer (terminal_at io read.terminal) it.new)
+      (λ old now changed. changed.driver.keys) (λ old now keys changed. reads-keyed (request_of caller read)
+      it.answer (terminal_at io read.terminal) it.new old now keys changed) it.device in
       record { terms = too.terms; comes = record { answer = it.answer; new = it.new; end = it.end; device = too.comes; ends = it.ends; effect_is = it.effect_is }; same = too.same }
   does-too (writes write) caller io effect it =
-      let too : Too later rests after (ChangesOneTerminal (Writes caller.process write.put write.count it.answer (terminal_at io write.terminal) it.new) write.terminal others) = change-too write.terminal (Writes caller.process write.put write.count it.answer (terminal_at io write.terminal) it.new) (λ old now changed. changed.driver.keys) (λ old now keys changed. writes-keyed caller.process write.put write.count (terminal_at io write.terminal) it.new old now keys it.answer changed) it.device in
+      let too : Too later rests after (ChangesOneTerminal (Writes caller.process write.put write.count it.answer
+      (terminal_at io write.terminal) it.new) write.terminal others) = change-too write.terminal
+      (Writes caller.process write.put write.count it.answer (terminal_at io write.terminal) it.new)
+      (λ old now changed. changed.driver.keys) (λ old now keys changed. writes-keyed caller.process write.put
+      write.count (terminal_at io write.terminal) it.new old now keys it.answer changed) it.device in
       record { terms = too.terms; comes = record { answer = it.answer; new = it.new; end = it.end; device = too.comes; ends = it.ends; effect_is = it.effect_is }; same = too.same }
 
   deed-too : (deed : Deed) (asker : Asker) (files : Files) (effect : FileEffect) → DoesDeed deed asker files effect before after → Too later rests after (DoesDeed deed asker files effect others)
@@ -162,7 +292,9 @@ module _ (later : ℕ) (rests : List Rests) (s : State) (others : List TerminalS
   }
   serves-too (on_paths call) (it, clock) =
       let asker : Asker = asker_of s.inner p now in
-      let too : Too later rests rest.terms (FileDoes (file_step call asker s.files (length s.terms)) asker s.files it.effect others) = file-too later rests s.terms rest.terms others all (file_step call asker s.files (length s.terms)) asker s.files it.effect it.does in
+      let too : Too later rests rest.terms (FileDoes (file_step call asker s.files (length s.terms)) asker s.files
+      it.effect others) = file-too later rests s.terms rest.terms others all (file_step call asker s.files
+      (length s.terms)) asker s.files it.effect it.does in
       record {
         terms = too.terms;
         comes = (
@@ -190,7 +322,9 @@ record ActsToo (later : ℕ) (rests : List Rests) (act : Act) (s : State) (other
   pub acts : Acts act (on_terms s others) p end last
   pub same : SameTo later rests t last
 
-acts-too : (later : ℕ) (rests : List Rests) (act : Act) (s : State) (others : List TerminalState) (p : ℕ) (end : EventEnd) (t : State) → AreSameBut later rests s.terms others → Acts act s p end t → ActsToo later rests act s others p end t
+acts-too : (later : ℕ) (rests : List Rests) (act : Act) (s : State) (others : List TerminalState) (p : ℕ)
+    (end : EventEnd) (t : State) → AreSameBut later rests s.terms others → Acts act s p end t → ActsToo later rests
+    act s others p end t
 acts-too later rests executes s others p end t all (ending, is) = record {
   last = on_terms t others;
   acts = (ending, ap (λ (t : State). on_terms t others) is);

@@ -79,7 +79,8 @@ record OfFront (front taken left rest : List Key) : Type 0 where
   pub front_is : front ≡ taken ++ mid
   pub rest_is : rest ≡ mid ++ left
 
-of-front : (tick later : ℕ) (front taken left rest : List Key) → tick ≤ later → due_byte left later ≡ None → All (λ (key : Key). key.tick ≤ tick) taken → front ++ left ≡ taken ++ rest → OfFront front taken left rest
+of-front : (tick later : ℕ) (front taken left rest : List Key) → tick ≤ later → due_byte left later ≡ None
+    → All (λ (key : Key). key.tick ≤ tick) taken → front ++ left ≡ taken ++ rest → OfFront front taken left rest
 of-front tick later front [] left rest before none due is = record { mid = front; front_is = refl; rest_is = sym is }
 of-front tick later [] (x ∷ taken) left rest before none due is =
     absurd (due-not x (taken ++ rest) tick (All-head (λ (key : Key). key.tick ≤ tick) x taken due) (sym (ap (λ (keys : List Key). due_byte keys tick) is) ∙ earlier left tick later before none))
@@ -101,7 +102,9 @@ record ArrivesToo (tick later : ℕ) (rests : Rests) (old new : Terminal) (answe
   pub arrives : Arrives tick old new other last answer
   pub same : SameBut later rests now last
 
-arrives-too : (tick later : ℕ) (rests : Rests) (old new : Terminal) (before now other : TerminalState) (answer : Arrival) → tick ≤ later → SameBut later rests before other → Arrives tick old new before now answer → ArrivesToo tick later rests old new answer now other
+arrives-too : (tick later : ℕ) (rests : Rests) (old new : Terminal) (before now other : TerminalState)
+    (answer : Arrival) → tick ≤ later → SameBut later rests before other → Arrives tick old new before now answer
+    → ArrivesToo tick later rests old new answer now other
 arrives-too tick later rests old new before now other answer below same it =
     let cut : OfFront same.front it.taken rests.one now.keys = of-front tick later same.front it.taken rests.one now.keys below same.later it.due (sym same.keys ∙ it.in_order) in
     record {
@@ -147,10 +150,14 @@ record DeskToo (later : ℕ) (rests : List Rests) (new : Desk) (Comes : Desk →
   pub comes : Comes (with_terms new terms)
   pub same : AreSameBut later rests new.terms terms
 
-at-too : (tick later n : ℕ) (rests : List Rests) (old new : Desk) (terms : List TerminalState) → tick ≤ later → AreSameBut later rests old.terms terms → ArrivesAt tick n old new → DeskToo later rests new (ArrivesAt tick n (with_terms old terms))
+at-too : (tick later n : ℕ) (rests : List Rests) (old new : Desk) (terms : List TerminalState) → tick ≤ later
+    → AreSameBut later rests old.terms terms → ArrivesAt tick n old new → DeskToo later rests new
+    (ArrivesAt tick n (with_terms old terms))
 at-too tick later n rests old new terms below all it =
     let here : At later rests old.terms terms n it.device.0 = at-zip later rests old.terms terms n it.device.0 all it.device.2 in
-    let too : ArrivesToo tick later here.rest (terminal_at old.io n) it.terminal it.answer it.device.1 here.y = arrives-too tick later here.rest (terminal_at old.io n) it.terminal it.device.0 it.device.1 here.y it.answer below here.same it.device.4 in
+    let too : ArrivesToo tick later here.rest (terminal_at old.io n) it.terminal it.answer it.device.1 here.y =
+    arrives-too tick later here.rest (terminal_at old.io n) it.terminal it.device.0 it.device.1 here.y it.answer
+    below here.same it.device.4 in
     record {
       terms = slice_set terms n too.last;
       comes = record {
@@ -165,7 +172,9 @@ at-too tick later n rests old new terms below all it =
           subst (λ (now : List TerminalState). AreSameBut later rests now (slice_set terms n too.last)) (sym it.device.3) (here.set it.device.1 too.last too.same);
     }
 
-from-too : (tick later n count : ℕ) (rests : List Rests) (old new : Desk) (terms : List TerminalState) → tick ≤ later → AreSameBut later rests old.terms terms → ArrivesFrom tick n count old new → DeskToo later rests new (ArrivesFrom tick n count (with_terms old terms))
+from-too : (tick later n count : ℕ) (rests : List Rests) (old new : Desk) (terms : List TerminalState) → tick ≤ later
+    → AreSameBut later rests old.terms terms → ArrivesFrom tick n count old new → DeskToo later rests new
+    (ArrivesFrom tick n count (with_terms old terms))
 from-too tick later n zero rests old new terms below all is =
     record { terms = terms; comes = ap (λ (desk : Desk). with_terms desk terms) is; same = subst (λ (new : Desk). AreSameBut later rests new.terms terms) (sym is) all }
 from-too tick later n (suc count) rests old new terms below all (between, here, rest) =
@@ -181,9 +190,17 @@ pub tick-too : (later : ℕ) (rests : List Rests) (s t other : State) → s.inne
 tick-too later rests s t other below same (desk, arrives, is) =
     let all : AreSameBut later rests s.terms other.terms = same.terms in
     let count : length s.terms ≡ length other.terms = length-all later rests s.terms other.terms all in
-    let too : DeskToo later rests desk (ArrivesFrom (s.inner.tick + 1) 0 (length s.terms) (with_terms (desk_of s) other.terms)) = from-too (s.inner.tick + 1) later 0 (length s.terms) rests (desk_of s) desk other.terms below all arrives in
+    let too : DeskToo later rests desk (ArrivesFrom (s.inner.tick + 1) 0 (length s.terms)
+    (with_terms (desk_of s) other.terms)) = from-too (s.inner.tick + 1) later 0 (length s.terms) rests (desk_of s)
+    desk other.terms below all arrives in
     let there : State = record s { inner = desk.inner; files = with_io s.files desk.io; terms = too.terms } in
-    let comes : Tick (on_terms s other.terms) there = (with_terms desk too.terms, subst (λ (n : ℕ). ArrivesFrom (s.inner.tick + 1) 0 n (with_terms (desk_of s) other.terms) (with_terms desk too.terms)) count too.comes, refl) in
+    let comes : Tick (on_terms s other.terms) there = (
+      with_terms desk too.terms,
+      subst
+          (λ (n : ℕ). ArrivesFrom (s.inner.tick + 1) 0 n (with_terms (desk_of s) other.terms)
+          (with_terms desk too.terms)) count too.comes,
+      refl,
+    ) in
     record {
       last = there;
       ticks = subst (λ (other : State). Tick other there) (sym same.rest) comes;

@@ -31,7 +31,9 @@ module _ (later : ℕ) (rests : List Rests) where
     pub all : AllZip (SameTo later rests) states through
     pub same : SameTo later rests t last
 
-  after-too : (left : ℕ) (going : Bool) (m other : State) (ms : List State) (t : State) → ((t : State) → Steps left m ms t → StepsToo left ms t other) → SameTo later rests m other → After left going m ms t → AfterToo left going ms t other
+  after-too : (left : ℕ) (going : Bool) (m other : State) (ms : List State) (t : State)
+      → ((t : State) → Steps left m ms t → StepsToo left ms t other) → SameTo later rests m other → After left going m
+      ms t → AfterToo left going ms t other
   after-too left true m other ms t steps-of same steps =
       let it : StepsToo left ms t other = steps-of t steps in
       record { through = it.through; last = it.last; steps = it.steps; all = it.all; same = it.same }
@@ -56,7 +58,8 @@ module _ (later : ℕ) (rests : List Rests) where
   }
   steps-too left s other (m ∷ ms) t same (some, end, event, steps) =
       let one : SameEventTo later rests end m other = event-too later rests s m other end same event in
-      let after : AfterToo (left - cost s) (is_going end) ms t one.last = after-too (left - cost s) (is_going end) m one.last ms t (λ t steps. steps-too (left - cost s) m one.last ms t one.same steps) one.same steps in
+      let after : AfterToo (left - cost s) (is_going end) ms t one.last = after-too (left - cost s) (is_going end) m
+      one.last ms t (λ t steps. steps-too (left - cost s) m one.last ms t one.same steps) one.same steps in
       record {
         through = one.last ∷ after.through;
         last = after.last;
@@ -77,7 +80,8 @@ module _ (later : ℕ) (rests : List Rests) where
     pub all : AllZip (SameTo later rests) states through
     pub same : SameTo later rests t last
 
-  begun-too : (n : ℕ) (chosen other : State) (who : Option ℕ) (states : List State) (end : SliceEnd) (t : State) → SameTo later rests chosen other → Begun n chosen who states end t → BegunToo n who states end t other
+  begun-too : (n : ℕ) (chosen other : State) (who : Option ℕ) (states : List State) (end : SliceEnd) (t : State)
+      → SameTo later rests chosen other → Begun n chosen who states end t → BegunToo n who states end t other
   begun-too n chosen other None states end t same (idle, none, is) = record {
     through = [];
     last = other;
@@ -89,7 +93,8 @@ module _ (later : ℕ) (rests : List Rests) where
       let it : StepsToo n states t other = steps-too n chosen other states t same steps in
       record { through = it.through; last = it.last; begun = (ran, it.steps); all = it.all; same = it.same }
 
-  pub slice-too : (n : ℕ) (s t other : State) (states : List State) (end : SliceEnd) → s.inner.tick + 1 ≤ later → SameTo later rests s other → Slice n s states end t → SameSliceTo later rests n states end t other
+  pub slice-too : (n : ℕ) (s t other : State) (states : List State) (end : SliceEnd) → s.inner.tick + 1 ≤ later
+      → SameTo later rests s other → Slice n s states end t → SameSliceTo later rests n states end t other
   slice-too n s t other states end below same (ticked, chosen, ticks, chooses, rest) =
       let tick : SameTickTo later rests ticked other = tick-too later rests s ticked other below same ticks in
       let choice : SameChoiceTo later rests chosen tick.last = choice-too later rests ticked chosen tick.last tick.same chooses in

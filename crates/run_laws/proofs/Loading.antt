@@ -36,7 +36,9 @@ outcome-one : (m : Inner) (file : ProgramFile) (outcome second : Result Loaded �
 outcome-one m file outcome second loads loads_too =
     loads.is ∙ ap (loaded_by m.memory file.bytes) (Enters-one loads.modules loads_too.modules) ∙ sym loads_too.is
 
-goes-one : (m : Inner) (reading : Result ProgramFile ℕ) (next : ProgramFile → Loaded → CallResult) (result other : CallResult) → GoesOnLoaded m reading next result → GoesOnLoaded m reading next other → result ≡ other
+goes-one : (m : Inner) (reading : Result ProgramFile ℕ) (next : ProgramFile → Loaded → CallResult)
+    (result other : CallResult) → GoesOnLoaded m reading next result → GoesOnLoaded m reading next other
+    → result ≡ other
 goes-one m (Err number) next result other is is_too = is ∙ sym is_too
 goes-one m (Ok file) next result other (Err number, loads, is) (Err second, loads_too, is_too) =
     let same : Err number ≡ Err second = outcome-one m file (Err number) (Err second) loads loads_too in
@@ -58,8 +60,11 @@ pub record OneLoad (result second : CallResult) (new other : Files) : Type 0 whe
   pub results : result ≡ second
   pub files : new ≡ other
 
-module _ (m : Inner) (asker : Asker) (old : Files) (terms p : ℕ) (result second : CallResult) (new other : Files) (none : NoDriveFailed old.drives new.drives) (none_too : NoDriveFailed old.drives other.drives) where
-  loads-one : (step : Step ProgramFile) (next : ProgramFile → Loaded → CallResult) (reading then_reading : Result ProgramFile ℕ) → ReadsProgram step reading old new → ReadsProgram step then_reading old other → GoesOnLoaded m reading next result → GoesOnLoaded m then_reading next second → OneLoad result second new other
+module _ (m : Inner) (asker : Asker) (old : Files) (terms p : ℕ) (result second : CallResult) (new other : Files)
+    (none : NoDriveFailed old.drives new.drives) (none_too : NoDriveFailed old.drives other.drives) where
+  loads-one : (step : Step ProgramFile) (next : ProgramFile → Loaded → CallResult) (reading then_reading : Result
+      ProgramFile ℕ) → ReadsProgram step reading old new → ReadsProgram step then_reading old other
+      → GoesOnLoaded m reading next result → GoesOnLoaded m then_reading next second → OneLoad result second new other
   loads-one step next reading then_reading reads reads_too goes goes_too =
       let one = reads-so step old reading new reads none in
       let two = reads-so step old then_reading other reads_too none_too in
@@ -75,7 +80,10 @@ module _ (m : Inner) (asker : Asker) (old : Files) (terms p : ℕ) (result secon
   load-one one two =
       loads-one (program_file asker old terms (λ step. step)) (links_first m p) one.reading two.reading one.reads two.reads one.comes two.comes
 
-  starts-one : (start : Inner → ℕ → Program → CallResult) (named : CallResult) (entered : Option Entered) → MatchOption entered (StartsFile start m asker old terms p result new) (λ entered. (result ≡ named) × (new ≡ old)) → MatchOption entered (StartsFile start m asker old terms p second other) (λ entered. (second ≡ named) × (other ≡ old)) → OneLoad result second new other
+  starts-one : (start : Inner → ℕ → Program → CallResult) (named : CallResult) (entered : Option Entered)
+      → MatchOption entered (StartsFile start m asker old terms p result new) (λ entered. (result ≡ named) ×
+      (new ≡ old)) → MatchOption entered (StartsFile start m asker old terms p second other)
+      (λ entered. (second ≡ named) × (other ≡ old)) → OneLoad result second new other
   starts-one start named None one two =
       loads-one (program_file asker old terms (tests_program m p)) (starts_first start m p) one.reading two.reading one.reads two.reads one.comes two.comes
   starts-one start named (Some entered) (is, same) (is_too, same_too) =

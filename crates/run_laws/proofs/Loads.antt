@@ -154,7 +154,8 @@ module _ (s : State) (keys : Keys) (tick : ℕ) (are_later : AreLater tick keys)
       let it : SameEventTo tick rests end t (with_keys s keys) = event-too tick rests s t (with_keys s keys) end start event in
       subst (λ (last : State). Event (with_keys s keys) end last) (loaded-too t it.last it.same) it.event
 
-  slice-loaded : (n : ℕ) (t : State) (states : List State) (end : SliceEnd) → s.inner.tick + 1 ≤ tick → Slice n s states end t → Slice n (with_keys s keys) (each_with keys states) end (with_keys t keys)
+  slice-loaded : (n : ℕ) (t : State) (states : List State) (end : SliceEnd) → s.inner.tick + 1 ≤ tick
+      → Slice n s states end t → Slice n (with_keys s keys) (each_with keys states) end (with_keys t keys)
   slice-loaded n t states end below slice =
       let it : SameSliceTo tick rests n states end t (with_keys s keys) = slice-too tick rests n s t (with_keys s keys) states end below start slice in
       subst (λ (last : State). Slice n (with_keys s keys) (each_with keys states) end last) (loaded-too t it.last it.same)
@@ -176,8 +177,11 @@ module _ (s : State) (keys : Keys) (tick : ℕ) (are_later : AreLater tick keys)
 pub event-with : (tick : ℕ) (s t : State) (end : EventEnd) (keys : Keys) → AreLater tick keys → Event s end t → Event (with_keys s keys) end (with_keys t keys)
 event-with tick s t end keys later event = event-loaded s keys tick later t end event
 
-pub slice-with : (n : ℕ) (s t : State) (states : List State) (end : SliceEnd) (keys : Keys) → AreLater (s.inner.tick + 1) keys → Slice n s states end t → Slice n (with_keys s keys) (each_with keys states) end (with_keys t keys)
+pub slice-with : (n : ℕ) (s t : State) (states : List State) (end : SliceEnd) (keys : Keys)
+    → AreLater (s.inner.tick + 1) keys → Slice n s states end t → Slice n (with_keys s keys) (each_with keys states)
+    end (with_keys t keys)
 slice-with n s t states end keys later slice = slice-loaded s keys (s.inner.tick + 1) later n t states end (omega arith) slice
 
-pub begins-with : (n : ℕ) (s t : State) (states : List State) (keys : Keys) → AreLater (s.inner.tick + 1) keys → BeginsSlice n s states t → BeginsSlice n (with_keys s keys) (each_with keys states) (with_keys t keys)
+pub begins-with : (n : ℕ) (s t : State) (states : List State) (keys : Keys) → AreLater (s.inner.tick + 1) keys
+    → BeginsSlice n s states t → BeginsSlice n (with_keys s keys) (each_with keys states) (with_keys t keys)
 begins-with n s t states keys later begins = begins-loaded s keys (s.inner.tick + 1) later n t states (omega arith) begins

@@ -60,11 +60,17 @@ module _ (s : State) (p : ℕ) (can : CanGo s) (now : TimePacket) where
 
   serves-mounted : (service : Service) (result : CallResult) (rest : Rest) → Serves service s now p result rest → AreMounted rest.files
   serves-mounted loads result rest (files, it, is) =
-      by-rest rest _ is (mounted-same s.files files (load-leaves s.inner (asker_of s.inner p now) s.files (length s.terms) p result files it).volumes (load-many s.inner (asker_of s.inner p now) s.files (length s.terms) p result files it).drives can.mounted)
+      by-rest rest _ is (mounted-same s.files files (load-leaves s.inner (asker_of s.inner p now) s.files
+      (length s.terms) p result files it).volumes (load-many s.inner (asker_of s.inner p now) s.files
+      (length s.terms) p result files it).drives can.mounted)
   serves-mounted (on_processes Call.Fork) result rest (files, it, is) =
-      by-rest rest _ is (after-fork files p (mounted-same s.files files (fork-leaves s.inner (asker_of s.inner p now) s.files (length s.terms) p result files it).volumes (fork-many s.inner (asker_of s.inner p now) s.files (length s.terms) p result files it).drives can.mounted) result)
+      by-rest rest _ is (after-fork files p (mounted-same s.files files (fork-leaves s.inner (asker_of s.inner p now)
+      s.files (length s.terms) p result files it).volumes (fork-many s.inner (asker_of s.inner p now) s.files
+      (length s.terms) p result files it).drives can.mounted) result)
   serves-mounted (on_processes Call.Chain) result rest (files, it, is) =
-      by-rest rest _ is (mounted-same s.files files (chain-leaves s.inner (asker_of s.inner p now) s.files (length s.terms) p result files it).volumes (chain-many s.inner (asker_of s.inner p now) s.files (length s.terms) p result files it).drives can.mounted)
+      by-rest rest _ is (mounted-same s.files files (chain-leaves s.inner (asker_of s.inner p now) s.files
+      (length s.terms) p result files it).volumes (chain-many s.inner (asker_of s.inner p now) s.files
+      (length s.terms) p result files it).drives can.mounted)
   serves-mounted (on_processes call) result rest it = by-rest rest _ it.1 (after-call s.files p can.mounted result)
   serves-mounted (on_time call) result rest (clock, it, is) = by-rest rest _ is can.mounted
   serves-mounted (on_paths call) result rest (it, same) =

@@ -55,13 +55,15 @@ bare-never s bare m reached = never-chooses m (reached-bare s m reached bare)
 none-first : (a b c : State) → OnlyGain a b → OnlyGain b c → NoneFailed a c → NoneFailed a b
 none-first a b c one two none = record {
   terminals = first-none a.terms b.terms c.terms one.terminals two.terminals none.terminals;
-  drives = λ drive rose. none.drives drive (rose-later _ (drive_at a.files.drives drive).faults (drive_at b.files.drives drive).faults (drive_at c.files.drives drive).faults rose (two.drives.faults drive));
+  drives = λ drive rose. none.drives drive (rose-later _ (drive_at a.files.drives drive).faults
+      (drive_at b.files.drives drive).faults (drive_at c.files.drives drive).faults rose (two.drives.faults drive));
 }
 
 none-then : (a b c : State) → OnlyGain a b → OnlyGain b c → NoneFailed a c → NoneFailed b c
 none-then a b c one two none = record {
   terminals = then-none a.terms b.terms c.terms one.terminals two.terminals none.terminals;
-  drives = λ drive rose. none.drives drive (rose-before _ (drive_at a.files.drives drive).faults (drive_at b.files.drives drive).faults (drive_at c.files.drives drive).faults (one.drives.faults drive) rose);
+  drives = λ drive rose. none.drives drive (rose-before _ (drive_at a.files.drives drive).faults
+      (drive_at b.files.drives drive).faults (drive_at c.files.drives drive).faults (one.drives.faults drive) rose);
 }
 
 gain-self : (s t : State) → t ≡ s → OnlyGain s t
@@ -105,21 +107,29 @@ event-single s t u end other bare one two none none_too = by_one (event-one s t 
     by_one (inl choose) = absurd (bare s here choose.choice)
     by_one (inr same) = same
 
-steps-one : (left : ℕ) (s : State) (states others : List State) (t u : State) → NeverChooses s → Steps left s states t → Steps left s others u → NoneFailed s t → NoneFailed s u → SameSteps states others t u
+steps-one : (left : ℕ) (s : State) (states others : List State) (t u : State) → NeverChooses s → Steps left s states t
+    → Steps left s others u → NoneFailed s t → NoneFailed s u → SameSteps states others t u
 steps-one left s [] [] t u bare (over, is) (over_too, is_too) none none_too = record { through = refl; last = is ∙ sym is_too }
 steps-one left s [] (n ∷ ns) t u bare (over, is) (some, end, event, steps) none none_too = absurd (omega arith)
 steps-one left s (m ∷ ms) [] t u bare (some, end, event, steps) (over, is) none none_too = absurd (omega arith)
 steps-one left s (m ∷ ms) (n ∷ ns) t u bare (some, end, event, steps) (some_too, other, event_too, steps_too) none none_too =
     let gained = gain-after (left - cost s) (is_going end) m ms t steps in
     let gained_too = gain-after (left - cost s) (is_going other) n ns u steps_too in
-    let one : SameEvent end m other n = event-single s m n end other bare event event_too (none-first s m t (event-gains s m end event) gained none) (none-first s n u (event-gains s n other event_too) gained_too none_too) in
-    let after : After (left - cost s) (is_going end) m ns u = subst (λ m. After (left - cost s) (is_going end) m ns u) (sym one.last) (subst (λ end. After (left - cost s) (is_going end) n ns u) (sym one.ends) steps_too) in
+    let one : SameEvent end m other n = event-single s m n end other bare event event_too
+    (none-first s m t (event-gains s m end event) gained none) (none-first s n u (event-gains s n other event_too)
+    gained_too none_too) in
+    let after : After (left - cost s) (is_going end) m ns u = subst (λ m. After (left - cost s) (is_going end) m ns u)
+    (sym one.last) (subst (λ end. After (left - cost s) (is_going end) n ns u) (sym one.ends) steps_too) in
     let later : NoneFailed m t = none-then s m t (event-gains s m end event) gained none in
     let later_too : NoneFailed n u = none-then s n u (event-gains s n other event_too) gained_too none_too in
-    let rest : SameSteps ms ns t u = by_going (left - cost s) m ms ns t u (is_going end) (steps-one (left - cost s) m ms ns t u (keeps-event s m end event bare)) steps after later (subst (λ (m : State). NoneFailed m u) (sym one.last) later_too) in
+    let rest : SameSteps ms ns t u = by_going (left - cost s) m ms ns t u (is_going end) (steps-one (left - cost s) m
+    ms ns t u (keeps-event s m end event bare)) steps after later (subst (λ (m : State). NoneFailed m u)
+    (sym one.last) later_too) in
     record { through = λ i. one.last i ∷ rest.through i; last = rest.last }
   where
-    by_going : (left : ℕ) (m : State) (ms ns : List State) (t u : State) (going : Bool) → (Steps left m ms t → Steps left m ns u → NoneFailed m t → NoneFailed m u → SameSteps ms ns t u) → After left going m ms t → After left going m ns u → NoneFailed m t → NoneFailed m u → SameSteps ms ns t u
+    by_going : (left : ℕ) (m : State) (ms ns : List State) (t u : State) (going : Bool)
+        → (Steps left m ms t → Steps left m ns u → NoneFailed m t → NoneFailed m u → SameSteps ms ns t u)
+        → After left going m ms t → After left going m ns u → NoneFailed m t → NoneFailed m u → SameSteps ms ns t u
     by_going left m ms ns t u true others one two none none_too = others one two none none_too
     by_going left m ms ns t u false others (over, is) (over_too, is_too) none none_too = record { through = over ∙ sym over_too; last = is ∙ sym is_too }
 
@@ -159,7 +169,9 @@ begun-slice n s states end t (ticked, chosen, ticks, chooses, rest) = record {
   rest = subst (λ (chosen : State). Begun n chosen chosen.chosen states end t) chooses rest;
 }
 
-begun-one : (n : ℕ) (chosen : State) (who : Option ℕ) (states others : List State) (end other : SliceEnd) (t u : State) → NeverChooses chosen → Begun n chosen who states end t → Begun n chosen who others other u → NoneFailed chosen t → NoneFailed chosen u → SameSlice states end t others other u
+begun-one : (n : ℕ) (chosen : State) (who : Option ℕ) (states others : List State) (end other : SliceEnd)
+    (t u : State) → NeverChooses chosen → Begun n chosen who states end t → Begun n chosen who others other u
+    → NoneFailed chosen t → NoneFailed chosen u → SameSlice states end t others other u
 begun-one n chosen None states others end other t u bare (ends, over, is) (ends_too, over_too, is_too) none none_too =
     record { through = over ∙ sym over_too; ends = ends ∙ sym ends_too; last = is ∙ sym is_too }
 begun-one n chosen (Some p) states others end other t u bare (ends, steps) (ends_too, steps_too) none none_too =
@@ -186,7 +198,9 @@ bare-slice n s t states end slice bare =
     let one : BegunSlice n s states end t = begun-slice n s states end t slice in
     bare-begun n (begun one.ticked) states end t (begun one.ticked).chosen one.rest (keeps-choice one.ticked (begun one.ticked) refl (keeps-tick s one.ticked one.ticks bare))
 
-pub slice-one : (n : ℕ) (s t u : State) (states others : List State) (end other : SliceEnd) → NeverChooses s → Slice n s states end t → Slice n s others other u → NoneFailed s t → NoneFailed s u → SameSlice states end t others other u
+pub slice-one : (n : ℕ) (s t u : State) (states others : List State) (end other : SliceEnd) → NeverChooses s
+    → Slice n s states end t → Slice n s others other u → NoneFailed s t → NoneFailed s u → SameSlice states end t
+    others other u
 slice-one n s t u states others end other bare slice second none none_too =
     let one : BegunSlice n s states end t = begun-slice n s states end t slice in
     let two : BegunSlice n s others other u = begun-slice n s others other u second in
@@ -238,14 +252,21 @@ module _ {n : ℕ} {ns : List ℕ} {s : State} {states : List State} {written : 
 -- two runs over the same slices are one where the rest of them is
 abbrev RunsOne : List ℕ → Type 0
 RunsOne ns =
-    (written bytes : List ℕ) (s t u : State) (states others : List State) → NeverChooses s → Run ns s states written t → Run ns s others bytes u → NoneFailed s t → NoneFailed s u → SameRun states written t others bytes u
+    (written bytes : List ℕ) (s t u : State) (states others : List State) → NeverChooses s → Run ns s states written t
+    → Run ns s others bytes u → NoneFailed s t → NoneFailed s u → SameRun states written t others bytes u
 
-goes-one : (n : ℕ) (ns : List ℕ) (s : State) (states others : List State) (written bytes : List ℕ) (t u : State) → RunsOne ns → NeverChooses s → (one : Goes n ns s states written t) → (other : Goes n ns s others bytes u) → NoneFailed s t → NoneFailed s u → SameRun states written t others bytes u
+goes-one : (n : ℕ) (ns : List ℕ) (s : State) (states others : List State) (written bytes : List ℕ) (t u : State)
+    → RunsOne ns → NeverChooses s → (one : Goes n ns s states written t) → (other : Goes n ns s others bytes u)
+    → NoneFailed s t → NoneFailed s u → SameRun states written t others bytes u
 goes-one n ns s states others written bytes t u runs bare one other none none_too =
-    let slices : SameSlice one.first one.end one.m other.first other.end other.m = slice-one n s one.m other.m one.first other.first one.end other.end bare one.slice other.slice (none-slice one none) (none-slice other none_too) in
+    let slices : SameSlice one.first one.end one.m other.first other.end other.m = slice-one n s one.m other.m
+    one.first other.first one.end other.end bare one.slice other.slice (none-slice one none)
+    (none-slice other none_too) in
     let after : Run ns (emptied one.m) other.later other.rest u = subst (λ m. Run ns (emptied m) other.later other.rest u) (sym slices.last) other.after in
     let later : NoneFailed (emptied one.m) u = subst (λ m. NoneFailed (emptied m) u) (sym slices.last) (none-later other none_too) in
-    let rest : SameRun one.later one.rest t other.later other.rest u = runs one.rest other.rest (emptied one.m) t u one.later other.later (keeps-emptied one.m (bare-slice n s one.m one.first one.end one.slice bare)) one.after after (none-later one none) later in
+    let rest : SameRun one.later one.rest t other.later other.rest u = runs one.rest other.rest (emptied one.m) t u
+    one.later other.later (keeps-emptied one.m (bare-slice n s one.m one.first one.end one.slice bare)) one.after
+    after (none-later one none) later in
     record {
       through = one.states_are ∙ (λ i. slices.through i ++ rest.through i) ∙ sym other.states_are;
       writes = one.written_is ∙ (λ i. console_bytes (slices.last i).terms ++ rest.writes i) ∙ sym other.written_is;
@@ -261,16 +282,21 @@ Begins living n ns s states written t =
     × Run ns (record m { terms = terminals_emptied m.terms }) later rest t)
     ((states ≡ []) × (written ≡ []) × (t ≡ s))
 
-begins-one : (living : Bool) (n : ℕ) (ns : List ℕ) (s : State) (states others : List State) (written bytes : List ℕ) (t u : State) → RunsOne ns → NeverChooses s → Begins living n ns s states written t → Begins living n ns s others bytes u → NoneFailed s t → NoneFailed s u → SameRun states written t others bytes u
+begins-one : (living : Bool) (n : ℕ) (ns : List ℕ) (s : State) (states others : List State) (written bytes : List ℕ)
+    (t u : State) → RunsOne ns → NeverChooses s → Begins living n ns s states written t → Begins living n ns s others
+    bytes u → NoneFailed s t → NoneFailed s u → SameRun states written t others bytes u
 begins-one false n ns s states others written bytes t u runs bare (none, nothing, is) (none_too, nothing_too, is_too) ok ok_too =
     record { through = none ∙ sym none_too; writes = nothing ∙ sym nothing_too; last = is ∙ sym is_too }
-begins-one true n ns s states others written bytes t u runs bare (end, m, first, later, rest, slice, all, put, after) (end_too, m_too, first_too, later_too, rest_too, slice_too, all_too, put_too, after_too) none none_too =
+begins-one true n ns s states others written bytes t u runs bare (end, m, first, later, rest, slice, all, put, after)
+    (end_too, m_too, first_too, later_too, rest_too, slice_too, all_too, put_too, after_too) none none_too =
     goes-one n ns s states others written bytes t u runs bare
     (record { end = end; m = m; first = first; later = later; rest = rest; slice = slice; states_are = all; written_is = put; after = after })
     (record { end = end_too; m = m_too; first = first_too; later = later_too; rest = rest_too; slice = slice_too; states_are = all_too; written_is = put_too; after = after_too })
     none none_too
 
-pub run-one : (slices written bytes : List ℕ) (s t u : State) (states others : List State) → NeverChooses s → Run slices s states written t → Run slices s others bytes u → NoneFailed s t → NoneFailed s u → SameRun states written t others bytes u
+pub run-one : (slices written bytes : List ℕ) (s t u : State) (states others : List State) → NeverChooses s
+    → Run slices s states written t → Run slices s others bytes u → NoneFailed s t → NoneFailed s u
+    → SameRun states written t others bytes u
 run-one [] written bytes s t u states others bare (none, nothing, is) (none_too, nothing_too, is_too) ok ok_too =
     record { through = none ∙ sym none_too; writes = nothing ∙ sym nothing_too; last = is ∙ sym is_too }
 run-one (n ∷ ns) written bytes s t u states others bare one other none none_too =

@@ -33,8 +33,12 @@ pub sessions-same : (turns others : List Turn) (s t u : State) (states through :
 sessions-same turns others s t u states through written bytes scripts slices never none none_too session session_too =
     let one : IsRunOf turns s states written t = session-runs turns s states written t session in
     let two : IsRunOf others s through bytes u = session-runs others s through bytes u session_too in
-    let moved : Run (counts others) (with_keys s (script turns)) two.through bytes two.last = subst (λ (keys : Keys). Run (counts others) (with_keys s keys) two.through bytes two.last) (sym scripts) two.run in
-    let run : Run (counts turns) (with_keys s (script turns)) two.through bytes two.last = subst (λ (slices : List ℕ). Run slices (with_keys s (script turns)) two.through bytes two.last) (sym slices) moved in
-    let same : SameRun one.through written one.last two.through bytes two.last = run-one (counts turns) written bytes (with_keys s (script turns)) one.last two.last one.through two.through never one.run run
+    let moved : Run (counts others) (with_keys s (script turns)) two.through bytes two.last = subst
+    (λ (keys : Keys). Run (counts others) (with_keys s keys) two.through bytes two.last) (sym scripts) two.run in
+    let run : Run (counts turns) (with_keys s (script turns)) two.through bytes two.last = subst
+    (λ (slices : List ℕ). Run slices (with_keys s (script turns)) two.through bytes two.last) (sym slices) moved
+    in
+    let same : SameRun one.through written one.last two.through bytes two.last = run-one (counts turns) written bytes
+    (with_keys s (script turns)) one.last two.last one.through two.through never one.run run
     (none-failed s t one.last (script turns) one.same.left one.same.is none) (none-failed s u two.last (script turns) two.same.left two.same.is none_too) in
     same.writes

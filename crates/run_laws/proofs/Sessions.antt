@@ -131,7 +131,9 @@ abbrev SessionsRun : List Turn → Type 0
 SessionsRun turns =
     (s : State) (states : List State) (written : List ℕ) (t : State) → Session turns s states written t → IsRunOf turns s states written t
 
-goes-on : (living : Bool) (turn : Turn) (turns : List Turn) (s : State) (states : List State) (written : List ℕ) (t : State) → SessionsRun turns → Goes living turn turns s states written t → GoesOn living turn turns (with_keys s (script (turn ∷ turns))) states written t
+goes-on : (living : Bool) (turn : Turn) (turns : List Turn) (s : State) (states : List State) (written : List ℕ)
+    (t : State) → SessionsRun turns → Goes living turn turns s states written t → GoesOn living turn turns
+    (with_keys s (script (turn ∷ turns))) states written t
 goes-on false turn turns s states written t others (none, nothing, is) = record {
   through = [];
   last = with_keys s (script (turn ∷ turns));
@@ -145,19 +147,36 @@ goes-on true turn turns s states written t others (are_later, end, m, first, lat
     let tick : ℕ = s.inner.tick + 1 in
     let full_is : with_keys now (script turns) ≡ full = ap (λ (terms : List TerminalState). record s { terms = terms }) (sym (load-then s.terms turn.load (script turns))) in
     let start : SameTo tick (rests_of now.terms (script turns)) now (with_keys now (script turns)) = record { terms = to-same tick now.terms (script turns) are_later; rest = refl } in
-    let too : SameSliceTo tick (rests_of now.terms (script turns)) turn.count first end m full = slice-too tick (rests_of now.terms (script turns)) turn.count now m full first end (omega arith) (subst (SameTo tick (rests_of now.terms (script turns)) now) full_is start) slice in
+    let too : SameSliceTo tick (rests_of now.terms (script turns)) turn.count first end m full = slice-too tick
+    (rests_of now.terms (script turns)) turn.count now m full first end (omega arith)
+    (subst (SameTo tick (rests_of now.terms (script turns)) now) full_is start) slice in
     let middle : too.last ≡ with_keys m (script turns) = recorded tick now.terms (script turns) m too.last too.same in
     let m_after : State = record m { terms = terminals_emptied m.terms } in
     let it : IsRunOf turns m_after later rest t = others m_after later rest t after in
-    let emptied : record too.last { terms = terminals_emptied too.last.terms } ≡ with_keys m_after (script turns) = ap (λ (u : State). record u { terms = terminals_emptied u.terms }) middle ∙ ap (λ (terms : List TerminalState). record m { terms = terms }) (load-emptied m.terms (script turns)) in
+    let emptied : record too.last { terms = terminals_emptied too.last.terms } ≡ with_keys m_after (script turns) = ap
+    (λ (u : State). record u { terms = terminals_emptied u.terms }) middle ∙ ap (λ (terms : List TerminalState).
+    record m { terms = terms }) (load-emptied m.terms (script turns)) in
     let bytes : console_bytes m.terms ≡ console_bytes too.last.terms = sym (ap (λ (u : State). console_bytes u.terms) middle ∙ load-bytes m.terms (script turns)) in
     record {
       through = too.through ++ it.through;
       last = it.last;
-      run =
-          (end, too.last, too.through, it.through, rest, too.slice, refl, written_is ∙ ap (λ (bytes : List ℕ). bytes ++ rest) bytes, subst (λ (u : State). Run (counts turns) u it.through rest it.last) (sym emptied) it.run);
+      run = (
+        end,
+        too.last,
+        too.through,
+        it.through,
+        rest,
+        too.slice,
+        refl,
+        written_is ∙ ap
+            (λ (bytes : List ℕ). bytes ++ rest) bytes,
+        subst (λ (u : State). Run (counts turns) u it.through rest
+            it.last) (sym emptied) it.run,
+      );
       all =
-          subst (λ (states : List State). AllZip IsRecorded states (too.through ++ it.through)) (sym states_are) (zip-append first too.through later it.through (all-recorded tick now.terms (script turns) first too.through too.all) it.all);
+          subst (λ (states : List State). AllZip IsRecorded states (too.through ++ it.through)) (sym states_are)
+          (zip-append first too.through later it.through (all-recorded tick now.terms (script turns) first
+          too.through too.all) it.all);
       same = it.same;
     }
 

@@ -69,7 +69,8 @@ module _ (request : Reading) (t : Terminal) (before : TerminalState) where
   abbrev read-given : TerminalState
   read-given = given before (read_attempt request t).echo
 
-  reads-so : (answer : Progress) → IsPlain answer → (read_attempt request t).answer ≡ answer → Reads request answer t (read_attempt request t).terminal before (given before (read_attempt request t).echo)
+  reads-so : (answer : Progress) → IsPlain answer → (read_attempt request t).answer ≡ answer → Reads request answer t
+      (read_attempt request t).terminal before (given before (read_attempt request t).echo)
   reads-so (Progress.Done count) plain is = record {
     outcome = record { answer_is = sym is; terminal = refl; echo = refl };
     turn = λ wants. absurd (false≢true wants);

@@ -45,7 +45,9 @@ due-cut tick (key ∷ keys) = by_test (nat_le key.tick tick) refl (due-cut tick 
       in_order =
           ap (λ (keys : List Key). key ∷ keys) rest.in_order ∙ (λ i. (if sym is i then key ∷ due_front tick keys else []) ++ (if sym is i then due_rest tick keys else key ∷ keys));
       due =
-          subst (λ (test : Bool). All (λ (key : Key). key.tick ≤ tick) (if test then key ∷ due_front tick keys else [])) (sym is) (All-cons (λ (key : Key). key.tick ≤ tick) key (due_front tick keys) (leb-true key.tick tick is) rest.due);
+          subst (λ (test : Bool). All (λ (key : Key). key.tick ≤ tick) (if test then key ∷ due_front tick keys else
+          [])) (sym is) (All-cons (λ (key : Key). key.tick ≤ tick) key (due_front tick keys)
+          (leb-true key.tick tick is) rest.due);
       none =
           subst (λ (test : Bool). due_byte (if test then due_rest tick keys else key ∷ keys) tick ≡ None) (sym is) rest.none;
     }

@@ -17,11 +17,13 @@ none-there zero drive = refl
 none-there (suc n) zero = refl
 none-there (suc n) (suc drive) = none-there n drive
 
-starts-bare : (images : List (List ℕ)) (volumes : List DiskVolume) (drives : List DriveState) → images ≡ [] → AllZip Vol images volumes → (drive : ℕ) → volume_at (first_files volumes drives) drive ≡ None
+starts-bare : (images : List (List ℕ)) (volumes : List DiskVolume) (drives : List DriveState) → images ≡ []
+    → AllZip Vol images volumes → (drive : ℕ) → volume_at (first_files volumes drives) drive ≡ None
 starts-bare [] [] drives none all drive = none-there (length drives - 0) drive
 starts-bare [] (v ∷ volumes) drives none all drive = absurd all
 starts-bare (image ∷ images) volumes drives none all drive = cc
 
 pub start-bare : (boot : Boot) (s : State) → boot.images ≡ [] → Starts boot s → HasNoVolumes s
 start-bare boot s none starts =
-    subst HasNoVolumes (sym starts.is) (λ drive. ap (λ (files : Files). volume_at files drive) starts.mounted.is ∙ starts-bare boot.images starts.mounted.volumes boot.drives none starts.mounted.mounted drive)
+    subst HasNoVolumes (sym starts.is) (λ drive. ap (λ (files : Files). volume_at files drive) starts.mounted.is ∙
+    starts-bare boot.images starts.mounted.volumes boot.drives none starts.mounted.mounted drive)

@@ -93,7 +93,9 @@ record ReadOnce (request : Reading) (answer : Progress) (old new : Terminal) (be
   pub terminal : new ≡ (read_attempt request old).terminal
   pub driver : now ≡ given before (read_attempt request old).echo
 
-read-once : (request : Reading) (answer : Progress) (old new : Terminal) (before now : TerminalState) → (answer ≡ Progress.NoMemory → ⊥) → NotFailed before now → Reads request answer old new before now → ReadOnce request answer old new before now
+read-once : (request : Reading) (answer : Progress) (old new : Terminal) (before now : TerminalState)
+    → (answer ≡ Progress.NoMemory → ⊥) → NotFailed before now → Reads request answer old new before now
+    → ReadOnce request answer old new before now
 read-once request (Progress.Done count) old new before now memory calm it =
     record { answer_is = it.outcome.answer_is; terminal = it.outcome.terminal; driver = given-is before now (read_attempt request old).echo it.driver.keys it.outcome.echo it.driver.faults }
 read-once request Progress.Wait old new before now memory calm it =
@@ -115,15 +117,20 @@ module _ (caller : Caller) (io : Io) (before after others : List TerminalState) 
     pub found : slice_get before read.terminal ≡ Some old
     pub end : IoEnd
     pub ends : read_ends caller read (read_attempt (request_of caller read) (terminal_at io read.terminal)).answer ≡ Some end
-    pub effect_is : effect ≡ read_leaves caller io read (read_attempt (request_of caller read) (terminal_at io read.terminal)).answer (read_attempt (request_of caller read) (terminal_at io read.terminal)).terminal end
+    pub effect_is : effect ≡ read_leaves caller io read (read_attempt (request_of caller read)
+        (terminal_at io read.terminal)).answer (read_attempt (request_of caller read)
+        (terminal_at io read.terminal)).terminal end
     pub terms : then_terms ≡ slice_set before read.terminal (given old (read_attempt (request_of caller read) (terminal_at io read.terminal)).echo)
 
-  read-of : (read : TerminalRead) (effect : IoEffect) (then_terms : List TerminalState) → NoneOf before then_terms → ReadsTerminal caller io read effect before then_terms → ReadOf read effect then_terms
+  read-of : (read : TerminalRead) (effect : IoEffect) (then_terms : List TerminalState) → NoneOf before then_terms
+      → ReadsTerminal caller io read effect before then_terms → ReadOf read effect then_terms
   read-of read effect then_terms calm it =
       let old = it.device.0 in
       let new = it.device.1 in
       let not_failed : NotFailed old new = none-at before read.terminal old new it.device.2 (subst (NoneOf before) it.device.3 calm) in
-      let once : ReadOnce (request_of caller read) it.answer (terminal_at io read.terminal) it.new old new = read-once (request_of caller read) it.answer (terminal_at io read.terminal) it.new old new (λ wants. none-some it.end (sym (ap (read_ends caller read) wants) ∙ it.ends)) not_failed it.device.4 in
+      let once : ReadOnce (request_of caller read) it.answer (terminal_at io read.terminal) it.new old new = read-once
+      (request_of caller read) it.answer (terminal_at io read.terminal) it.new old new
+      (λ wants. none-some it.end (sym (ap (read_ends caller read) wants) ∙ it.ends)) not_failed it.device.4 in
       record {
         old = old;
         found = it.device.2;
@@ -142,7 +149,9 @@ module _ (caller : Caller) (io : Io) (before after others : List TerminalState) 
       let old : one.old ≡ two.old = same_Some one.old two.old (sym one.found ∙ two.found) in
       record {
         effects =
-            one.effect_is ∙ ap (read_leaves caller io read (read_attempt (request_of caller read) (terminal_at io read.terminal)).answer (read_attempt (request_of caller read) (terminal_at io read.terminal)).terminal) end ∙ sym two.effect_is;
+            one.effect_is ∙ ap (read_leaves caller io read (read_attempt (request_of caller read)
+            (terminal_at io read.terminal)).answer (read_attempt (request_of caller read)
+            (terminal_at io read.terminal)).terminal) end ∙ sym two.effect_is;
         terminals =
             one.terms ∙ ap (λ (old : TerminalState). slice_set before read.terminal (given old (read_attempt (request_of caller read) (terminal_at io read.terminal)).echo)) old ∙ sym two.terms;
       }
@@ -154,14 +163,17 @@ module _ (caller : Caller) (io : Io) (before after others : List TerminalState) 
     pub effect_is : effect ≡ leaves (answers write.regs) (with_terminal io write.terminal (used_by caller.process (terminal_at io write.terminal)))
     pub terms : then_terms ≡ slice_set before write.terminal (given old write.put)
 
-  write-of : (write : TerminalWrite) (effect : IoEffect) (then_terms : List TerminalState) → NoneOf before then_terms → WritesTerminal caller io write effect before then_terms → WriteOf write effect then_terms
+  write-of : (write : TerminalWrite) (effect : IoEffect) (then_terms : List TerminalState) → NoneOf before then_terms
+      → WritesTerminal caller io write effect before then_terms → WriteOf write effect then_terms
   write-of write effect then_terms calm it = by_answer it.answer it.ends it.device.4
     where
       not_failed : NotFailed it.device.0 it.device.1
       not_failed =
           none-at before write.terminal it.device.0 it.device.1 it.device.2 (subst (NoneOf before) it.device.3 calm)
 
-      by_answer : (answer : Progress) → write_ends write answer ≡ Some it.end → Writes caller.process write.put write.count answer (terminal_at io write.terminal) it.new it.device.0 it.device.1 → WriteOf write effect then_terms
+      by_answer : (answer : Progress) → write_ends write answer ≡ Some it.end → Writes caller.process write.put
+          write.count answer (terminal_at io write.terminal) it.new it.device.0 it.device.1 → WriteOf write effect
+          then_terms
       by_answer (Progress.Done count) ends it_writes = record {
         old = it.device.0;
         found = it.device.2;
@@ -174,7 +186,8 @@ module _ (caller : Caller) (io : Io) (before after others : List TerminalState) 
       by_answer Progress.Fault ends it_writes = absurd (not_failed it_writes.driver.faults)
       by_answer Progress.NoMemory ends it_writes = absurd (none-some it.end ends)
 
-  write-one : (write : TerminalWrite) (effect other : IoEffect) → WritesTerminal caller io write effect before after → WritesTerminal caller io write other before others → OneEffect effect other after others
+  write-one : (write : TerminalWrite) (effect other : IoEffect) → WritesTerminal caller io write effect before after
+      → WritesTerminal caller io write other before others → OneEffect effect other after others
   write-one write effect other first second =
       let one = write-of write effect after none first in
       let two = write-of write other others none_too second in
@@ -221,7 +234,9 @@ record OneCut (one two rest other : List Key) : Type 0 where
   pub taken : one ≡ two
   pub left : rest ≡ other
 
-cut-one : (tick : ℕ) (one two rest other : List Key) → one ++ rest ≡ two ++ other → All (λ (key : Key). key.tick ≤ tick) one → All (λ (key : Key). key.tick ≤ tick) two → due_byte rest tick ≡ None → due_byte other tick ≡ None → OneCut one two rest other
+cut-one : (tick : ℕ) (one two rest other : List Key) → one ++ rest ≡ two ++ other
+    → All (λ (key : Key). key.tick ≤ tick) one → All (λ (key : Key). key.tick ≤ tick) two → due_byte rest tick ≡ None
+    → due_byte other tick ≡ None → OneCut one two rest other
 cut-one tick [] [] rest other is due due_too none none_too = record { taken = refl; left = is }
 cut-one tick [] (y ∷ two) rest other is due due_too none none_too =
     absurd (due-not y (two ++ other) tick (All-head (λ (key : Key). key.tick ≤ tick) y two due_too) (sym (ap (λ (keys : List Key). due_byte keys tick) is) ∙ none))
@@ -230,7 +245,9 @@ cut-one tick (x ∷ one) [] rest other is due due_too none none_too =
 cut-one tick (x ∷ one) (y ∷ two) rest other is due due_too none none_too =
     let first : x ≡ y = cc in
     let after : one ++ rest ≡ two ++ other = cc in
-    let cut : OneCut one two rest other = cut-one tick one two rest other after (All-tail (λ (key : Key). key.tick ≤ tick) x one due) (All-tail (λ (key : Key). key.tick ≤ tick) y two due_too) none none_too in
+    let cut : OneCut one two rest other = cut-one tick one two rest other after
+    (All-tail (λ (key : Key). key.tick ≤ tick) x one due) (All-tail (λ (key : Key). key.tick ≤ tick) y two
+    due_too) none none_too in
     record { taken = λ i. first i ∷ cut.taken i; left = cut.left }
 
 -- a poll of a terminal that does not fail is one
@@ -239,14 +256,18 @@ record OnePoll (new other : Terminal) (now then_state : TerminalState) (answer s
   pub driver : now ≡ then_state
   pub signal : answer.signal ≡ second.signal
 
-module _ (tick : ℕ) (old new other : Terminal) (before now then_state : TerminalState) (answer second : Arrival) (memory : answer.memory ≡ true) (memory_too : second.memory ≡ true) (not_failed : NotFailed before now) (not_failed_too : NotFailed before then_state) where
+module _ (tick : ℕ) (old new other : Terminal) (before now then_state : TerminalState) (answer second : Arrival)
+    (memory : answer.memory ≡ true) (memory_too : second.memory ≡ true) (not_failed : NotFailed before now)
+    (not_failed_too : NotFailed before then_state) where
   poll-one : Arrives tick old new before now answer → Arrives tick old other before then_state second → OnePoll new other now then_state answer second
   poll-one one two =
       let none : one.mute + one.broken ≡ 0 = calm (one.mute + one.broken) before.faults now.faults one.faults not_failed in
       let none_too : two.mute + two.broken ≡ 0 = calm (two.mute + two.broken) before.faults then_state.faults two.faults not_failed_too in
       let whole : one.broken ≡ 0 = second-zero one.mute one.broken none in
       let whole_too : two.broken ≡ 0 = second-zero two.mute two.broken none_too in
-      let cut : OneCut one.taken two.taken now.keys then_state.keys = cut-one tick one.taken two.taken now.keys then_state.keys (sym one.in_order ∙ two.in_order) one.due two.due (one.all_taken memory whole) (two.all_taken memory_too whole_too) in
+      let cut : OneCut one.taken two.taken now.keys then_state.keys = cut-one tick one.taken two.taken now.keys
+      then_state.keys (sym one.in_order ∙ two.in_order) one.due two.due (one.all_taken memory whole)
+      (two.all_taken memory_too whole_too) in
       let rings : one.bells ≡ dropped_count old.ahead (key_bytes one.taken) = bells-all one.bells one.mute one.broken _ none (one.every_bell memory) in
       let rings_too : two.bells ≡ dropped_count old.ahead (key_bytes two.taken) = bells-all two.bells two.mute two.broken _ none_too (two.every_bell memory_too) in
       let bells : one.bells ≡ two.bells = rings ∙ ap (λ (keys : List Key). dropped_count old.ahead (key_bytes keys)) cut.taken ∙ sym rings_too in
@@ -272,7 +293,12 @@ arrival-one tick n old new other one two none none_too =
     let before : one.device.0 ≡ two.device.0 = same_Some one.device.0 two.device.0 (sym one.device.2 ∙ two.device.2) in
     let not_failed : NotFailed one.device.0 one.device.1 = none-at old.terms n one.device.0 one.device.1 one.device.2 (subst (NoneOf old.terms) one.device.3 none) in
     let not_failed_too : NotFailed two.device.0 two.device.1 = none-at old.terms n two.device.0 two.device.1 two.device.2 (subst (NoneOf old.terms) two.device.3 none_too) in
-    let poll : OnePoll one.terminal two.terminal one.device.1 two.device.1 one.answer two.answer = poll-one tick (terminal_at old.io n) one.terminal two.terminal one.device.0 one.device.1 two.device.1 one.answer two.answer one.memory two.memory not_failed (subst (λ (before : TerminalState). NotFailed before two.device.1) (sym before) not_failed_too) one.device.4 (subst (λ (before : TerminalState). Arrives tick (terminal_at old.io n) two.terminal before two.device.1 two.answer) (sym before) two.device.4) in
+    let poll : OnePoll one.terminal two.terminal one.device.1 two.device.1 one.answer two.answer = poll-one tick
+    (terminal_at old.io n) one.terminal two.terminal one.device.0 one.device.1 two.device.1 one.answer two.answer
+    one.memory two.memory not_failed (subst (λ (before : TerminalState). NotFailed before two.device.1)
+    (sym before) not_failed_too) one.device.4
+    (subst (λ (before : TerminalState). Arrives tick (terminal_at old.io n) two.terminal before two.device.1
+    two.answer) (sym before) two.device.4) in
     λ i. record {
       inner =
           (one.signal ∙ (λ j. after_key_signal old.inner (poll.terminal j).user (poll.signal j)) ∙ sym two.signal) i;
@@ -280,14 +306,17 @@ arrival-one tick n old new other one two none none_too =
       terms = (one.device.3 ∙ ap (slice_set old.terms n) poll.driver ∙ sym two.device.3) i;
     }
 
-pub arrivals-one : (tick n count : ℕ) (old new other : Desk) → ArrivesFrom tick n count old new → ArrivesFrom tick n count old other → NoneOf old.terms new.terms → NoneOf old.terms other.terms → new ≡ other
+pub arrivals-one : (tick n count : ℕ) (old new other : Desk) → ArrivesFrom tick n count old new → ArrivesFrom tick n
+    count old other → NoneOf old.terms new.terms → NoneOf old.terms other.terms → new ≡ other
 arrivals-one tick n zero old new other is is_too none none_too = is ∙ sym is_too
 arrivals-one tick n (suc count) old new other (between, here, later) (second, here_too, later_too) none none_too =
     let gained = gain-arrival tick n old between here in
     let gained_too = gain-arrival tick n old second here_too in
     let after = gain-arrivals tick (n + 1) count between new later in
     let after_too = gain-arrivals tick (n + 1) count second other later_too in
-    let same : between ≡ second = arrival-one tick n old between second here here_too (first-none old.terms between.terms new.terms gained after none) (first-none old.terms second.terms other.terms gained_too after_too none_too) in
+    let same : between ≡ second = arrival-one tick n old between second here here_too
+    (first-none old.terms between.terms new.terms gained after none) (first-none old.terms second.terms
+    other.terms gained_too after_too none_too) in
     arrivals-one tick (n + 1) count between new other later
     (subst (λ (desk : Desk). ArrivesFrom tick (n + 1) count desk other) (sym same) later_too)
     (then-none old.terms between.terms new.terms gained after none)

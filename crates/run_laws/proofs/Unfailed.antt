@@ -10,5 +10,6 @@ pub unfailed : (s t : State) → SameCounts s t → NoDriveChanged s.files.drive
 unfailed s t same drives rise = record {
   terminals = none-of s.terms t.terms same rise.terminals;
   drives =
-      λ drive rose. stays-none _ (drive_at s.files.drives drive).faults (drive_at t.files.drives drive).faults (rise.drives drive) (ap (λ (drives : List DriveState). (drive_at drives drive).faults) drives) rose;
+      λ drive rose. stays-none _ (drive_at s.files.drives drive).faults (drive_at t.files.drives drive).faults
+      (rise.drives drive) (ap (λ (drives : List DriveState). (drive_at drives drive).faults) drives) rose;
 }

@@ -26,7 +26,10 @@ keys_left tick term [] = []
 keys_left tick term (word ∷ words) =
     option_map_or (λ byte. key_at tick term byte ∷ []) (byte_of word) [] ++ keys_left tick term words
 
-key-word : (tick term : ℕ) (first : Option ℕ) (others : Option (List ℕ)) (left : List ScriptKey) (bytes : List ℕ) → ((bs : List ℕ) → others ≡ Some bs → left ≡ map (key_at tick term) bs) → option_and_then (λ f. option_map (λ r. f ++ r) others) (option_map (λ b. b ∷ []) first) ≡ Some bytes → option_map_or (λ b. key_at tick term b ∷ []) first [] ++ left ≡ map (key_at tick term) bytes
+key-word : (tick term : ℕ) (first : Option ℕ) (others : Option (List ℕ)) (left : List ScriptKey) (bytes : List ℕ)
+    → ((bs : List ℕ) → others ≡ Some bs → left ≡ map (key_at tick term) bs)
+    → option_and_then (λ f. option_map (λ r. f ++ r) others) (option_map (λ b. b ∷ []) first) ≡ Some bytes
+    → option_map_or (λ b. key_at tick term b ∷ []) first [] ++ left ≡ map (key_at tick term) bytes
 key-word tick term None others left bytes same is = absurd (cc)
 key-word tick term (Some first) None left bytes same is = absurd (cc)
 key-word tick term (Some first) (Some others) left bytes same is =
@@ -39,12 +42,16 @@ keys_left-all tick term [] bytes is = let none : [] ≡ bytes = cc in rw (← no
 keys_left-all tick term (word ∷ words) bytes is =
     key-word tick term (byte_of word) (bytes_of words) (keys_left tick term words) bytes (keys_left-all tick term words) is
 
-if-keys : (tick term : ℕ) (words : List (List ℕ)) (now old : List ScriptKey) (bytes : Option (List ℕ)) → bytes_of words ≡ bytes → now ≡ old ++ keys_left tick term words → IfSome bytes (λ bs. now ≡ old ++ map (key_at tick term) bs)
+if-keys : (tick term : ℕ) (words : List (List ℕ)) (now old : List ScriptKey) (bytes : Option (List ℕ))
+    → bytes_of words ≡ bytes → now ≡ old ++ keys_left tick term words
+    → IfSome bytes (λ bs. now ≡ old ++ map (key_at tick term) bs)
 if-keys tick term words now old None is are = tt
 if-keys tick term words now old (Some bytes) is are =
     are ∙ ap (λ ks. old ++ ks) (keys_left-all tick term words bytes is)
 
-pub keys_pushed : (tick term : ℕ) (words left : List (List ℕ)) (now old : List ScriptKey) → left ≡ [] → now ++ keys_left tick term left ≡ old ++ keys_left tick term words → IfSome (bytes_of words) (λ bs. now ≡ old ++ map (key_at tick term) bs)
+pub keys_pushed : (tick term : ℕ) (words left : List (List ℕ)) (now old : List ScriptKey) → left ≡ []
+    → now ++ keys_left tick term left ≡ old ++ keys_left tick term words → IfSome (bytes_of words)
+    (λ bs. now ≡ old ++ map (key_at tick term) bs)
 keys_pushed tick term words left now old none same =
     if-keys tick term words now old (bytes_of words) refl
     (sym (append-nil now) ∙ ap (λ ks. now ++ keys_left tick term ks) (sym none) ∙ same)
@@ -72,7 +79,9 @@ and-true : (a b : Bool) → b ≡ true → (a && b) ≡ a
 and-true true b is = is
 and-true false b is = refl
 
-never_fall-behind : (key : ScriptKey) (keys : List ScriptKey) (tick term byte : ℕ) (bytes : List ℕ) → never_fall (key ∷ keys) ≡ true → never_fall ((key ∷ keys) ++ map (key_at tick term) (byte ∷ bytes)) ≡ nat_le (last_tick key.tick keys) tick
+never_fall-behind : (key : ScriptKey) (keys : List ScriptKey) (tick term byte : ℕ) (bytes : List ℕ)
+    → never_fall (key ∷ keys) ≡ true → never_fall ((key ∷ keys) ++ map (key_at tick term) (byte ∷ bytes)) ≡ nat_le
+    (last_tick key.tick keys) tick
 never_fall-behind key [] tick term byte bytes rising =
     and-true (nat_le key.tick tick) _ (never_fall-typed tick term byte bytes)
 never_fall-behind key (next ∷ keys) tick term byte bytes rising =
@@ -96,7 +105,8 @@ record AreTyped (terminals : ℕ) (added : List ScriptKey) : Type 0 where
   early : tick ≤ 1000000
   there : term < terminals
 
-typed-bytes : (terminals tick term : ℕ) (bytes : Option (List ℕ)) (added : List ScriptKey) → tick ≤ 1000000 → term < terminals → option_and_then (keys_at tick term) bytes ≡ Some added → AreTyped terminals added
+typed-bytes : (terminals tick term : ℕ) (bytes : Option (List ℕ)) (added : List ScriptKey) → tick ≤ 1000000
+    → term < terminals → option_and_then (keys_at tick term) bytes ≡ Some added → AreTyped terminals added
 typed-bytes terminals tick term None added early there is = absurd (cc)
 typed-bytes terminals tick term (Some []) added early there is = absurd (cc)
 typed-bytes terminals tick term (Some (byte ∷ bytes)) added early there is = record {
@@ -109,11 +119,16 @@ typed-bytes terminals tick term (Some (byte ∷ bytes)) added early there is = r
   there = there;
 }
 
-typed-term : (terminals tick : ℕ) (term : Option ℕ) (bytes : Option (List ℕ)) (added : List ScriptKey) → tick ≤ 1000000 → ((n : ℕ) → term ≡ Some n → n < terminals) → option_and_then (λ n. option_and_then (keys_at tick n) bytes) term ≡ Some added → AreTyped terminals added
+typed-term : (terminals tick : ℕ) (term : Option ℕ) (bytes : Option (List ℕ)) (added : List ScriptKey)
+    → tick ≤ 1000000 → ((n : ℕ) → term ≡ Some n → n < terminals)
+    → option_and_then (λ n. option_and_then (keys_at tick n) bytes) term ≡ Some added → AreTyped terminals added
 typed-term terminals tick None bytes added early there is = absurd (cc)
 typed-term terminals tick (Some term) bytes added early there is = typed-bytes terminals tick term bytes added early (there term refl) is
 
-typed-tick : (terminals : ℕ) (tick term : Option ℕ) (bytes : Option (List ℕ)) (added : List ScriptKey) → ((t : ℕ) → tick ≡ Some t → t ≤ 1000000) → ((n : ℕ) → term ≡ Some n → n < terminals) → option_and_then (λ t. option_and_then (λ n. option_and_then (keys_at t n) bytes) term) tick ≡ Some added → AreTyped terminals added
+typed-tick : (terminals : ℕ) (tick term : Option ℕ) (bytes : Option (List ℕ)) (added : List ScriptKey)
+    → ((t : ℕ) → tick ≡ Some t → t ≤ 1000000) → ((n : ℕ) → term ≡ Some n → n < terminals)
+    → option_and_then (λ t. option_and_then (λ n. option_and_then (keys_at t n) bytes) term) tick ≡ Some added
+    → AreTyped terminals added
 typed-tick terminals None term bytes added early there is = absurd (cc)
 typed-tick terminals (Some tick) term bytes added early there is = typed-term terminals tick term bytes added (early tick refl) there is
 
@@ -132,9 +147,12 @@ typed-words : (terminals : ℕ) (words : List (List ℕ)) (added : List ScriptKe
 typed-words terminals [] added is = absurd (cc)
 typed-words terminals (tick ∷ []) added is = absurd (cc)
 typed-words terminals (tick ∷ terminal ∷ bytes) added is =
-    typed-tick terminals (tick_of tick) (terminal_of terminals terminal) (bytes_of bytes) added (λ t reads. (range-as 0 1000000 (number_of tick) t reads).1) (λ n reads. terminal-below terminals (position (bytes_eq terminal) terminal_names) n reads) is
+    typed-tick terminals (tick_of tick) (terminal_of terminals terminal) (bytes_of bytes) added
+    (λ t reads. (range-as 0 1000000 (number_of tick) t reads).1) (λ n reads. terminal-below terminals
+    (position (bytes_eq terminal) terminal_names) n reads) is
 
-line-as : (terminals : ℕ) (line : List ℕ) (added : List ScriptKey) (skipped edged : Bool) → is_skipped line ≡ skipped → is_edged line ≡ edged → line_keys terminals line ≡ Some added → (added ≡ []) ⊎ AreTyped terminals added
+line-as : (terminals : ℕ) (line : List ℕ) (added : List ScriptKey) (skipped edged : Bool) → is_skipped line ≡ skipped
+    → is_edged line ≡ edged → line_keys terminals line ≡ Some added → (added ≡ []) ⊎ AreTyped terminals added
 line-as terminals line added true edged skips edges is =
     let none : line_keys terminals line ≡ Some [] = simp skips in
     inl (let same : [] ≡ added = cc in sym same)
@@ -147,7 +165,9 @@ line-as terminals line added false false skips edges is =
 each-typed : (terminals tick term : ℕ) (bytes : List ℕ) → tick ≤ 1000000 → term < terminals → All (IsKey terminals) (map (key_at tick term) bytes)
 each-typed terminals tick term [] early there = λ k d below. absurd (omega arith)
 each-typed terminals tick term (byte ∷ bytes) early there =
-    All-append (IsKey terminals) (key_at tick term byte ∷ []) (map (key_at tick term) bytes) (All-replicate (IsKey terminals) 1 (key_at tick term byte) (record { there = there; early = early })) (each-typed terminals tick term bytes early there)
+    All-append (IsKey terminals) (key_at tick term byte ∷ []) (map (key_at tick term) bytes)
+    (All-replicate (IsKey terminals) 1 (key_at tick term byte) (record { there = there; early = early }))
+    (each-typed terminals tick term bytes early there)
 
 -- a choice that gives none, and one that gives some
 if-none : (test : Bool) (r : Reached) → None ≡ (if test then Some r else None) → test ≡ false
@@ -182,7 +202,9 @@ KeysSoFar-start terminals text = record {
   reachable = record { few = omega arith; early = omega arith };
 }
 
-pub KeysSoFar-all : (terminals : ℕ) (text : List ℕ) (place : ℕ) (keys : List ScriptKey) (reached : Reached) → KeysSoFar terminals text place keys reached → place ≡ length (text_lines text) → keys_of terminals text ≡ Ok keys
+pub KeysSoFar-all : (terminals : ℕ) (text : List ℕ) (place : ℕ) (keys : List ScriptKey) (reached : Reached)
+    → KeysSoFar terminals text place keys reached → place ≡ length (text_lines text) → keys_of terminals text ≡ Ok
+    keys
 KeysSoFar-all terminals text place keys reached so_far all =
     all_read (line_keys terminals) are_few_keys (text_lines text) place keys so_far.so_far (omega arith)
 
@@ -193,11 +215,16 @@ KeysSoFar-limits terminals text place keys reached so_far = record {
   rising = so_far.rising;
 }
 
-module _ (terminals : ℕ) (text : List ℕ) (place : ℕ) (keys : List ScriptKey) (reached : Reached) (line : List ℕ) (so_far : KeysSoFar terminals text place keys reached) (below : place < length (text_lines text)) (is : line ≡ get_or (text_lines text) place line) where
+module _ (terminals : ℕ) (text : List ℕ) (place : ℕ) (keys : List ScriptKey) (reached : Reached) (line : List ℕ)
+    (so_far : KeysSoFar terminals text place keys reached) (below : place < length (text_lines text))
+    (is : line ≡ get_or (text_lines text) place line) where
   -- the test of the keys with these is that of how far they reach
-  typed-test : (tick term byte : ℕ) (bytes : List ℕ) → are_few_keys (keys ++ map (key_at tick term) (byte ∷ bytes)) ≡ (nat_le reached.tick tick && nat_le (reached.keys + length (map (key_at tick term) (byte ∷ bytes))) 1000000)
+  typed-test : (tick term byte : ℕ) (bytes : List ℕ) → are_few_keys (keys ++ map (key_at tick term) (byte ∷ bytes)) ≡
+      (nat_le reached.tick tick && nat_le (reached.keys + length (map (key_at tick term) (byte ∷ bytes))) 1000000)
   typed-test tick term byte bytes =
-      let many : length (keys ++ map (key_at tick term) (byte ∷ bytes)) ≡ reached.keys + length (map (key_at tick term) (byte ∷ bytes)) = omega (arith, length-append keys (map (key_at tick term) (byte ∷ bytes)), so_far.many) in
+      let many : length (keys ++ map (key_at tick term) (byte ∷ bytes)) ≡ reached.keys + length
+      (map (key_at tick term) (byte ∷ bytes)) = omega
+      (arith, length-append keys (map (key_at tick term) (byte ∷ bytes)), so_far.many) in
       rw (never_fall-append keys tick term byte bytes so_far.rising, many, so_far.last) refl
 
   typed-refused : (added : List ScriptKey) → AreTyped terminals added → None ≡ reached_with reached (Some added) → are_few_keys (keys ++ added) ≡ false
@@ -219,7 +246,9 @@ module _ (terminals : ℕ) (text : List ℕ) (place : ℕ) (keys : List ScriptKe
   pub keys-refused : None ≡ reached_with reached (line_keys terminals line) → keys_of terminals text ≡ Err (place + 1)
   keys-refused none = refused-as (line_keys terminals line) refl none
 
-  typed-next : (added : List ScriptKey) (next : Reached) → AreTyped terminals added → line_keys terminals line ≡ Some added → Some next ≡ reached_with reached (Some added) → IsReachable next → KeysSoFar terminals text (place + 1) (keys ++ added) next
+  typed-next : (added : List ScriptKey) (next : Reached) → AreTyped terminals added → line_keys terminals line ≡ Some
+      added → Some next ≡ reached_with reached (Some added) → IsReachable next → KeysSoFar terminals text (place + 1)
+      (keys ++ added) next
   typed-next added next typed reads some reachable =
       let keys_typed : List ScriptKey = map (key_at typed.tick typed.term) (typed.byte ∷ typed.bytes) in
       let at : Some next ≡ reached_with reached (Some (map (key_at typed.tick typed.term) (typed.byte ∷ typed.bytes))) = some ∙ ap (λ a. reached_with reached (Some a)) typed.is in
@@ -228,8 +257,16 @@ module _ (terminals : ℕ) (text : List ℕ) (place : ℕ) (keys : List ScriptKe
       let whole : are_few_keys (keys ++ added) ≡ true = ap (λ a. are_few_keys (keys ++ a)) typed.is ∙ typed-test typed.tick typed.term typed.byte typed.bytes ∙ test in
       record {
         so_far = ReadSoFar-next (line_keys terminals) are_few_keys (text_lines text) place keys added line so_far.so_far below is reads whole;
-        many = ap (λ r. r.keys) fields ∙ (let sum : reached.keys + length (map (key_at typed.tick typed.term) (typed.byte ∷ typed.bytes)) ≡ length (keys ++ added) = rw typed.is (omega (arith, length-append keys (map (key_at typed.tick typed.term) (typed.byte ∷ typed.bytes)), so_far.many)) in sum);
-        last = ap (λ r. r.tick) fields ∙ sym (ap (λ a. last_tick 0 (keys ++ a)) typed.is ∙ last_tick-append 0 keys (map (key_at typed.tick typed.term) (typed.byte ∷ typed.bytes)) ∙ last_tick-typed (last_tick 0 keys) typed.tick typed.term typed.byte typed.bytes);
+        many = ap (λ r. r.keys) fields ∙ (let sum : reached.keys + length (map (key_at typed.tick typed.term)
+            (typed.byte ∷ typed.bytes)) ≡ length (keys ++ added) = rw typed.is
+            (omega (
+              arith,
+              length-append keys (map (key_at typed.tick typed.term) (typed.byte ∷ typed.bytes)),
+              so_far.many,
+            )) in sum);
+        last = ap (λ r. r.tick) fields ∙ sym (ap (λ a. last_tick 0 (keys ++ a)) typed.is ∙ last_tick-append 0 keys
+            (map (key_at typed.tick typed.term) (typed.byte ∷ typed.bytes)) ∙ last_tick-typed (last_tick 0 keys)
+            typed.tick typed.term typed.byte typed.bytes);
         rising = (and_parts (never_fall (keys ++ added)) (nat_le (length (keys ++ added)) 1000000) whole).0;
         each = All-append (IsKey terminals) keys added so_far.each (rw typed.is (each-typed terminals typed.tick typed.term (typed.byte ∷ typed.bytes) typed.early typed.there));
         reachable = reachable;
@@ -237,7 +274,9 @@ module _ (terminals : ℕ) (text : List ℕ) (place : ℕ) (keys : List ScriptKe
 
   empty-next : line_keys terminals line ≡ Some [] → KeysSoFar terminals text (place + 1) (keys ++ []) reached
   empty-next reads =
-      let whole : are_few_keys (keys ++ []) ≡ true = rw (append-nil keys) (and_from (never_fall keys) (nat_le (length keys) 1000000) so_far.rising (le-leb (length keys) 1000000 (omega (arith, so_far.many, so_far.reachable.few)))) in
+      let whole : are_few_keys (keys ++ []) ≡ true = rw (append-nil keys) (and_from (never_fall keys)
+      (nat_le (length keys) 1000000) so_far.rising (le-leb (length keys) 1000000
+      (omega (arith, so_far.many, so_far.reachable.few)))) in
       record {
         so_far = ReadSoFar-next (line_keys terminals) are_few_keys (text_lines text) place keys [] line so_far.so_far below is reads whole;
         many = rw (append-nil keys) so_far.many;
@@ -247,7 +286,9 @@ module _ (terminals : ℕ) (text : List ℕ) (place : ℕ) (keys : List ScriptKe
         reachable = so_far.reachable;
       }
 
-  next-as : (added : Option (List ScriptKey)) (next : Reached) (now : List ScriptKey) → line_keys terminals line ≡ added → Some next ≡ reached_with reached added → IfSome added (λ a. now ≡ keys ++ a) → IsReachable next → KeysSoFar terminals text (place + 1) now next
+  next-as : (added : Option (List ScriptKey)) (next : Reached) (now : List ScriptKey) → line_keys terminals line ≡
+      added → Some next ≡ reached_with reached added → IfSome added (λ a. now ≡ keys ++ a) → IsReachable next
+      → KeysSoFar terminals text (place + 1) now next
   next-as None next now reads some is_now reachable = absurd (cc)
   next-as (Some added) next now reads some is_now reachable =
       elim (line-as terminals line added (is_skipped line) (is_edged line) refl refl reads) [
@@ -260,5 +301,7 @@ module _ (terminals : ℕ) (text : List ℕ) (place : ℕ) (keys : List ScriptKe
       ]
 
   -- a line that keeps the rules
-  pub KeysSoFar-next : (next : Reached) (now : List ScriptKey) → Some next ≡ reached_with reached (line_keys terminals line) → IfSome (line_keys terminals line) (λ added. now ≡ keys ++ added) → IsReachable next → KeysSoFar terminals text (place + 1) now next
+  pub KeysSoFar-next : (next : Reached) (now : List ScriptKey) → Some next ≡ reached_with reached
+      (line_keys terminals line) → IfSome (line_keys terminals line) (λ added. now ≡ keys ++ added) → IsReachable next
+      → KeysSoFar terminals text (place + 1) now next
   KeysSoFar-next next now some is_now reachable = next-as (line_keys terminals line) next now refl some is_now reachable

@@ -44,7 +44,9 @@ each-repeated (Some m) (Some k) range = All-replicate IsSlice k m (range m refl)
 
 each-word : (word : List ℕ) → All IsSlice (unwrap_or (word_slices word) [])
 each-word word =
-    each-repeated (slice_number (before_first is_asterisk word)) (times_of (from_asterisk word)) (λ m is. let range = range-as 1 1000000 (number_of (before_first is_asterisk word)) m is in record { least = range.0; most = range.1 })
+    each-repeated (slice_number (before_first is_asterisk word)) (times_of (from_asterisk word))
+    (λ m is. let range = range-as 1 1000000 (number_of (before_first is_asterisk word)) m is in record
+    { least = range.0; most = range.1 })
 
 each-words : (words : List (List ℕ)) → All IsSlice (flat_map (λ word. unwrap_or (word_slices word) []) words)
 each-words [] = each-nil
@@ -89,7 +91,9 @@ SlicesSoFar-limits text place slices total so_far = record {
   total = omega (arith, so_far.long, so_far.limits.short);
 }
 
-module _ (text : List ℕ) (place : ℕ) (slices : List ℕ) (total : Total) (line : List ℕ) (so_far : SlicesSoFar text place slices total) (below : place < length (text_lines text)) (is : line ≡ get_or (text_lines text) place line) where
+module _ (text : List ℕ) (place : ℕ) (slices : List ℕ) (total : Total) (line : List ℕ)
+    (so_far : SlicesSoFar text place slices total) (below : place < length (text_lines text))
+    (is : line ≡ get_or (text_lines text) place line) where
   many-with : (added : List ℕ) → total.slices + length added ≡ length (slices ++ added)
   many-with added = omega (arith, length-append slices added, so_far.many)
 
@@ -106,7 +110,9 @@ module _ (text : List ℕ) (place : ℕ) (slices : List ℕ) (total : Total) (li
   pub slices-refused : None ≡ total_with total (line_slices line) → slices_of text ≡ Err (place + 1)
   slices-refused none = refused-as (line_slices line) refl none
 
-  next-as : (read : Option (List ℕ)) (next : Total) (now : List ℕ) → line_slices line ≡ read → Some next ≡ total_with total read → now ≡ slices ++ unwrap_or read [] → IsWithinLimits next → All IsSlice now → SlicesSoFar text (place + 1) now next
+  next-as : (read : Option (List ℕ)) (next : Total) (now : List ℕ) → line_slices line ≡ read → Some next ≡ total_with
+      total read → now ≡ slices ++ unwrap_or read [] → IsWithinLimits next → All IsSlice now
+      → SlicesSoFar text (place + 1) now next
   next-as None next now reads some is_now limits each = absurd (cc)
   next-as (Some added) next now reads some is_now limits each =
       let within : total_within (length (slices ++ added)) (sum (slices ++ added)) ≡ Some next = rw (← many-with added, ← long-with added) (sym some) in
@@ -120,7 +126,9 @@ module _ (text : List ℕ) (place : ℕ) (slices : List ℕ) (total : Total) (li
         each = each;
       }
 
-  given-as : (edged : Bool) (read : Option (List ℕ)) → is_edged line ≡ edged → line_slices line ≡ read → (next : Total) → Some next ≡ total_with total read → flat_map (λ word. unwrap_or (word_slices word) []) (line_words line) ≡ unwrap_or read []
+  given-as : (edged : Bool) (read : Option (List ℕ)) → is_edged line ≡ edged → line_slices line ≡ read
+      → (next : Total) → Some next ≡ total_with total read → flat_map (λ word. unwrap_or (word_slices word) [])
+      (line_words line) ≡ unwrap_or read []
   given-as edged None is_edge reads next some = absurd (cc)
   given-as true (Some added) is_edge reads next some = absurd (let none : line_slices line ≡ None = simp is_edge in cc)
   given-as false (Some added) is_edge reads next some =
@@ -128,7 +136,9 @@ module _ (text : List ℕ) (place : ℕ) (slices : List ℕ) (total : Total) (li
       all_given-Some word_slices (line_words line) added all
 
   -- a line that keeps the rules
-  pub SlicesSoFar-next : (next : Total) (now : List ℕ) → Some next ≡ total_with total (line_slices line) → now ≡ slices ++ flat_map (λ word. unwrap_or (word_slices word) []) (line_words line) → IsWithinLimits next → SlicesSoFar text (place + 1) now next
+  pub SlicesSoFar-next : (next : Total) (now : List ℕ) → Some next ≡ total_with total (line_slices line)
+      → now ≡ slices ++ flat_map (λ word. unwrap_or (word_slices word) []) (line_words line) → IsWithinLimits next
+      → SlicesSoFar text (place + 1) now next
   SlicesSoFar-next next now some is_now limits =
       let given = given-as (is_edged line) (line_slices line) refl refl next some in
       let each : All IsSlice now = rw is_now (All-append IsSlice slices (flat_map (λ word. unwrap_or (word_slices word) []) (line_words line)) so_far.each (each-words (line_words line))) in

@@ -13,7 +13,8 @@ first_place : (test : ℕ → Bool) (n place : ℕ) → place ≤ n → ((k : �
 first_place test n place within before here =
     position_or_len_is test (range_with_len 0 n) place 0 (rw (length-range_with_len 0 n) within)
     (λ k below. let at : get_or (range_with_len 0 n) k 0 ≡ k = get_or-range_with_len 0 n k 0 (omega arith) ∙ zero-add k in rw at (before k below))
-    (λ long. let below : place < n = omega (arith, length-range_with_len 0 n) in let at : get_or (range_with_len 0 n) place 0 ≡ place = get_or-range_with_len 0 n place 0 below ∙ zero-add place in rw at (here below))
+    (λ long. let below : place < n = omega (arith, length-range_with_len 0 n) in let at : get_or (range_with_len 0 n)
+    place 0 ≡ place = get_or-range_with_len 0 n place 0 below ∙ zero-add place in rw at (here below))
 
 pub position-at : (test : ℕ → Bool) (n place : ℕ) → place < n → ((k : ℕ) → k < place → test k ≡ false) → test place ≡ true → position test (range_with_len 0 n) ≡ Some place
 position-at test n place below before here =
@@ -26,14 +27,17 @@ position-none test n before =
     rw (at, length-range_with_len 0 n, le-ltb n n (omega arith)) refl
 
 -- ---- what words give
-given-word : {A : Type 0} (first : Option (List A)) (others : Option (List A)) (then : List A) (given : List A) → ((g : List A) → others ≡ Some g → then ≡ g) → option_and_then (λ f. option_map (λ r. f ++ r) others) first ≡ Some given → unwrap_or first [] ++ then ≡ given
+given-word : {A : Type 0} (first : Option (List A)) (others : Option (List A)) (then : List A) (given : List A)
+    → ((g : List A) → others ≡ Some g → then ≡ g) → option_and_then (λ f. option_map (λ r. f ++ r) others) first ≡
+    Some given → unwrap_or first [] ++ then ≡ given
 given-word None others then given same is = absurd (cc)
 given-word (Some first) None then given same is = absurd (cc)
 given-word (Some first) (Some others) then given same is =
     let these : first ++ others ≡ given = cc in
     rw (same others refl) these
 
-pub all_given-Some : {A : Type 0} (read : List ℕ → Option (List A)) (words : List (List ℕ)) (given : List A) → all_given read words ≡ Some given → flat_map (λ word. unwrap_or (read word) []) words ≡ given
+pub all_given-Some : {A : Type 0} (read : List ℕ → Option (List A)) (words : List (List ℕ)) (given : List A)
+    → all_given read words ≡ Some given → flat_map (λ word. unwrap_or (read word) []) words ≡ given
 all_given-Some read [] given is = let same : [] ≡ given = cc in same
 all_given-Some read (word ∷ words) given is =
     given-word (read word) (all_given read words) _ given (all_given-Some read words) is
@@ -47,7 +51,8 @@ module _ {A : Type 0} (read : List ℕ → Option (List A)) (allowed : List A �
   abbrev pub outcome : Result (List A) ℕ
   outcome = option_map_or (λ place. Err (place + 1)) (first_broken read allowed lines) (Ok (lines_give read lines))
 
-  give-next : (place : ℕ) (given : List A) (line : List ℕ) → ReadSoFar place given → place < length lines → line ≡ get_or lines place line → lines_give read (take (place + 1) lines) ≡ given ++ unwrap_or (read line) []
+  give-next : (place : ℕ) (given : List A) (line : List ℕ) → ReadSoFar place given → place < length lines
+      → line ≡ get_or lines place line → lines_give read (take (place + 1) lines) ≡ given ++ unwrap_or (read line) []
   give-next place given line so_far below is =
       let next : take (place + 1) lines ≡ take place lines ++ line ∷ [] = take_more lines place line below ∙ ap (λ l. take place lines ++ l ∷ []) (sym is) in
       ap (lines_give read) next
@@ -61,11 +66,15 @@ module _ {A : Type 0} (read : List ℕ → Option (List A)) (allowed : List A �
   here : (place : ℕ) (line : List ℕ) → place < length lines → line ≡ get_or lines place line → get_or lines place [] ≡ line
   here place line below is = sym (is ∙ get_or_default lines place line [] below)
 
-  broken-as : (place : ℕ) (given : List A) (line : List ℕ) → ReadSoFar place given → place < length lines → line ≡ get_or lines place line → is_broken read allowed lines place ≡ (is_none (read line) || not (allowed (given ++ unwrap_or (read line) [])))
+  broken-as : (place : ℕ) (given : List A) (line : List ℕ) → ReadSoFar place given → place < length lines
+      → line ≡ get_or lines place line → is_broken read allowed lines place ≡ (is_none (read line) || not
+      (allowed (given ++ unwrap_or (read line) [])))
   broken-as place given line so_far below is = rw (here place line below is, give-next place given line so_far below is) refl
 
   -- a line that keeps the rules
-  pub ReadSoFar-next : (place : ℕ) (given added : List A) (line : List ℕ) → ReadSoFar place given → place < length lines → line ≡ get_or lines place line → read line ≡ Some added → allowed (given ++ added) ≡ true → ReadSoFar (place + 1) (given ++ added)
+  pub ReadSoFar-next : (place : ℕ) (given added : List A) (line : List ℕ) → ReadSoFar place given
+      → place < length lines → line ≡ get_or lines place line → read line ≡ Some added → allowed (given ++ added) ≡
+      true → ReadSoFar (place + 1) (given ++ added)
   ReadSoFar-next place given added line so_far below is reads keeps =
       let whole : is_broken read allowed lines place ≡ false = broken-as place given line so_far below is ∙ simp (reads, keeps) in
       record {
@@ -82,7 +91,9 @@ module _ {A : Type 0} (read : List ℕ → Option (List A)) (allowed : List A �
   refused-unread place given line so_far below is reads =
       refused place given so_far below (broken-as place given line so_far below is ∙ simp reads)
 
-  pub refused-passed : (place : ℕ) (given added : List A) (line : List ℕ) → ReadSoFar place given → place < length lines → line ≡ get_or lines place line → read line ≡ Some added → allowed (given ++ added) ≡ false → outcome ≡ Err (place + 1)
+  pub refused-passed : (place : ℕ) (given added : List A) (line : List ℕ) → ReadSoFar place given
+      → place < length lines → line ≡ get_or lines place line → read line ≡ Some added → allowed (given ++ added) ≡
+      false → outcome ≡ Err (place + 1)
   refused-passed place given added line so_far below is reads passes =
       refused place given so_far below (broken-as place given line so_far below is ∙ simp (reads, passes))
 

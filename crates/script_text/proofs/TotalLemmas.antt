@@ -77,14 +77,23 @@ none-and_then : (o : Option Total) → option_and_then {U = Total} (λ next. Non
 none-and_then None = refl
 none-and_then (Some next) = refl
 
-total_with-rest : (total : Total) (first : List ℕ) (rest : Option (List ℕ)) → option_and_then (λ next. total_with next rest) (total_with total (Some first)) ≡ total_with total (option_map (λ r. first ++ r) rest)
+total_with-rest : (total : Total) (first : List ℕ) (rest : Option (List ℕ))
+    → option_and_then (λ next. total_with next rest) (total_with total (Some first)) ≡ total_with total
+    (option_map (λ r. first ++ r) rest)
 total_with-rest total first None = none-and_then (total_with total (Some first))
 total_with-rest total first (Some rest) = total_with-append total first rest
 
-total_with-word : (total : Total) (given : Option (List ℕ)) (words : List (List ℕ)) → ((next : Total) → IsWithinLimits next → total_by_words next words ≡ total_with next (all_given word_slices words)) → option_and_then (λ next. total_by_words next words) (total_with total given) ≡ total_with total (option_and_then (λ first. option_map (λ rest. first ++ rest) (all_given word_slices words)) given)
+total_with-word : (total : Total) (given : Option (List ℕ)) (words : List (List ℕ))
+    → ((next : Total) → IsWithinLimits next → total_by_words next words ≡ total_with next
+    (all_given word_slices words)) → option_and_then (λ next. total_by_words next words) (total_with total given) ≡
+    total_with total (option_and_then (λ first. option_map (λ rest. first ++ rest) (all_given word_slices words))
+    given)
 total_with-word total None words as_all = refl
 total_with-word total (Some first) words as_all =
-    same-and_then (total_with total (Some first)) (λ next. total_by_words next words) (λ next. total_with next (all_given word_slices words)) (λ next is. as_all next (total_within-limits (total.slices + length first) (total.instructions + sum first) next is))
+    same-and_then (total_with total (Some first)) (λ next. total_by_words next words)
+    (λ next. total_with next (all_given word_slices words))
+    (λ next is. as_all next (total_within-limits (total.slices + length first) (total.instructions + sum first)
+    next is))
     ∙ total_with-rest total first (all_given word_slices words)
 
 -- it is that with all of their slices at once
@@ -93,7 +102,10 @@ total_with-all total [] limits = sym (total_with-none total limits)
 total_with-all total (word ∷ words) limits =
     total_with-word total (word_slices word) words (λ next kept. total_with-all next words kept)
 
-pub total_with-repeated : (total : Total) (times n instructions : ℕ) (given : Option (List ℕ)) → Some (replicate times n) ≡ given → total.slices + times ≤ 1000000 → instructions ≡ total.instructions + n * times → instructions ≤ 10000000 → Some (record { slices = total.slices + times; instructions = instructions }) ≡ total_with total given
+pub total_with-repeated : (total : Total) (times n instructions : ℕ) (given : Option (List ℕ))
+    → Some (replicate times n) ≡ given → total.slices + times ≤ 1000000 → instructions ≡ total.instructions + n *
+    times → instructions ≤ 10000000 → Some (record { slices = total.slices + times; instructions = instructions }) ≡
+    total_with total given
 total_with-repeated total times n instructions given is few sum_is short =
     let many : total.slices + length (replicate times n) ≡ total.slices + times = omega (arith, length-replicate times n) in
     let long : total.instructions + sum (replicate times n) ≡ instructions = grind (arith, sum_by-replicate (λ (x : ℕ). x) times n) in
@@ -107,13 +119,18 @@ line_total : (total : Total) (line : List ℕ) → is_edged line ≡ false → t
 line_total total line inside = simp inside
 
 -- the slices of a line are refused where those of a word are
-pub line_total-refused : (start total : Total) (line : List ℕ) (left after : List (List ℕ)) (word : List ℕ) → is_edged line ≡ false → IsWithinLimits start → total_by_words total left ≡ total_by_words start (line_words line) → left ≡ word ∷ after → None ≡ total_with total (word_slices word) → None ≡ total_with start (line_slices line)
+pub line_total-refused : (start total : Total) (line : List ℕ) (left after : List (List ℕ)) (word : List ℕ)
+    → is_edged line ≡ false → IsWithinLimits start → total_by_words total left ≡ total_by_words start
+    (line_words line) → left ≡ word ∷ after → None ≡ total_with total (word_slices word) → None ≡ total_with start
+    (line_slices line)
 line_total-refused start total line left after word inside limits same is none =
     let last : None ≡ total_by_words total (word ∷ after) = ap (option_and_then (λ next. total_by_words next after)) none in
     last ∙ ap (total_by_words total) (sym is) ∙ same ∙ total_with-all start (line_words line) limits ∙ sym (line_total start line inside)
 
 -- where no word is left, the total is that with the line's slices
-pub line_total-taken : (start total : Total) (line : List ℕ) (left : List (List ℕ)) → is_edged line ≡ false → IsWithinLimits start → total_by_words total left ≡ total_by_words start (line_words line) → left ≡ [] → Some total ≡ total_with start (line_slices line)
+pub line_total-taken : (start total : Total) (line : List ℕ) (left : List (List ℕ)) → is_edged line ≡ false
+    → IsWithinLimits start → total_by_words total left ≡ total_by_words start (line_words line) → left ≡ []
+    → Some total ≡ total_with start (line_slices line)
 line_total-taken start total line left inside limits same is =
     ap (total_by_words total) (sym is) ∙ same ∙ total_with-all start (line_words line) limits ∙ sym (line_total start line inside)
 

@@ -76,7 +76,8 @@ found_in : (line : List ℕ) → IsFoundIn line (without_spaces line)
 found_in [] = record { word = λ some. absurd (omega arith); end = λ none. refl; left = λ none. refl }
 found_in (byte ∷ bytes) = found-byte byte bytes (is_space byte) refl (found_in bytes)
 
-pub found_by : (line left front back : List ℕ) (place : ℕ) → left ≡ without_spaces line → place ≡ position_or_len is_space left → front ≡ take place left → back ≡ drop place left → Found line front back
+pub found_by : (line left front back : List ℕ) (place : ℕ) → left ≡ without_spaces line → place ≡ position_or_len
+    is_space left → front ≡ take place left → back ≡ drop place left → Found line front back
 found_by line left front back place is_left is_place is_front is_back =
     rw (is_front, is_back, is_place, is_left) (found_in line)
 

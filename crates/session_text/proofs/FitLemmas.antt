@@ -115,7 +115,8 @@ fit-lines room last (line ∷ lines) is =
 lines-fit : (room last : ℕ) (lines : List TypedLine) → Fit room last (flat_map line_keys_of lines) → lines_fit room last lines ≡ true
 lines-fit room last [] it = refl
 lines-fit room last (line ∷ lines) it =
-    let count : length (line_keys_of line ++ flat_map line_keys_of lines) ≡ length (line_keys_of line) + length (flat_map line_keys_of lines) = length-append (line_keys_of line) (flat_map line_keys_of lines) in
+    let count : length (line_keys_of line ++ flat_map line_keys_of lines) ≡ length (line_keys_of line) + length
+    (flat_map line_keys_of lines) = length-append (line_keys_of line) (flat_map line_keys_of lines) in
     let rose = line-rose line.tick last line.bytes.items (flat_map line_keys_of lines) it.rising in
     let first : LineFacts line room last = record {
       there = omega (arith, count, line-count line, it.few);
@@ -138,7 +139,9 @@ keys-no lines is keys =
     absurd (false≢true (sym is ∙ lines-fit 1000000 0 lines (record { few = keys.few; each = keys.each; rising = sym (never-rises (keys_of_lines lines)) ∙ keys.rising })))
 
 -- a line at a place does not fit
-pub fits-no : (lines : List TypedLine) (place room last : ℕ) (line : TypedLine) (whole : Bool) → place < length lines → line ≡ get_or lines place line → lines_fit room last (drop place lines) ≡ whole → line_fits line room last ≡ false → whole ≡ false
+pub fits-no : (lines : List TypedLine) (place room last : ℕ) (line : TypedLine) (whole : Bool) → place < length lines
+    → line ≡ get_or lines place line → lines_fit room last (drop place lines) ≡ whole → line_fits line room last ≡
+    false → whole ≡ false
 fits-no lines place room last line whole below is so_far refused =
     let rest : List TypedLine = drop (suc place) lines in
     sym so_far

@@ -99,7 +99,13 @@ hex-digit n low = by (nat_lt n 10) refl
         rw (le-leb 48 (48 + n) (omega arith), le-leb (48 + n) 57 (omega arith)) (ap Some (omega arith))
     by false is =
         let most : 10 ≤ n = ltb-false n 10 is in
-        rw (le-leb 48 (55 + n) (omega arith), lt-leb (55 + n) 57 (omega (arith, most)), le-leb 65 (55 + n) (omega (arith, most)), le-leb (55 + n) 70 (omega (arith, low))) (ap Some (omega (arith, most)))
+        rw (
+          le-leb 48 (55 + n) (omega arith),
+          lt-leb (55 + n) 57 (omega (arith, most)),
+          le-leb 65 (55 + n)
+              (omega (arith, most)),
+          le-leb (55 + n) 70 (omega (arith, low)),
+        ) (ap Some (omega (arith, most)))
 
 abbrev pair : ℕ → List ℕ
 pair byte = digit (byte / 16) ∷ digit (byte % 16) ∷ []
@@ -116,7 +122,8 @@ bytes-of (byte ∷ bytes) all =
 
 pair-high : (byte : ℕ) → All (λ byte. 48 ≤ byte) (pair byte)
 pair-high byte =
-    All-cons (λ byte. 48 ≤ byte) (digit (byte / 16)) (digit (byte % 16) ∷ []) (hex-high (byte / 16)) (All-cons (λ byte. 48 ≤ byte) (digit (byte % 16)) [] (hex-high (byte % 16)) (All-nil (λ byte. 48 ≤ byte)))
+    All-cons (λ byte. 48 ≤ byte) (digit (byte / 16)) (digit (byte % 16) ∷ []) (hex-high (byte / 16))
+    (All-cons (λ byte. 48 ≤ byte) (digit (byte % 16)) [] (hex-high (byte % 16)) (All-nil (λ byte. 48 ≤ byte)))
 
 split-words : (word bytes : List ℕ) → All (λ byte. 48 ≤ byte) word → slice_split is_space (word ++ flat_map byte_word bytes) ≡ word ∷ map pair bytes
 split-words word [] high =
@@ -128,7 +135,8 @@ split-words word (byte ∷ bytes) high =
 term-high : All (λ byte. 48 ≤ byte) (codes "TERM")
 term-high =
     All-cons (λ byte. 48 ≤ byte) 84 (69 ∷ 82 ∷ 77 ∷ []) (omega arith)
-    (All-cons (λ byte. 48 ≤ byte) 69 (82 ∷ 77 ∷ []) (omega arith) (All-cons (λ byte. 48 ≤ byte) 82 (77 ∷ []) (omega arith) (All-cons (λ byte. 48 ≤ byte) 77 [] (omega arith) (All-nil (λ byte. 48 ≤ byte)))))
+    (All-cons (λ byte. 48 ≤ byte) 69 (82 ∷ 77 ∷ []) (omega arith) (All-cons (λ byte. 48 ≤ byte) 82 (77 ∷ [])
+    (omega arith) (All-cons (λ byte. 48 ≤ byte) 77 [] (omega arith) (All-nil (λ byte. 48 ≤ byte)))))
 
 -- the line without its end
 abbrev body : TypedLine → List ℕ
@@ -214,11 +222,13 @@ line-gives line early bytes =
     let it : Spells line.tick (decimal line.tick) = spelled line.tick (omega (arith, early)) in
     let high : All (λ byte. 48 ≤ byte) (decimal line.tick) = digits-high line.tick (decimal line.tick) it in
     let rest : List ℕ = codes " TERM" ++ flat_map byte_word (line.bytes.items ++ 13 ∷ []) in
-    let ends : ends_with nat_eq (body line) (32 ∷ []) ≡ false = subst (λ (text : List ℕ). ends_with nat_eq text (32 ∷ []) ≡ false) (sym (body-last line)) (ends-high (front_of line) 68 (omega arith)) in
+    let ends : ends_with nat_eq (body line) (32 ∷ []) ≡ false = subst (λ (text : List ℕ). ends_with nat_eq text
+    (32 ∷ []) ≡ false) (sym (body-last line)) (ends-high (front_of line) 68 (omega arith)) in
     let all : All IsByte (line.bytes.items ++ 13 ∷ []) = All-append IsByte line.bytes.items (13 ∷ []) bytes (All-cons IsByte 13 [] (omega arith) (All-nil IsByte)) in
     keys-line (body line) (is-skipped (decimal line.tick) rest it.some high) (not-both (body line) (starts-high (decimal line.tick) rest it.some high) ends)
     ∙ ap (words_keys 4) (words-line line it)
-    ∙ words-give (decimal line.tick) (map pair (line.bytes.items ++ 13 ∷ [])) line.tick (line.bytes.items ++ 13 ∷ []) (number-of (decimal line.tick) line.tick it) early (bytes-of (line.bytes.items ++ 13 ∷ []) all)
+    ∙ words-give (decimal line.tick) (map pair (line.bytes.items ++ 13 ∷ [])) line.tick (line.bytes.items ++ 13 ∷ [])
+    (number-of (decimal line.tick) line.tick it) early (bytes-of (line.bytes.items ++ 13 ∷ []) all)
     ∙ keys-some line.tick line.bytes.items
 
 -- ---- the lines of a text
@@ -279,7 +289,8 @@ behind-keys (key ∷ front) behind all = behind-keys front behind (All-tail (IsK
 early-lines : (lines : List TypedLine) → All (IsKey 4) (flat_map line_keys_of lines) → All IsEarly lines
 early-lines [] all = All-nil IsEarly
 early-lines (line ∷ lines) all =
-    All-cons IsEarly line lines (line-early line (front-keys (line_keys_of line) (flat_map line_keys_of lines) all)) (early-lines lines (behind-keys (line_keys_of line) (flat_map line_keys_of lines) all))
+    All-cons IsEarly line lines (line-early line (front-keys (line_keys_of line) (flat_map line_keys_of lines) all))
+    (early-lines lines (behind-keys (line_keys_of line) (flat_map line_keys_of lines) all))
 
 -- keys in front of others that a script may have
 never-front : (front behind : List ScriptKey) → never_fall (front ++ behind) ≡ true → never_fall front ≡ true
@@ -292,7 +303,12 @@ never-front (key ∷ next ∷ front) behind is =
 few-front : (front behind : List ScriptKey) → are_few_keys (front ++ behind) ≡ true → are_few_keys front ≡ true
 few-front front behind is =
     let both = and_parts (never_fall (front ++ behind)) (nat_le (length (front ++ behind)) 1000000) is in
-    and_from (never_fall front) (nat_le (length front) 1000000) (never-front front behind both.0) (le-leb (length front) 1000000 (omega (arith, leb-true (length (front ++ behind)) 1000000 both.1, length-append front behind)))
+    and_from (never_fall front) (nat_le (length front) 1000000) (never-front front behind both.0)
+    (le-leb (length front) 1000000 (omega (
+      arith,
+      leb-true (length (front ++ behind)) 1000000 both.1,
+      length-append front behind,
+    )))
 
 -- what is at a place of a list
 record IsAt (xs : List (List ℕ)) (place : ℕ) (x : List ℕ) (rest : List (List ℕ)) : Type 0 where
@@ -314,7 +330,9 @@ at-drop (y ∷ xs) (suc place) x rest is =
     record { below = omega (arith, it.below); here = it.here; behind = rw next it.behind }
 
 module _ (texts : List (List ℕ)) where
-  reads-on : (todo : List TypedLine) (place : ℕ) (given : List ScriptKey) → drop place texts ≡ map body todo ++ [] ∷ [] → All IsEarly todo → All HasBytes todo → are_few_keys (given ++ flat_map line_keys_of todo) ≡ true → ReadSoFar (line_keys 4) are_few_keys texts place given
+  reads-on : (todo : List TypedLine) (place : ℕ) (given : List ScriptKey) → drop place texts ≡ map body todo ++ [] ∷
+      [] → All IsEarly todo → All HasBytes todo → are_few_keys (given ++ flat_map line_keys_of todo) ≡ true
+      → ReadSoFar (line_keys 4) are_few_keys texts place given
       → outcome (line_keys 4) are_few_keys texts ≡ Ok (given ++ flat_map line_keys_of todo)
   reads-on [] place given left early bytes few so_far =
       let it = at-drop texts place [] [] left in
@@ -323,16 +341,20 @@ module _ (texts : List (List ℕ)) where
   reads-on (line ∷ todo) place given left early bytes few so_far =
       let it = at-drop texts place (body line) (map body todo ++ [] ∷ []) left in
       let reads : line_keys 4 (body line) ≡ Some (line_keys_of line) = line-gives line (All-head IsEarly line todo early) (All-head HasBytes line todo bytes) in
-      let same : given ++ flat_map line_keys_of (line ∷ todo) ≡ (given ++ line_keys_of line) ++ flat_map line_keys_of todo = sym (append_assoc given (line_keys_of line) (flat_map line_keys_of todo)) in
+      let same : given ++ flat_map line_keys_of (line ∷ todo) ≡ (given ++ line_keys_of line) ++ flat_map line_keys_of
+      todo = sym (append_assoc given (line_keys_of line) (flat_map line_keys_of todo)) in
       let few_then : are_few_keys ((given ++ line_keys_of line) ++ flat_map line_keys_of todo) ≡ true = subst (λ (keys : List ScriptKey). are_few_keys keys ≡ true) same few in
-      let next = ReadSoFar-next (line_keys 4) are_few_keys texts place given (line_keys_of line) (body line) so_far it.below it.here reads (few-front (given ++ line_keys_of line) (flat_map line_keys_of todo) few_then) in
+      let next = ReadSoFar-next (line_keys 4) are_few_keys texts place given (line_keys_of line) (body line) so_far
+      it.below it.here reads (few-front (given ++ line_keys_of line) (flat_map line_keys_of todo) few_then) in
       reads-on todo (place + 1) (given ++ line_keys_of line) it.behind (All-tail IsEarly line todo early) (All-tail HasBytes line todo bytes) few_then next ∙ ap Ok (sym same)
 
 pub script-gives : (typed : Typed) → AreKeys 4 (kept_keys typed) → All HasBytes typed.lines.items → keys_of 4 (script_text typed) ≡ Ok (kept_keys typed)
 script-gives typed keys bytes =
     let lines : List TypedLine = typed.lines.items in
     let early : All IsEarly lines = early-lines lines keys.each in
-    let few : are_few_keys (kept_keys typed) ≡ true = and_from (never_fall (kept_keys typed)) (nat_le (length (kept_keys typed)) 1000000) keys.rising (le-leb (length (kept_keys typed)) 1000000 keys.few) in
+    let few : are_few_keys (kept_keys typed) ≡ true = and_from (never_fall (kept_keys typed))
+    (nat_le (length (kept_keys typed)) 1000000) keys.rising (le-leb (length (kept_keys typed)) 1000000 keys.few)
+    in
     ap (λ (texts : List (List ℕ)). outcome (line_keys 4) are_few_keys texts) (lines-of lines early)
     ∙ reads-on (map body lines ++ [] ∷ []) lines 0 [] refl early bytes few (ReadSoFar-start (line_keys 4) are_few_keys (map body lines ++ [] ∷ []))
 
@@ -399,7 +421,9 @@ slices-line n some few =
     All-append (λ byte. 32 < byte) (decimal SLICE) (42 ∷ decimal n) (All-weaker IsDigit (λ byte. 32 < byte) (λ byte is. omega (arith, digit-high byte is)) (decimal SLICE) each.digits)
     (All-cons (λ byte. 32 < byte) 42 (decimal n) (omega arith) (All-weaker IsDigit (λ byte. 32 < byte) (λ byte is. omega (arith, digit-high byte is)) (decimal n) count.digits)) in
     let words : line_words (slices_word n) ≡ slices_word n ∷ [] =
-    ap (filter is_word) (slice_split_none is_space (slices_word n) (All-weaker (λ byte. 32 < byte) (λ byte. is_space byte ≡ false) (λ byte is. ne_eqb byte 32 (λ e. absurd (omega (arith, e, is)))) (slices_word n) high))
+    ap (filter is_word) (slice_split_none is_space (slices_word n) (All-weaker (λ byte. 32 < byte)
+    (λ byte. is_space byte ≡ false) (λ byte is. ne_eqb byte 32 (λ e. absurd (omega (arith, e, is))))
+    (slices_word n) high))
     ∙ first-word (slices_word n) [] (omega (arith, each.some, length-append (decimal SLICE) (42 ∷ decimal n))) in
     rw (not-edged (slices_word n) high, words, word-gives n some few) (ap Some (append-nil (replicate n SLICE)))
 
@@ -416,7 +440,9 @@ slice-lines n count =
 two-lines : (line : List ℕ) (slices : List ℕ) → line_slices line ≡ Some slices → are_few_slices slices ≡ true → outcome line_slices are_few_slices (line ∷ [] ∷ []) ≡ Ok slices
 two-lines line slices reads few =
     let texts : List (List ℕ) = line ∷ [] ∷ [] in
-    let first : ReadSoFar line_slices are_few_slices texts (0 + 1) ([] ++ slices) = ReadSoFar-next line_slices are_few_slices texts 0 [] slices line (ReadSoFar-start line_slices are_few_slices texts) (omega arith) refl reads few in
+    let first : ReadSoFar line_slices are_few_slices texts (0 + 1) ([] ++ slices) = ReadSoFar-next line_slices
+    are_few_slices texts 0 [] slices line (ReadSoFar-start line_slices are_few_slices texts) (omega arith) refl
+    reads few in
     let same : slices ++ [] ≡ slices = append-nil slices in
     all_read line_slices are_few_slices texts 2 (slices ++ []) (ReadSoFar-next line_slices are_few_slices texts 1 slices [] [] first (omega arith) refl refl (rw same few)) (omega arith) ∙ ap Ok same
 
@@ -427,7 +453,10 @@ slices-give typed are = by typed.slices are
     by zero are = refl
     by (suc n) are =
         let few : suc n ≤ 1000000 = omega (arith, are.few, length-replicate (suc n) SLICE) in
-        let keeps : are_few_slices (replicate (suc n) SLICE) ≡ true = and_from (nat_le (length (replicate (suc n) SLICE)) 1000000) (nat_le (sum (replicate (suc n) SLICE)) 10000000) (le-leb (length (replicate (suc n) SLICE)) 1000000 are.few) (le-leb (sum (replicate (suc n) SLICE)) 10000000 are.total) in
+        let keeps : are_few_slices (replicate (suc n) SLICE) ≡ true = and_from
+        (nat_le (length (replicate (suc n) SLICE)) 1000000) (nat_le (sum (replicate (suc n) SLICE)) 10000000)
+        (le-leb (length (replicate (suc n) SLICE)) 1000000 are.few) (le-leb (sum (replicate (suc n) SLICE))
+        10000000 are.total) in
         let none : (suc n == 0) ≡ false = ne_eqb (suc n) 0 (λ e. absurd (omega (arith, e))) in
         ap (λ (empty : Bool). slices_of (if empty then [] else decimal SLICE ++ codes "*" ++ decimal (suc n) ++ 10 ∷ [])) none
         ∙ ap (λ (texts : List (List ℕ)). outcome line_slices are_few_slices texts) (slice-lines (suc n) (spelled (suc n) (omega (arith, few))))

@@ -73,7 +73,8 @@ module _ (number : ℕ → ℕ) where
   block_with (block ∷ names) object = if number block == object then block else block_with names object
 
   -- where different blocks have different numbers, that is the block
-  pub block_with-is : (names : List ℕ) (block : ℕ) → ((other : ℕ) → 0 < times other names → number other ≡ number block → other ≡ block) → 0 < times block names → block_with names (number block) ≡ block
+  pub block_with-is : (names : List ℕ) (block : ℕ) → ((other : ℕ) → 0 < times other names → number other ≡ number
+      block → other ≡ block) → 0 < times block names → block_with names (number block) ≡ block
   block_with-is [] block apart has = absurd (omega arith)
   block_with-is (first ∷ names) block apart has =
       elim (cases_eq (number first) (number block)) [

@@ -39,6 +39,8 @@ module _ (kernel : Kernel) (devices : Outside) (s t : State) (stands : Represent
 
   pub representation-is-unique : DifferInNumbersAlone s t
   representation-is-unique = record {
-    memory = memories-differ kernel.processes.memory.pool kernel.processes.memory.maps.items kernel.processes.memory.dir kernel.processes.memory.sound s.inner.memory memory stands.inner.memory stands_too.inner.memory;
+    memory = memories-differ kernel.processes.memory.pool kernel.processes.memory.maps.items
+        kernel.processes.memory.dir kernel.processes.memory.sound s.inner.memory memory stands.inner.memory
+        stands_too.inner.memory;
     rest = rest;
   }

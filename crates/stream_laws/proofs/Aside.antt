@@ -69,7 +69,9 @@ device-or-quiet it = by_device (device_call it.call) refl
     by_touch (inl on) moves = inl on
     by_touch (inr none) moves = inr (record { none = none; moves = moves })
 
-    by_file : (device : IoCall) → device_call it.call ≡ Some device → takes_number device ≡ true → (file : Option OpenFile) → open_file it.files it.process (path_number device (regs_in it)) ≡ file → OnDevice it ⊎ IsQuiet it
+    by_file : (device : IoCall) → device_call it.call ≡ Some device → takes_number device ≡ true
+        → (file : Option OpenFile) → open_file it.files it.process (path_number device (regs_in it)) ≡ file
+        → OnDevice it ⊎ IsQuiet it
     by_file device is takes None none =
         inl (number-of it (path_number device (regs_in it)) (record { device = device; device_is = is; takes = takes; named = refl }) none)
     by_file device is takes (Some file) there = by_touch (comes-of it) moves
@@ -77,7 +79,9 @@ device-or-quiet it = by_device (device_call it.call) refl
         moves : MovesNoByte it
         moves call call_is (way, way_is, opened, open_is, on) =
             let same : call ≡ device = same_Some call device (sym call_is ∙ is) in
-            let named : open_path it.files.io it.process (path_number device (regs_in it)) ≡ Some opened = ap (λ (call : IoCall). open_path it.files.io it.process (path_number call (regs_in it))) (sym same) ∙ open_is in
+            let named : open_path it.files.io it.process (path_number device (regs_in it)) ≡ Some opened = ap
+            (λ (call : IoCall). open_path it.files.io it.process (path_number call (regs_in it))) (sym same) ∙
+            open_is in
             none-some file (sym (device-no-file it.files it.process (path_number device (regs_in it)) opened named on) ∙ there)
 
     by_number : (device : IoCall) → device_call it.call ≡ Some device → (takes : Bool) → takes_number device ≡ takes → OnDevice it ⊎ IsQuiet it

@@ -40,10 +40,13 @@ device-asked code = by_load (code == F_LOAD) refl
     by_time None is = by_path (path_call_of code) refl
     by_time (Some call) is = found-code (λ n c. io_call_of n ≡ None) time_codes code call (refl, (refl, tt)) is
 
-    by_call : (call : Option ProcCall) → call_of code ≡ call → io_call_of code ≡ device_of (option_map_or on_processes call (option_map_or on_time (time_call_of code) (option_map_or on_paths (path_call_of code) no_call)))
+    by_call : (call : Option ProcCall) → call_of code ≡ call → io_call_of code ≡ device_of (option_map_or on_processes
+        call (option_map_or on_time (time_call_of code) (option_map_or on_paths (path_call_of code) no_call)))
     by_call None is = by_time (time_call_of code) refl
     by_call (Some call) is = none-of (io_call_of code) (λ other there. not-both code call other is there)
 
-    by_load : (load : Bool) → (code == F_LOAD) ≡ load → io_call_of code ≡ device_of (if load then loads else option_map_or on_processes (call_of code) (option_map_or on_time (time_call_of code) (option_map_or on_paths (path_call_of code) no_call)))
+    by_load : (load : Bool) → (code == F_LOAD) ≡ load → io_call_of code ≡ device_of
+        (if load then loads else option_map_or on_processes (call_of code) (option_map_or on_time (time_call_of code)
+        (option_map_or on_paths (path_call_of code) no_call)))
     by_load true is = ap io_call_of (eqb-true code F_LOAD is)
     by_load false is = by_call (call_of code) refl

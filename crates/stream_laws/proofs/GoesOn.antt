@@ -77,13 +77,17 @@ module _ (m : Inner) (p : ℕ) where
 
   abbrev making : Program → ℕ → CallResult
   making program child =
-      changes (started m.memory child program.entered.number (blocks_of_pages program.pages)) (λ memory. done (with_regs_of (with_child m p child program memory) p (forked_regs (regs_at m p) child program)))
+      changes (started m.memory child program.entered.number (blocks_of_pages program.pages))
+      (λ memory. done (with_regs_of (with_child m p child program memory) p (forked_regs (regs_at m p) child
+      program)))
 
   forks-go : (program : Program) → GoesOn (forks m p program)
   forks-go program =
       of-needs (free_process m.records) E_PRCFUL (λ child. refuses (nat_lt most_pages program.pages) E_MEMFUL (making program child))
       (λ child. of-refuses (nat_lt most_pages program.pages) E_MEMFUL (making program child)
-      (of-changes (started m.memory child program.entered.number (blocks_of_pages program.pages)) (λ memory. done (with_regs_of (with_child m p child program memory) p (forked_regs (regs_at m p) child program))) (λ memory. tt)))
+      (of-changes (started m.memory child program.entered.number (blocks_of_pages program.pages))
+      (λ memory. done (with_regs_of (with_child m p child program memory) p (forked_regs (regs_at m p) child
+      program))) (λ memory. tt)))
 
   abbrev beginning : Program → CallResult
   beginning program =
@@ -92,7 +96,9 @@ module _ (m : Inner) (p : ℕ) where
   chains-go : (program : Program) → GoesOn (chains m p program)
   chains-go program =
       of-refuses (nat_lt most_pages program.pages) E_MEMFUL (beginning program)
-      (of-changes (started m.memory p program.entered.number (blocks_of_pages program.pages)) (λ memory. done (without_primary_link (begun_anew (with_program m p program memory) p program) (own_at m p))) (λ memory. tt))
+      (of-changes (started m.memory p program.entered.number (blocks_of_pages program.pages))
+      (λ memory. done (without_primary_link (begun_anew (with_program m p program memory) p program)
+      (own_at m p))) (λ memory. tt))
 
   fork-goes : GoesOn (f_fork m p)
   fork-goes = program-goes (forks m p) forks-go
@@ -102,15 +108,21 @@ module _ (m : Inner) (p : ℕ) where
 
 -- ---- a program of a file
 
-goes-loaded : (m : Inner) (reading : Result ProgramFile ℕ) (next : ProgramFile → Loaded → CallResult) (result : CallResult) → ((file : ProgramFile) (loaded : Loaded) → GoesOn (next file loaded)) → GoesOnLoaded m reading next result → GoesOn result
+goes-loaded : (m : Inner) (reading : Result ProgramFile ℕ) (next : ProgramFile → Loaded → CallResult)
+    (result : CallResult) → ((file : ProgramFile) (loaded : Loaded) → GoesOn (next file loaded))
+    → GoesOnLoaded m reading next result → GoesOn result
 goes-loaded m (Err number) next result goes is = subst GoesOn (sym is) tt
 goes-loaded m (Ok file) next result goes (Err number, loads, is) = subst GoesOn (sym is) tt
 goes-loaded m (Ok file) next result goes (Ok loaded, loads, is) = subst GoesOn (sym is) (goes file loaded)
 
 module _ (m : Inner) (p : ℕ) where
-  first-goes : (start : Inner → ℕ → Program → CallResult) → ((n : Inner) (program : Program) → GoesOn (start n p program)) → (file : ProgramFile) (loaded : Loaded) → GoesOn (starts_first start m p file loaded)
+  first-goes : (start : Inner → ℕ → Program → CallResult) → ((n : Inner) (program : Program)
+      → GoesOn (start n p program)) → (file : ProgramFile) (loaded : Loaded)
+      → GoesOn (starts_first start m p file loaded)
   first-goes start goes file loaded =
-      of-refuses (not (loaded.first.entry.info.kind == program_kind)) E_NEMOD (start (with_memory m loaded.memory) p (loaded_program m p file loaded.first)) (goes (with_memory m loaded.memory) (loaded_program m p file loaded.first))
+      of-refuses (not (loaded.first.entry.info.kind == program_kind)) E_NEMOD (start (with_memory m loaded.memory) p
+      (loaded_program m p file loaded.first)) (goes (with_memory m loaded.memory)
+      (loaded_program m p file loaded.first))
 
   links-go : (file : ProgramFile) (loaded : Loaded) → GoesOn (links_first m p file loaded)
   links-go file loaded =

@@ -104,7 +104,9 @@ module _ (n tick : ℕ) where
       record {
         keys = it.taken;
         come =
-            come-found old.terms n here.device.0 here.device.2 ∙ it.in_order ∙ ap (λ (keys : List Key). it.taken ++ keys) (sym (ap (λ (terms : List TerminalState). come_of terms n) here.device.3 ∙ come-put old.terms n here.device.0 here.device.1 here.device.2));
+            come-found old.terms n here.device.0 here.device.2 ∙ it.in_order ∙ ap (λ (keys : List Key). it.taken ++
+            keys) (sym (ap (λ (terms : List TerminalState). come_of terms n) here.device.3 ∙ come-put old.terms n
+            here.device.0 here.device.1 here.device.2));
         line = record {
           line = ap (λ (t : Terminal). t.line) (at ∙ it.kept);
           reading = ap (λ (t : Terminal). t.reading) (at ∙ it.kept);
@@ -123,7 +125,9 @@ module _ (n tick : ℕ) where
       reading = ap (λ (desk : Desk). (terminal_at desk.io n).reading) is;
     };
     ahead =
-        ap (λ (desk : Desk). (terminal_at desk.io n).ahead) is ∙ sym (append-nil (terminal_at old.io n).ahead) ∙ ap (λ (none : List ℕ). (terminal_at old.io n).ahead ++ none) (sym (take-none (TYPE_AHEAD - length (terminal_at old.io n).ahead)));
+        ap (λ (desk : Desk). (terminal_at desk.io n).ahead) is ∙ sym (append-nil (terminal_at old.io n).ahead) ∙ ap
+        (λ (none : List ℕ). (terminal_at old.io n).ahead ++ none)
+        (sym (take-none (TYPE_AHEAD - length (terminal_at old.io n).ahead)));
     places = ap (λ (desk : Desk). length desk.io.terminals) is;
   }
   arrivals-polled m (suc count) old new within few (between, here, later) =

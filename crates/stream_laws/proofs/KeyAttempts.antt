@@ -86,7 +86,9 @@ left-set Cause n io m terminal it =
     at_it =
         elim (cases_lt m (length io.terminals)) [
           | inl within ↦ subst (TermLeft (Cause m) (terminal_at io m)) (sym (get_or-set_same io.terminals m terminal new_terminal within)) it
-          | inr past ↦ term-same (Cause m) (terminal_at io m) (terminal_at (with_terminal io m terminal) m) (get_or_past (with_terminal io m terminal).terminals m new_terminal (rw length-set past) ∙ sym (get_or_past io.terminals m new_terminal past))
+          | inr past ↦ term-same (Cause m) (terminal_at io m) (terminal_at (with_terminal io m terminal) m)
+              (get_or_past (with_terminal io m terminal).terminals m new_terminal (rw length-set past) ∙ sym
+              (get_or_past io.terminals m new_terminal past))
         ]
 
     by_place : (n ≡ m) ⊎ (n ≢ m) → TermLeft (Cause n) (terminal_at io n) (terminal_at (with_terminal io m terminal) n)
@@ -119,7 +121,9 @@ released-left p t = by_reader (reader t) refl
 forgotten-term : (p : ℕ) (t : Terminal) → TermLeft (reader t ≡ Some (pid p)) t (forgotten (pid p) t)
 forgotten-term p t = by_user (option_map_or (is_process (pid p)) t.user false)
   where
-    by_line : LineStays t (released (pid p) t) ⊎ (reader t ≡ Some (pid p)) × LineGoes t.line (released (pid p) t) → LineStays t (record (released (pid p) t) { user = None }) ⊎ (reader t ≡ Some (pid p)) × LineGoes t.line (record (released (pid p) t) { user = None })
+    by_line : LineStays t (released (pid p) t) ⊎ (reader t ≡ Some (pid p)) × LineGoes t.line (released (pid p) t)
+        → LineStays t (record (released (pid p) t) { user = None }) ⊎ (reader t ≡ Some (pid p)) × LineGoes t.line
+        (record (released (pid p) t) { user = None })
     by_line (inl stays) = inl (record { line = stays.line; reading = stays.reading })
     by_line (inr (reads_it, goes)) = inr (reads_it, record { line = goes.line; reading = goes.reading })
 
@@ -153,8 +157,12 @@ forgotten-left : (n : ℕ) (io : Io) (p : ℕ) → AheadLeft (IsReader io p n) n
 forgotten-left n io p = record {
   terminal =
       elim (cases_lt n (length io.terminals)) [
-        | inl within ↦ subst (TermLeft (IsReader io p n) (terminal_at io n)) (sym (get_or-map (forgotten (pid p)) io.terminals n new_terminal new_terminal within)) (forgotten-term p (terminal_at io n))
-        | inr past ↦ term-same (IsReader io p n) (terminal_at io n) (terminal_at (without_user io p) n) (get_or_past (without_user io p).terminals n new_terminal (rw length-map past) ∙ sym (get_or_past io.terminals n new_terminal past))
+        | inl within ↦ subst (TermLeft (IsReader io p n) (terminal_at io n))
+            (sym (get_or-map (forgotten (pid p)) io.terminals n new_terminal new_terminal within))
+            (forgotten-term p (terminal_at io n))
+        | inr past ↦ term-same (IsReader io p n) (terminal_at io n) (terminal_at (without_user io p) n)
+            (get_or_past (without_user io p).terminals n new_terminal (rw length-map past) ∙ sym
+            (get_or_past io.terminals n new_terminal past))
       ];
   places = simp length-map;
 }
@@ -199,7 +207,10 @@ interrupted-drops n io p waits_on is =
 pub ended-drops : (n : ℕ) (io : Io) (p : ℕ) → IsReader io p n → (terminal_at (io_ended io p) n).reading ≡ None
 ended-drops n io p is =
     elim (cases_lt n (length closed.terminals)) [
-      | inl within ↦ ap (λ (t : Terminal). t.reading) (get_or-map (forgotten (pid p)) closed.terminals n new_terminal new_terminal within) ∙ forgotten-drops p (terminal_at closed n) (ap (λ (terminals : List Terminal). reader (slice_index_or terminals n new_terminal)) (all-closed io p PROCESS_PATHS) ∙ is)
+      | inl within ↦ ap (λ (t : Terminal). t.reading) (get_or-map (forgotten (pid p)) closed.terminals n new_terminal
+          new_terminal within) ∙ forgotten-drops p (terminal_at closed n)
+          (ap (λ (terminals : List Terminal). reader (slice_index_or terminals n new_terminal))
+          (all-closed io p PROCESS_PATHS) ∙ is)
       | inr past ↦ ap (λ (t : Terminal). t.reading) (get_or_past (without_user closed p).terminals n new_terminal (rw length-map past))
     ]
   where
@@ -237,13 +248,16 @@ pub record Uses (Fails : Type 0) (caller : Caller) (request : Reading) (old new 
   pub ends : Ends Fails caller (typed request old.line keys) request new bytes end
 
 -- keys up to one whose echo failed
-broken-line : (step : Editing → ℕ → Edited) (line : Editing) (front : List ℕ) (key : ℕ) → (typing step line front).end ≡ None → (typing step line (front ++ key ∷ [])).line ≡ (step (typing step line front).line key).line
+broken-line : (step : Editing → ℕ → Edited) (line : Editing) (front : List ℕ) (key : ℕ) → (typing step line front).end
+    ≡ None → (typing step line (front ++ key ∷ [])).line ≡ (step (typing step line front).line key).line
 broken-line step line front key unfinished =
     ap (λ (it : Typing). it.line) (typing-append step line front (key ∷ []))
     ∙ ap (λ (end : Option LineEnd). (goes_on end step (typing step line front) (key ∷ [])).line) unfinished
     ∙ by_end (step (typing step line front).line key).end
   where
-    by_end : (end : Option LineEnd) → (after_key end (step (typing step line front).line key) [] (typing step (step (typing step line front).line key).line [])).line ≡ (step (typing step line front).line key).line
+    by_end : (end : Option LineEnd) → (after_key end (step (typing step line front).line key) []
+        (typing step (step (typing step line front).line key).line [])).line ≡ (step (typing step line front).line
+        key).line
     by_end None = refl
     by_end (Some end) = refl
 
@@ -257,7 +271,9 @@ broken-left step line front key unfinished =
     by_end None = refl
     by_end (Some end) = refl
 
-broken-uses : (Fails : Type 0) (caller : Caller) (request : Reading) (old new : Terminal) (before now : TerminalState) (bytes : List ℕ) → Fails → is_taken request.process old ≡ false → (it : BreaksOff request old new before now) → Uses Fails caller request old new (it.front ++ it.key ∷ []) bytes (fails E_WRITE)
+broken-uses : (Fails : Type 0) (caller : Caller) (request : Reading) (old new : Terminal) (before now : TerminalState)
+    (bytes : List ℕ) → Fails → is_taken request.process old ≡ false → (it : BreaksOff request old new before now)
+    → Uses Fails caller request old new (it.front ++ it.key ∷ []) bytes (fails E_WRITE)
 broken-uses Fails caller request old new before now bytes failed alone it = record {
   alone = alone;
   front =
@@ -278,19 +294,45 @@ module _ (Fails : Type 0) (caller : Caller) (read : TerminalRead) (old new : Ter
   asked = request_of caller read
 
   -- by how the line ended
-  over-ends : (full made : Typing) (bytes : List ℕ) → made ≡ used_up full → (full.end ≡ None → full.left ≡ []) → (over : Option LineEnd) → full.end ≡ over → read_ends caller read (attempt_by over full asked).answer ≡ Some end → new ≡ (attempt_by over full asked).terminal → bytes ≡ (attempt_by over full asked).stored → Ends Fails caller made asked new bytes end
+  over-ends : (full made : Typing) (bytes : List ℕ) → made ≡ used_up full → (full.end ≡ None → full.left ≡ [])
+      → (over : Option LineEnd) → full.end ≡ over → read_ends caller read (attempt_by over full asked).answer ≡ Some
+      end → new ≡ (attempt_by over full asked).terminal → bytes ≡ (attempt_by over full asked).stored
+      → Ends Fails caller made asked new bytes end
   over-ends full made bytes is all None over answered at stores_them =
-      subst (Ends Fails caller made asked new bytes) (same_Some (keeps read.call) end answered)
-      (ap (λ (it : Typing). it.end) is ∙ over, ap (λ (t : Terminal). t.line) at ∙ sym (ap (λ (it : Typing). it.line) is), ap (λ (t : Terminal). t.reading) at, ap (λ (t : Terminal). t.ahead) at ∙ all over, stores_them)
+      subst (Ends Fails caller made asked new bytes) (same_Some (keeps read.call) end answered) (
+        ap (λ (it : Typing). it.end) is ∙ over,
+        ap (λ (t : Terminal). t.line) at ∙ sym (ap (λ (it : Typing). it.line)
+            is),
+        ap (λ (t : Terminal). t.reading) at,
+        ap (λ (t : Terminal). t.ahead) at ∙ all over,
+        stores_them,
+      )
   over-ends full made bytes is all (Some EndOfFile) over answered at stores_them =
-      subst (Ends Fails caller made asked new bytes) (same_Some (fails E_EOF) end answered)
-      (inl (ap (λ (it : Typing). it.end) is ∙ over, refl), record { line = ap (λ (t : Terminal). t.line) at ∙ sym (ap (λ (it : Typing). cleared it.line) is); reading = ap (λ (t : Terminal). t.reading) at })
+      subst (Ends Fails caller made asked new bytes) (same_Some (fails E_EOF) end answered) (
+        inl (ap (λ (it : Typing). it.end) is ∙ over, refl),
+        record {
+          line = ap (λ (t : Terminal). t.line) at ∙ sym
+              (ap (λ (it : Typing). cleared it.line) is);
+          reading = ap (λ (t : Terminal). t.reading) at;
+        },
+      )
   over-ends full made bytes is all (Some Line) over answered at stores_them =
-      subst (Ends Fails caller made asked new bytes) (same_Some (answers (count_regs caller (length full.line.bytes))) end answered)
-      (ap (λ (it : Typing). it.end) is ∙ over, ap (λ (it : Typing). count_regs caller (length it.line.bytes)) (sym is), stores_them ∙ ap (λ (it : Typing). it.line.bytes) (sym is), record { line = ap (λ (t : Terminal). t.line) at ∙ sym (ap (λ (it : Typing). cleared it.line) is); reading = ap (λ (t : Terminal). t.reading) at })
+      subst (Ends Fails caller made asked new bytes) (same_Some (answers (count_regs caller (length full.line.bytes))) end answered) (
+        ap (λ (it : Typing). it.end) is ∙ over,
+        ap (λ (it : Typing). count_regs caller (length it.line.bytes))
+            (sym is),
+        stores_them ∙ ap (λ (it : Typing). it.line.bytes) (sym is),
+        record {
+          line = ap (λ (t : Terminal). t.line) at ∙ sym (ap (λ (it : Typing). cleared it.line) is);
+          reading = ap
+              (λ (t : Terminal). t.reading) at;
+        },
+      )
 
   -- an attempt that types keys
-  typed-uses : (bytes : List ℕ) → is_taken asked.process old ≡ false → read_ends caller read (typed_attempt asked old).answer ≡ Some end → new ≡ (typed_attempt asked old).terminal → bytes ≡ (typed_attempt asked old).stored → (keys : List ℕ) × Uses Fails caller asked old new keys bytes end
+  typed-uses : (bytes : List ℕ) → is_taken asked.process old ≡ false → read_ends caller read
+      (typed_attempt asked old).answer ≡ Some end → new ≡ (typed_attempt asked old).terminal
+      → bytes ≡ (typed_attempt asked old).stored → (keys : List ℕ) × Uses Fails caller asked old new keys bytes end
   typed-uses bytes alone answered at stores_them =
       let used = uses-front (key_effect asked) old.line old.ahead in (
         used.0,
@@ -300,7 +342,9 @@ module _ (Fails : Type 0) (caller : Caller) (read : TerminalRead) (old new : Ter
               used.1 ∙ ap (λ (left : List ℕ). used.0 ++ left) (sym (ap (λ (t : Terminal). t.ahead) at ∙ left-is (typed asked old.line old.ahead).end (typed asked old.line old.ahead)));
           used = ap (λ (it : Typing). it.left) used.2;
           ends =
-              over-ends (typed asked old.line old.ahead) (typed asked old.line used.0) bytes used.2 (uses-all (key_effect asked) old.line old.ahead) (typed asked old.line old.ahead).end refl answered at stores_them;
+              over-ends (typed asked old.line old.ahead) (typed asked old.line used.0) bytes used.2
+              (uses-all (key_effect asked) old.line old.ahead) (typed asked old.line old.ahead).end refl answered
+              at stores_them;
         },
       )
     where
@@ -319,11 +363,16 @@ module _ (Fails : Type 0) (caller : Caller) (read : TerminalRead) (old new : Ter
   abbrev Came : List ℕ → Type 0
   Came bytes = Stands bytes ⊎ ((keys : List ℕ) × Uses Fails caller asked old new keys bytes end)
 
-  whole-uses : (answer : Progress) (before now : TerminalState) (bytes : List ℕ) → Attempted (read_attempt asked old) answer new before now → read_ends caller read answer ≡ Some end → bytes ≡ (read_attempt asked old).stored → Came bytes
+  whole-uses : (answer : Progress) (before now : TerminalState) (bytes : List ℕ) → Attempted (read_attempt asked old)
+      answer new before now → read_ends caller read answer ≡ Some end → bytes ≡ (read_attempt asked old).stored
+      → Came bytes
   whole-uses answer before now bytes it answered stores_them =
       by_turn (is_taken asked.process old) refl (subst (λ (answer : Progress). read_ends caller read answer ≡ Some end) it.answer_is answered) it.terminal stores_them
     where
-      by_turn : (taken : Bool) → is_taken asked.process old ≡ taken → read_ends caller read (if taken then kept_waiting asked old else typed_attempt asked old).answer ≡ Some end → new ≡ (if taken then kept_waiting asked old else typed_attempt asked old).terminal → bytes ≡ (if taken then kept_waiting asked old else typed_attempt asked old).stored → Came bytes
+      by_turn : (taken : Bool) → is_taken asked.process old ≡ taken → read_ends caller read
+          (if taken then kept_waiting asked old else typed_attempt asked old).answer ≡ Some end
+          → new ≡ (if taken then kept_waiting asked old else typed_attempt asked old).terminal
+          → bytes ≡ (if taken then kept_waiting asked old else typed_attempt asked old).stored → Came bytes
       by_turn true is answered at stores_them =
           inl (record {
             left = record { ahead = ap (λ (t : Terminal). t.ahead) at; line = inl (record { line = ap (λ (t : Terminal). t.line) at; reading = ap (λ (t : Terminal). t.reading) at }) };
@@ -333,7 +382,9 @@ module _ (Fails : Type 0) (caller : Caller) (read : TerminalRead) (old new : Ter
           })
       by_turn false is answered at stores_them = inr (typed-uses bytes is answered at stores_them)
 
-  read-uses : (answer : Progress) (before now : TerminalState) → (Rose before.faults now.faults → Fails) → Reads asked answer old new before now → read_ends caller read answer ≡ Some end → Came (stored_bytes answer asked old)
+  read-uses : (answer : Progress) (before now : TerminalState) → (Rose before.faults now.faults → Fails)
+      → Reads asked answer old new before now → read_ends caller read answer ≡ Some end
+      → Came (stored_bytes answer asked old)
   read-uses (Progress.Done count) before now failed it answered =
       whole-uses (Progress.Done count) before now (read_attempt asked old).stored it.outcome answered refl
   read-uses Progress.Wait before now failed it answered =
@@ -341,7 +392,12 @@ module _ (Fails : Type 0) (caller : Caller) (read : TerminalRead) (old new : Ter
   read-uses Progress.End before now failed it answered =
       whole-uses Progress.End before now (read_attempt asked old).stored it.outcome answered refl
   read-uses Progress.Fault before now failed it answered =
-      inr (it.outcome.front ++ it.outcome.key ∷ [], subst (Uses Fails caller asked old new (it.outcome.front ++ it.outcome.key ∷ []) []) (same_Some (fails E_WRITE) end answered) (broken-uses Fails caller asked old new before now [] (failed it.driver.faults) (it.turn refl) it.outcome))
+      inr (
+        it.outcome.front ++ it.outcome.key ∷ [],
+        subst (Uses Fails caller asked old new
+            (it.outcome.front ++ it.outcome.key ∷ []) []) (same_Some (fails E_WRITE) end answered)
+            (broken-uses Fails caller asked old new before now [] (failed it.driver.faults) (it.turn refl) it.outcome),
+      )
   read-uses Progress.NoMemory before now failed it answered = absurd (none-some end answered)
 
 -- ---- the keys to come, and the faults
@@ -356,7 +412,9 @@ come-set (x ∷ terms) zero (suc n) old new is same = refl
 come-set (x ∷ terms) (suc m) zero old new is same = refl
 come-set (x ∷ terms) (suc m) (suc n) old new is same = come-set terms m n old new is same
 
-come-one : (change : TerminalState → TerminalState → Type 0) (m n : ℕ) (before after : List TerminalState) → ((old new : TerminalState) → change old new → new.keys ≡ old.keys) → ChangesOneTerminal change m before after → come_of after n ≡ come_of before n
+come-one : (change : TerminalState → TerminalState → Type 0) (m n : ℕ) (before after : List TerminalState)
+    → ((old new : TerminalState) → change old new → new.keys ≡ old.keys) → ChangesOneTerminal change m before after
+    → come_of after n ≡ come_of before n
 come-one change m n before after same (old, new, found, is, changed) =
     ap (λ (terms : List TerminalState). come_of terms n) is ∙ come-set before m n old new found (same old new changed)
 
@@ -369,7 +427,9 @@ put-found (x ∷ terms) zero old new is = refl
 put-found (x ∷ terms) (suc n) old new is = put-found terms n old new is
 
 -- the count of one terminal rose
-rose-one : (change : TerminalState → TerminalState → Type 0) (m : ℕ) (before after : List TerminalState) → (it : ChangesOneTerminal change m before after) → Rose it.0.faults it.1.faults → Rose (faults_of before m) (faults_of after m)
+rose-one : (change : TerminalState → TerminalState → Type 0) (m : ℕ) (before after : List TerminalState)
+    → (it : ChangesOneTerminal change m before after) → Rose it.0.faults it.1.faults → Rose (faults_of before m)
+    (faults_of after m)
 rose-one change m before after (old, new, found, is, changed) rose =
     let count : Option TerminalState → ℕ = λ place. option_map_or (λ (terminal : TerminalState). terminal.faults) place 0 in
     subst (λ (k : ℕ). Rose k (faults_of after m)) (sym (ap count found))
@@ -395,7 +455,12 @@ EndsUnused call caller io n effect =
 abbrev pub Moved : IoCall → Caller → Io → ℕ → List TerminalState → List TerminalState → IoEffect → Type 0
 Moved call caller io n before after effect =
     AheadLeft (WriteRefused call caller io effect.end before after n) n io effect.io × EndsUnused call caller io n effect
-    ⊎ ((kind : ReadKind) × (call ≡ read_call kind) × ((opened : OpenPath) × (open_path io caller.process.0 caller.regs.a ≡ Some opened) × (opened.desc.target ≡ Term n)) × (length effect.io.terminals ≡ length io.terminals) × (effect.at ≡ caller.regs.x) × ((keys : List ℕ) × Uses (Failed before after n) caller (reading_of kind io caller.process.0 caller.regs) (terminal_at io n) (terminal_at effect.io n) keys effect.bytes effect.end))
+    ⊎ ((kind : ReadKind) × (call ≡ read_call kind) ×
+    ((opened : OpenPath) × (open_path io caller.process.0 caller.regs.a ≡ Some opened) ×
+    (opened.desc.target ≡ Term n)) × (length effect.io.terminals ≡ length io.terminals) ×
+    (effect.at ≡ caller.regs.x) × ((keys : List ℕ) × Uses (Failed before after n) caller
+    (reading_of kind io caller.process.0 caller.regs) (terminal_at io n) (terminal_at effect.io n) keys
+    effect.bytes effect.end))
 
 -- a read moves bytes one way
 read-way : (call : IoCall) (kind : ReadKind) → call ≡ read_call kind → direction_of_call call ≡ Some Way.Reading
@@ -417,7 +482,10 @@ number_in (Pipe pipe) = 0
 terminal-in : (m n : ℕ) → Term m ≡ Term n → m ≡ n
 terminal-in m n is = ap number_in is
 
-write-left : (write : TerminalWrite) (end : IoEnd) (Cause : Type 0) → (process : Pid) (answer : Progress) (old new : Terminal) (before now : TerminalState) → (end ≡ fails E_WRITE → Rose before.faults now.faults → Cause) → write_ends write answer ≡ Some end → Writes process write.put write.count answer old new before now → TermLeft Cause old new
+write-left : (write : TerminalWrite) (end : IoEnd) (Cause : Type 0) → (process : Pid) (answer : Progress)
+    (old new : Terminal) (before now : TerminalState) → (end ≡ fails E_WRITE → Rose before.faults now.faults → Cause)
+    → write_ends write answer ≡ Some end → Writes process write.put write.count answer old new before now
+    → TermLeft Cause old new
 write-left write end Cause process (Progress.Done count) old new before now causes is it = record {
   ahead = ap (λ (t : Terminal). t.ahead) it.outcome.terminal;
   line =
@@ -428,14 +496,27 @@ write-left write end Cause process Progress.End old new before now causes is it 
 write-left write end Cause process Progress.Fault old new before now causes is it = record {
   ahead = ap (λ (t : Terminal). t.ahead) it.outcome.terminal;
   line =
-      inr (causes (sym (same_Some (fails E_WRITE) end is)) it.driver.faults, record { line = ap (λ (t : Terminal). t.line) it.outcome.terminal; reading = ap (λ (t : Terminal). t.reading) it.outcome.terminal });
+      inr (
+        causes (sym (same_Some (fails E_WRITE) end is)) it.driver.faults,
+        record {
+          line = ap (λ (t : Terminal). t.line) it.outcome.terminal;
+          reading = ap (λ (t : Terminal). t.reading)
+              it.outcome.terminal;
+        },
+      );
 }
 write-left write end Cause process Progress.NoMemory old new before now causes is it = absurd (none-some end is)
 
 module _ (call : IoCall) (caller : Caller) (io : Io) (n : ℕ) (within : n < length io.terminals) (before after : List TerminalState) where
-  read-moves : (read : TerminalRead) (effect : IoEffect) (kind : ReadKind) → call ≡ read_call kind → IsReadOn kind caller io read → ReadsTerminal caller io read effect before after → Moved call caller io n before after effect
+  read-moves : (read : TerminalRead) (effect : IoEffect) (kind : ReadKind) → call ≡ read_call kind
+      → IsReadOn kind caller io read → ReadsTerminal caller io read effect before after → Moved call caller io n
+      before after effect
   read-moves read effect kind call_is on it =
-      subst (λ (effect : IoEffect). Moved call caller io n before after effect) (sym it.effect_is) (by_uses (read-uses (Failed before after read.terminal) caller read (terminal_at io read.terminal) it.new it.end it.answer it.device.0 it.device.1 (rose-one (Reads (request_of caller read) it.answer (terminal_at io read.terminal) it.new) read.terminal before after it.device) it.device.4 it.ends))
+      subst (λ (effect : IoEffect). Moved call caller io n before after effect) (sym it.effect_is)
+      (by_uses (read-uses (Failed before after read.terminal) caller read (terminal_at io read.terminal) it.new
+      it.end it.answer it.device.0 it.device.1
+      (rose-one (Reads (request_of caller read) it.answer (terminal_at io read.terminal) it.new) read.terminal
+      before after it.device) it.device.4 it.ends))
     where
       put : n ≡ read.terminal → terminal_at (with_terminal io read.terminal it.new) n ≡ it.new
       put same =
@@ -446,13 +527,37 @@ module _ (call : IoCall) (caller : Caller) (io : Io) (n : ℕ) (within : n < len
       here path =
           terminal-in n read.terminal (sym (one-target caller io on.path.0 n on.path.1 path) ∙ on.path.2)
 
-      by_place : (keys : List ℕ) → Uses (Failed before after read.terminal) caller (request_of caller read) (terminal_at io read.terminal) it.new keys (stored_bytes it.answer (request_of caller read) (terminal_at io read.terminal)) it.end → (n ≡ read.terminal) ⊎ (n ≢ read.terminal) → Moved call caller io n before after (read_leaves caller io read it.answer it.new it.end)
+      by_place : (keys : List ℕ) → Uses (Failed before after read.terminal) caller (request_of caller read)
+          (terminal_at io read.terminal) it.new keys (stored_bytes it.answer (request_of caller read)
+          (terminal_at io read.terminal)) it.end → (n ≡ read.terminal) ⊎ (n ≢ read.terminal) → Moved call caller io n
+          before after (read_leaves caller io read it.answer it.new it.end)
       by_place keys uses (inl same) =
-          inr (kind, call_is, (on.path.0, on.path.1, on.path.2 ∙ ap Term (sym same)), length-set io.terminals read.terminal it.new, refl, (keys, subst (λ (request : Reading). Uses (Failed before after n) caller request (terminal_at io n) (terminal_at (with_terminal io read.terminal it.new) n) keys (stored_bytes it.answer (request_of caller read) (terminal_at io read.terminal)) it.end) on.request (subst (λ (t : Terminal). Uses (Failed before after n) caller (request_of caller read) (terminal_at io n) t keys (stored_bytes it.answer (request_of caller read) (terminal_at io read.terminal)) it.end) (sym (put same)) (subst (λ (m : ℕ). Uses (Failed before after m) caller (request_of caller read) (terminal_at io m) it.new keys (stored_bytes it.answer (request_of caller read) (terminal_at io read.terminal)) it.end) (sym same) uses))))
+          inr (
+            kind,
+            call_is,
+            (on.path.0, on.path.1, on.path.2 ∙ ap Term (sym same)),
+            length-set io.terminals
+                read.terminal it.new,
+            refl,
+            (
+              keys,
+              subst (λ (request : Reading). Uses (Failed before after n) caller
+                  request (terminal_at io n) (terminal_at (with_terminal io read.terminal it.new) n) keys
+                  (stored_bytes it.answer (request_of caller read) (terminal_at io read.terminal)) it.end) on.request
+                  (subst (λ (t : Terminal). Uses (Failed before after n) caller (request_of caller read)
+                  (terminal_at io n) t keys (stored_bytes it.answer (request_of caller read)
+                  (terminal_at io read.terminal)) it.end) (sym (put same))
+                  (subst (λ (m : ℕ). Uses (Failed before after m) caller (request_of caller read) (terminal_at io m)
+                  it.new keys (stored_bytes it.answer (request_of caller read) (terminal_at io read.terminal)) it.end)
+                  (sym same) uses)),
+            ),
+          )
       by_place keys uses (inr apart) = inl (
         record {
           terminal =
-              term-same (WriteRefused call caller io it.end before after n) (terminal_at io n) (terminal_at (with_terminal io read.terminal it.new) n) (get_or-set_other io.terminals read.terminal n it.new new_terminal apart);
+              term-same (WriteRefused call caller io it.end before after n) (terminal_at io n)
+              (terminal_at (with_terminal io read.terminal it.new) n) (get_or-set_other io.terminals read.terminal
+              n it.new new_terminal apart);
           places = length-set io.terminals read.terminal it.new;
         },
         λ other other_is path. absurd (apart (here path)),
@@ -461,9 +566,16 @@ module _ (call : IoCall) (caller : Caller) (io : Io) (n : ℕ) (within : n < len
       never : (Cause : Type 0) → ⊥ → Cause
       never Cause none = absurd none
 
-      by_uses : Stands (Failed before after read.terminal) caller read (terminal_at io read.terminal) it.new it.end (stored_bytes it.answer (request_of caller read) (terminal_at io read.terminal)) ⊎ ((keys : List ℕ) × Uses (Failed before after read.terminal) caller (request_of caller read) (terminal_at io read.terminal) it.new keys (stored_bytes it.answer (request_of caller read) (terminal_at io read.terminal)) it.end) → Moved call caller io n before after (read_leaves caller io read it.answer it.new it.end)
+      by_uses : Stands (Failed before after read.terminal) caller read (terminal_at io read.terminal) it.new it.end
+          (stored_bytes it.answer (request_of caller read) (terminal_at io read.terminal)) ⊎
+          ((keys : List ℕ) × Uses (Failed before after read.terminal) caller (request_of caller read)
+          (terminal_at io read.terminal) it.new keys (stored_bytes it.answer (request_of caller read)
+          (terminal_at io read.terminal)) it.end) → Moved call caller io n before after (read_leaves caller io read
+          it.answer it.new it.end)
       by_uses (inl same) = inl (
-        left-set (WriteRefused call caller io it.end before after) n io read.terminal it.new (term-for ⊥ (WriteRefused call caller io it.end before after read.terminal) (terminal_at io read.terminal) it.new (never (WriteRefused call caller io it.end before after read.terminal)) same.left),
+        left-set (WriteRefused call caller io it.end before after) n io read.terminal it.new
+            (term-for ⊥ (WriteRefused call caller io it.end before after read.terminal) (terminal_at io read.terminal)
+            it.new (never (WriteRefused call caller io it.end before after read.terminal)) same.left),
         λ other other_is path. (
           subst (UsesNone n caller io) same.over (ap (λ (m : ℕ). is_taken caller.process (terminal_at io m)) (here path) ∙ same.taken),
           same.none,
@@ -471,7 +583,9 @@ module _ (call : IoCall) (caller : Caller) (io : Io) (n : ℕ) (within : n < len
       )
       by_uses (inr (keys, uses)) = by_place keys uses (cases_eq n read.terminal)
 
-  pub does-moves : (step : IoStep) (effect : IoEffect) → StepGives call (λ (new : Io). new.terminals ≡ io.terminals) caller io step → StepReads call caller io step → StepWrites call caller io step → Does step caller io effect before after → Moved call caller io n before after effect
+  pub does-moves : (step : IoStep) (effect : IoEffect) → StepGives call (λ (new : Io). new.terminals ≡ io.terminals)
+      caller io step → StepReads call caller io step → StepWrites call caller io step → Does step caller io effect
+      before after → Moved call caller io n before after effect
   does-moves (refused number) effect gives facts on (is, same) = inl (
     left-same (WriteRefused call caller io effect.end before after n) n io effect.io (ap (λ (effect : IoEffect). effect.io.terminals) is),
     λ kind kind_is path. subst (λ (effect : IoEffect). UsesNone n caller io effect.end × (effect.bytes ≡ [])) (sym is) (facts (read-way call kind kind_is), refl),
@@ -484,7 +598,18 @@ module _ (call : IoCall) (caller : Caller) (io : Io) (n : ℕ) (within : n < len
   )
   does-moves (reads read) effect gives (kind, call_is, on) none does = read-moves read effect kind call_is on does
   does-moves (writes write) effect gives facts on it = inl (
-    subst (λ (effect : IoEffect). AheadLeft (WriteRefused call caller io effect.end before after n) n io effect.io) (sym it.effect_is) (left-set (WriteRefused call caller io it.end before after) n io write.terminal it.new (write-left write it.end (WriteRefused call caller io it.end before after write.terminal) caller.process it.answer (terminal_at io write.terminal) it.new it.device.0 it.device.1 (λ refuses_it failed. (gives.0, on, refuses_it, rose-one (Writes caller.process write.put write.count it.answer (terminal_at io write.terminal) it.new) write.terminal before after it.device failed)) it.ends it.device.4)),
+    subst (λ (effect : IoEffect). AheadLeft (WriteRefused call caller io effect.end before after n) n io effect.io)
+        (sym it.effect_is) (left-set (WriteRefused call caller io it.end before after) n io write.terminal it.new
+        (write-left write it.end (WriteRefused call caller io it.end before after write.terminal) caller.process
+        it.answer (terminal_at io write.terminal) it.new it.device.0 it.device.1
+        (λ refuses_it failed. (
+          gives.0,
+          on,
+          refuses_it,
+          rose-one (Writes caller.process write.put write.count
+              it.answer (terminal_at io write.terminal) it.new) write.terminal before after it.device failed,
+        )) it.ends
+        it.device.4)),
     λ kind kind_is path. absurd (reading-writing (sym (read-way call kind kind_is) ∙ gives.0)),
   )
 

@@ -98,9 +98,17 @@ module _ (s : State) (p n : ℕ) (chosen : s.chosen ≡ Some p) (has : HasAhead 
   attempts-none t none q kind chosen_is it =
       let same : q ≡ p = same_Some q p (sym chosen_is ∙ chosen) in
       let here : ReadsFrom s p n kind = subst (λ (q : ℕ). ReadsFrom s q n kind) same it in
-      absurd (none here.attempted.0 (read_call kind) here.attempted.1 here.attempted.2 (Way.Reading, read-way kind, here.path.0, named kind here.path.0 here.path.1, ap (λ (target : Target). place_of_target target) here.path.2))
+      absurd (none here.attempted.0 (read_call kind) here.attempted.1 here.attempted.2 (
+        Way.Reading,
+        read-way kind,
+        here.path.0,
+        named kind here.path.0 here.path.1,
+        ap (λ (target : Target). place_of_target target)
+            here.path.2,
+      ))
     where
-      named : (kind : ReadKind) (opened : OpenPath) → open_path s.files.io p (regs_at s.inner p).a ≡ Some opened → open_path s.files.io p (path_number (read_call kind) (regs_at s.inner p)) ≡ Some opened
+      named : (kind : ReadKind) (opened : OpenPath) → open_path s.files.io p (regs_at s.inner p).a ≡ Some opened
+          → open_path s.files.io p (path_number (read_call kind) (regs_at s.inner p)) ≡ Some opened
       named Bytes opened is = is
       named WholeLine opened is = is
 
@@ -112,7 +120,9 @@ module _ (s : State) (p n : ℕ) (chosen : s.chosen ≡ Some p) (has : HasAhead 
         has-then t it.places (omega (arith, same)),
       )
     where
-      by_line : LineStays (terminal_at s.files.io n) (terminal_at t.files.io n) ⊎ Causes end t × LineGoes (terminal_at s.files.io n).line (terminal_at t.files.io n) → LineStays (terminal_at s.files.io n) (terminal_at t.files.io n) ⊎ DropsLine n s end t
+      by_line : LineStays (terminal_at s.files.io n) (terminal_at t.files.io n) ⊎ Causes end t × LineGoes
+          (terminal_at s.files.io n).line (terminal_at t.files.io n) → LineStays (terminal_at s.files.io n)
+          (terminal_at t.files.io n) ⊎ DropsLine n s end t
       by_line (inl stays) = inl stays
       by_line (inr (cause, goes)) = inr (record { process = p; chosen = chosen; cause = cause; goes = goes })
 
@@ -126,7 +136,9 @@ module _ (s : State) (p n : ℕ) (chosen : s.chosen ≡ Some p) (has : HasAhead 
   stopped end t it drops come none =
       left end t (left-for (ReaderStops n p s end) (Causes end t) n s.files.io t.files.io (λ stops. inl stops) it) drops come (attempts-none t none)
 
-  module _ (code : ℕ) (call : IoCall) (result : CallResult) (rest : Rest) (next : act_of s.inner p ≡ attempts code) (coded : io_call_of code ≡ Some call) (attempt : IoAttempts call s.inner s.files.io (length s.files.drives) p result rest.files.io s.terms rest.terms) (end : EventEnd) (over : end ≡ call_event_end result) where
+  module _ (code : ℕ) (call : IoCall) (result : CallResult) (rest : Rest) (next : act_of s.inner p ≡ attempts code)
+      (coded : io_call_of code ≡ Some call) (attempt : IoAttempts call s.inner s.files.io (length s.files.drives) p
+      result rest.files.io s.terms rest.terms) (end : EventEnd) (over : end ≡ call_event_end result) where
     abbrev last : State
     last = with_rest s (after_attempt s.inner p result) rest
 
@@ -155,7 +167,10 @@ module _ (s : State) (p n : ℕ) (chosen : s.chosen ≡ Some p) (has : HasAhead 
     }
 
     -- how its read ends
-    read-ends : (request : Reading) (made : Typing) (over : IoEnd) → attempt.effect.at ≡ (regs_at s.inner p).x → result ≡ result_by over s.inner p attempt.effect → Ends (Failed s.terms rest.terms n) (caller_of s.inner p) made request (terminal_at attempt.effect.io n) attempt.effect.bytes over → ReadEnds n s p request made last over
+    read-ends : (request : Reading) (made : Typing) (over : IoEnd) → attempt.effect.at ≡ (regs_at s.inner p).x
+        → result ≡ result_by over s.inner p attempt.effect → Ends (Failed s.terms rest.terms n) (caller_of s.inner p)
+        made request (terminal_at attempt.effect.io n) attempt.effect.bytes over → ReadEnds n s p request made last
+        over
     read-ends request made (answers regs) at is (ended, counted, bytes, goes) = (
       ended,
       counted,
@@ -175,7 +190,9 @@ module _ (s : State) (p n : ℕ) (chosen : s.chosen ≡ Some p) (has : HasAhead 
     by_moved : Moved call (caller_of s.inner p) s.files.io n s.terms rest.terms attempt.effect → Comes end last
     by_moved (inl (it, unused)) = left end last (record {
       terminal =
-          subst (TermLeft (Causes end last) (terminal_at s.files.io n)) (sym terminal-then) (term-for (WriteRefused call (caller_of s.inner p) s.files.io attempt.effect.end s.terms rest.terms n) (Causes end last) (terminal_at s.files.io n) (terminal_at attempt.effect.io n) write-fails it.terminal);
+          subst (TermLeft (Causes end last) (terminal_at s.files.io n)) (sym terminal-then)
+          (term-for (WriteRefused call (caller_of s.inner p) s.files.io attempt.effect.end s.terms rest.terms n)
+          (Causes end last) (terminal_at s.files.io n) (terminal_at attempt.effect.io n) write-fails it.terminal);
       places = ap (length {A = Terminal}) terminals-then ∙ it.places;
     }) (λ stops reads_it. absurd (attempt-reads end code next (goes-on-ended attempt.effect.end attempt.result_is) stops)) come-then reads_none
       where
@@ -196,7 +213,9 @@ module _ (s : State) (p n : ℕ) (chosen : s.chosen ≡ Some p) (has : HasAhead 
         reads_none : Reads_none last
         reads_none q kind chosen_is on =
             let same : q ≡ p = same_Some q p (sym chosen_is ∙ chosen) in
-            subst (λ (q : ℕ). EndsIn s q (UsesNone n (caller_of s.inner q) s.files.io) last × (last.inner.memory ≡ s.inner.memory)) (sym same) (here kind (subst (λ (q : ℕ). ReadsFrom s q n kind) same on))
+            subst (λ (q : ℕ). EndsIn s q (UsesNone n (caller_of s.inner q) s.files.io) last ×
+            (last.inner.memory ≡ s.inner.memory)) (sym same)
+            (here kind (subst (λ (q : ℕ). ReadsFrom s q n kind) same on))
 
         goes-on-ended : (it : IoEnd) → result ≡ result_by it s.inner p attempt.effect → end ≡ Ended → ⊥
         goes-on-ended (answers regs) is ended_it = ran-ended (sym (over ∙ ap call_event_end is) ∙ ended_it)
@@ -243,7 +262,15 @@ module _ (s : State) (p n : ℕ) (chosen : s.chosen ≡ Some p) (has : HasAhead 
       where
         gives : StepGives call (λ (new : Io). new.terminals ≡ s.files.io.terminals) (caller_of s.inner p) s.files.io (step_of call s.inner p s.files.io (length s.files.drives) s.terms)
         gives =
-            step-gives call (λ (new : Io). new.terminals ≡ s.files.io.terminals) (caller_of s.inner p) s.files.io (length s.files.drives) (length s.terms) (record { same = refl; pipes = λ pipes. refl; dup = refl; close = closed-terminals s.files.io p (regs_at s.inner p).a; on_terminal = λ terminal there. refl; on_pipe = λ pipe free. refl })
+            step-gives call (λ (new : Io). new.terminals ≡ s.files.io.terminals) (caller_of s.inner p) s.files.io
+            (length s.files.drives) (length s.terms) (record {
+              same = refl;
+              pipes = λ pipes. refl;
+              dup = refl;
+              close = closed-terminals s.files.io p (regs_at s.inner p).a;
+              on_terminal = λ terminal there. refl;
+              on_pipe = λ pipe free. refl;
+            })
 
   -- ---- by what the process does
 
@@ -265,7 +292,8 @@ module _ (s : State) (p n : ℕ) (chosen : s.chosen ≡ Some p) (has : HasAhead 
 
     delivery-leaves : (signal : ℕ) → act_of s.inner p ≡ delivers signal → (result : Result Inner ℕ) → end ≡ delivery_end result → Leaves (files_after_delivery s.files p result).io
     delivery-leaves signal next (Ok t) over =
-        left-for (IsReader s.files.io p n) (ReaderStops n p s end) n s.files.io (io_interrupted s.files.io p) (λ reads_it. record { reads = reads_it; stops = inr (signal, next) }) (interrupted-left n s.files.io p)
+        left-for (IsReader s.files.io p n) (ReaderStops n p s end) n s.files.io (io_interrupted s.files.io p)
+        (λ reads_it. record { reads = reads_it; stops = inr (signal, next) }) (interrupted-left n s.files.io p)
     delivery-leaves signal next (Err status) over = ended-by over
 
     runs-on : (it : EventEnd) → end ≡ it → (it ≡ Ended → ⊥) → end ≡ Ended → ⊥
@@ -294,7 +322,8 @@ module _ (s : State) (p n : ℕ) (chosen : s.chosen ≡ Some p) (has : HasAhead 
     going-on (ends status) over goes = absurd goes
 
     -- an attempt beside terminals and pipes
-    aside-comes : (code : ℕ) (result : CallResult) (rest : Rest) → end ≡ call_event_end result → act_of s.inner p ≡ attempts code → IsAside s p result rest → Comes end (with_rest s (after_attempt s.inner p result) rest)
+    aside-comes : (code : ℕ) (result : CallResult) (rest : Rest) → end ≡ call_event_end result → act_of s.inner p ≡
+        attempts code → IsAside s p result rest → Comes end (with_rest s (after_attempt s.inner p result) rest)
     aside-comes code result rest over next it =
         stopped end (with_rest s (after_attempt s.inner p result) rest) (leaves it.io) (drops it.io) (ap (λ (terms : List TerminalState). come_of terms n) it.terms) it.moves
       where
@@ -308,15 +337,22 @@ module _ (s : State) (p n : ℕ) (chosen : s.chosen ≡ Some p) (has : HasAhead 
         drops (inr (status, is, gone)) =
             subst (Drops end) (sym gone) (λ stops reads_it. ended-drops n s.files.io p reads_it)
 
-    call-comes : (code : ℕ) (result : CallResult) (rest : Rest) → end ≡ call_event_end result → act_of s.inner p ≡ attempts code → IsOnDevice code s p result rest ⊎ IsAside s p result rest → Comes end (with_rest s (after_attempt s.inner p result) rest)
+    call-comes : (code : ℕ) (result : CallResult) (rest : Rest) → end ≡ call_event_end result → act_of s.inner p ≡
+        attempts code → IsOnDevice code s p result rest ⊎ IsAside s p result rest
+        → Comes end (with_rest s (after_attempt s.inner p result) rest)
     call-comes code result rest over next (inl on) = io-comes code on.call result rest next on.coded on.attempt end over
     call-comes code result rest over next (inr it) = aside-comes code result rest over next it
 
     acts-come : (act : Act) (t : State) → act_of s.inner p ≡ act → Acts act s p end t → Comes end t
     acts-come executes t next (over, is) =
-        subst (Comes end) (sym is) (stopped end _ (instruction-leaves (next_instruction s.inner p) over) (instruction-drops next (next_instruction s.inner p) over) refl (none-moves s p (none-executing (act_of s.inner p) next)))
+        subst (Comes end) (sym is) (stopped end _ (instruction-leaves (next_instruction s.inner p) over)
+        (instruction-drops next (next_instruction s.inner p) over) refl
+        (none-moves s p (none-executing (act_of s.inner p) next)))
     acts-come (delivers signal) t next (over, is) =
-        subst (Comes end) (sym is) (stopped end _ (delivery-leaves signal next (delivered (before_delivery s p) p signal) over) (delivery-drops (delivered (before_delivery s p) p signal) over) refl (none-moves s p (none-delivering (act_of s.inner p) signal next)))
+        subst (Comes end) (sym is)
+        (stopped end _ (delivery-leaves signal next (delivered (before_delivery s p) p signal) over)
+        (delivery-drops (delivered (before_delivery s p) p signal) over) refl
+        (none-moves s p (none-delivering (act_of s.inner p) signal next)))
     acts-come (attempts code) t next (result, rest, (now, is_now, it), over, is) =
         subst (Comes end) (sym is) (call-comes code result rest over next (served s p code next now rest (service_of code) result (device-asked code) it))
 

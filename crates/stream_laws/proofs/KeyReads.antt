@@ -81,19 +81,33 @@ module _ (kind : ReadKind) (code : ℕ) (caller : Caller) (io : Io) where
       by_kept None = refl
       by_kept (Some kept) = refl
 
-  on-target : (opened : OpenPath) → open_path io caller.process.0 caller.regs.a ≡ Some opened → (target : Target) → opened.desc.target ≡ target → Is (reads_target kind caller io (call_now caller io code opened caller.regs.y) target)
+  on-target : (opened : OpenPath) → open_path io caller.process.0 caller.regs.a ≡ Some opened → (target : Target)
+      → opened.desc.target ≡ target → Is (reads_target kind caller io (call_now caller io code opened caller.regs.y)
+      target)
   on-target opened is (File drive sector) on = λ way. other-service
   on-target opened is (Folder drive sector) on = λ way. other-service
   on-target opened is (Pipe pipe) on =
       λ way n path. absurd (pipe-term pipe n (sym on ∙ one-target caller io opened n is path))
-  on-target opened is (Term terminal) on =
-      (kind, refl, record { path = (opened, is, on); request = ap (λ (count : ℕ). let r : Reading = record { process = caller.process; kind = kind; most = min count TYPE_AHEAD } in r) (asked-is opened) })
+  on-target opened is (Term terminal) on = (
+    kind,
+    refl,
+    record {
+      path = (opened, is, on);
+      request = ap (λ (count : ℕ). let r : Reading = record
+          { process = caller.process; kind = kind; most = min count TYPE_AHEAD } in r) (asked-is opened);
+    },
+  )
 
-  on-open : (opened : Option OpenPath) → open_path io caller.process.0 caller.regs.a ≡ opened → Is (needs opened E_BPNUM (λ opened. refuses (not (can_read opened.desc.mode)) E_BMODE (unless_nothing caller io (reads_target kind caller io (call_now caller io code opened caller.regs.y) opened.desc.target))))
+  on-open : (opened : Option OpenPath) → open_path io caller.process.0 caller.regs.a ≡ opened
+      → Is (needs opened E_BPNUM (λ opened. refuses (not (can_read opened.desc.mode)) E_BMODE
+      (unless_nothing caller io (reads_target kind caller io (call_now caller io code opened caller.regs.y)
+      opened.desc.target))))
   on-open None is = λ way. other-number
   on-open (Some opened) is = by_tests (can_read opened.desc.mode) (caller.regs.y == 0) refl
     where
-      by_tests : (allowed nothing : Bool) → (caller.regs.y == 0) ≡ nothing → Is (refuses (not allowed) E_BMODE (if nothing then done caller.regs io else reads_target kind caller io (call_now caller io code opened caller.regs.y) opened.desc.target))
+      by_tests : (allowed nothing : Bool) → (caller.regs.y == 0) ≡ nothing
+          → Is (refuses (not allowed) E_BMODE (if nothing then done caller.regs io else reads_target kind caller io
+          (call_now caller io code opened caller.regs.y) opened.desc.target))
       by_tests false nothing none = λ way. other-mode
       by_tests true true none = λ way n path. (eqb-true caller.regs.y 0 none, refl)
       by_tests true false none = on-target opened is opened.desc.target refl
@@ -101,12 +115,16 @@ module _ (kind : ReadKind) (code : ℕ) (caller : Caller) (io : Io) where
   pub read-reads : Is (reads_path kind code caller io)
   read-reads = by_buffer (is_none (user_bytes caller.cells caller.regs.x caller.regs.y))
     where
-      by_buffer : (is_missing : Bool) → Is (refuses is_missing E_BPADDR (on_path caller io caller.regs.a can_read (λ opened. unless_nothing caller io (reads_target kind caller io (call_now caller io code opened caller.regs.y) opened.desc.target))))
+      by_buffer : (is_missing : Bool) → Is (refuses is_missing E_BPADDR (on_path caller io caller.regs.a can_read
+          (λ opened. unless_nothing caller io (reads_target kind caller io (call_now caller io code opened
+          caller.regs.y) opened.desc.target))))
       by_buffer true = λ way. other-address
       by_buffer false = on-open (open_path io caller.process.0 caller.regs.a) refl
 
 -- a call that does not read reads no terminal
-other-reads : (call : IoCall) (P : Io → Type 0) (caller : Caller) (io : Io) → (direction_of_call call ≡ Some Way.Reading → ⊥) → (step : IoStep) → StepGives call P caller io step → StepReads call caller io step
+other-reads : (call : IoCall) (P : Io → Type 0) (caller : Caller) (io : Io)
+    → (direction_of_call call ≡ Some Way.Reading → ⊥) → (step : IoStep) → StepGives call P caller io step
+    → StepReads call caller io step
 other-reads call P caller io other (refused number) gives = λ way. absurd (other way)
 other-reads call P caller io other (comes effect) gives = λ way. absurd (other way)
 other-reads call P caller io other (reads read) gives = absurd (other gives.0)
@@ -118,7 +136,9 @@ none-reads is = cc
 write-reads : Some Way.Writing ≡ Some Way.Reading → ⊥
 write-reads is = cc
 
-pub step-reads : (call : IoCall) (P : Io → Type 0) (caller : Caller) (io : Io) (drives terms : ℕ) → StepGives call P caller io (io_step call caller io drives terms) → StepReads call caller io (io_step call caller io drives terms)
+pub step-reads : (call : IoCall) (P : Io → Type 0) (caller : Caller) (io : Io) (drives terms : ℕ)
+    → StepGives call P caller io (io_step call caller io drives terms) → StepReads call caller io
+    (io_step call caller io drives terms)
 step-reads Call.Read P caller io drives terms gives = read-reads Bytes I_READ caller io
 step-reads Call.ReadLn P caller io drives terms gives = read-reads WholeLine I_READLN caller io
 step-reads Call.Dup P caller io drives terms gives = other-reads Call.Dup P caller io none-reads (io_step Call.Dup caller io drives terms) gives

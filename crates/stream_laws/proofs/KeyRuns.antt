@@ -80,7 +80,10 @@ follow-from s m (it ∷ steps) t stands linked = (stands-then s m it.before stan
 
 -- ---- what passes, by its parts
 
-passes : (n : ℕ) (s : State) (states : List State) (t : State) (steps : List KeyStep) → filter_map (λ (it : KeyStep). after_event it.move it.after) steps ≡ states → FollowOn s steps t → AllByRecursion (IsKeyStep n) steps → keys_to_come s n ≡ flat_map (λ (it : KeyStep). arrived_by it.move) steps ++ keys_to_come t n → Flows (ahead_moves n steps) (ahead_at s n) (ahead_at t n) → KeysPass n s states t
+passes : (n : ℕ) (s : State) (states : List State) (t : State) (steps : List KeyStep)
+    → filter_map (λ (it : KeyStep). after_event it.move it.after) steps ≡ states → FollowOn s steps t
+    → AllByRecursion (IsKeyStep n) steps → keys_to_come s n ≡ flat_map (λ (it : KeyStep). arrived_by it.move) steps ++
+    keys_to_come t n → Flows (ahead_moves n steps) (ahead_at s n) (ahead_at t n) → KeysPass n s states t
 passes n s states t steps are linked each come flow = record {
   steps = steps;
   through = are;
@@ -109,7 +112,9 @@ keeps-from n s m states t stands (it, has) = (
 keeps-tick : (n : ℕ) (s m : State) (states : List State) (t : State) (keys : List Key) → Tick s m → KeysArrive n s keys m → Keeps n m states t → Keeps n s states t
 keeps-tick n s m states t keys ticks arrives (it, has) = (
   passes n s states t (record { before = s; move = arrive keys; after = m } ∷ it.steps) it.through (stands-same s, it.linked) (inl (keys, refl, ticks, arrives), it.each)
-      (arrives.come ∙ ap (λ (rest : List Key). keys ++ rest) it.come ∙ sym (append_assoc keys (flat_map (λ (it : KeyStep). arrived_by it.move) it.steps) (keys_to_come t n))) (ahead_at m n, arrives.kept, it.flow),
+      (arrives.come ∙ ap (λ (rest : List Key). keys ++ rest) it.come ∙ sym
+      (append_assoc keys (flat_map (λ (it : KeyStep). arrived_by it.move) it.steps) (keys_to_come t n)))
+      (ahead_at m n, arrives.kept, it.flow),
   has,
 )
 

@@ -36,13 +36,18 @@ module _ (call : IoCall) (caller : Caller) (io : Io) where
   abbrev Is : IoStep → Type 0
   Is step = StepWrites call caller io step
 
-  on-target : (sending : Sending) (now : Kept) (opened : OpenPath) → open_path io caller.process.0 (path_number call caller.regs) ≡ Some opened → (target : Target) → opened.desc.target ≡ target → Is (writes_target sending caller io now target)
+  on-target : (sending : Sending) (now : Kept) (opened : OpenPath) → open_path io caller.process.0
+      (path_number call caller.regs) ≡ Some opened → (target : Target) → opened.desc.target ≡ target
+      → Is (writes_target sending caller io now target)
   on-target sending now opened is (File drive sector) on = tt
   on-target sending now opened is (Folder drive sector) on = tt
   on-target sending now opened is (Pipe pipe) on = tt
   on-target sending now opened is (Term terminal) on = (opened, is, on)
 
-  on-open : (next : OpenPath → IoStep) → ((opened : OpenPath) → open_path io caller.process.0 (path_number call caller.regs) ≡ Some opened → Is (next opened)) → (opened : Option OpenPath) → open_path io caller.process.0 (path_number call caller.regs) ≡ opened → Is (needs opened E_BPNUM (λ opened. refuses (not (can_write opened.desc.mode)) E_BMODE (next opened)))
+  on-open : (next : OpenPath → IoStep) → ((opened : OpenPath) → open_path io caller.process.0
+      (path_number call caller.regs) ≡ Some opened → Is (next opened)) → (opened : Option OpenPath)
+      → open_path io caller.process.0 (path_number call caller.regs) ≡ opened
+      → Is (needs opened E_BPNUM (λ opened. refuses (not (can_write opened.desc.mode)) E_BMODE (next opened)))
   on-open next writes_it None is = tt
   on-open next writes_it (Some opened) is = by_mode (can_write opened.desc.mode)
     where
@@ -54,11 +59,15 @@ module _ (call : IoCall) (caller : Caller) (io : Io) where
   nothing-writes true next writes_it = tt
   nothing-writes false next writes_it = writes_it
 
-  send-writes : (sending : List ℕ → Sending) (code : ℕ) (bytes : Option (List ℕ)) → Is (needs bytes E_BPADDR (λ bytes. on_path caller io (path_number call caller.regs) can_write (λ opened. unless_nothing caller io (sends_on (sending bytes) code caller io opened))))
+  send-writes : (sending : List ℕ → Sending) (code : ℕ) (bytes : Option (List ℕ))
+      → Is (needs bytes E_BPADDR (λ bytes. on_path caller io (path_number call caller.regs) can_write
+      (λ opened. unless_nothing caller io (sends_on (sending bytes) code caller io opened))))
   send-writes sending code None = tt
   send-writes sending code (Some bytes) =
       on-open (λ opened. unless_nothing caller io (sends_on (sending bytes) code caller io opened))
-      (λ opened is. nothing-writes (caller.regs.y == 0) (sends_on (sending bytes) code caller io opened) (on-target (sending bytes) (call_now caller io code opened (length (sending bytes).bytes)) opened is opened.desc.target refl))
+      (λ opened is. nothing-writes (caller.regs.y == 0) (sends_on (sending bytes) code caller io opened)
+      (on-target (sending bytes) (call_now caller io code opened (length (sending bytes).bytes)) opened is
+      opened.desc.target refl))
       (open_path io caller.process.0 (path_number call caller.regs)) refl
 
   error-writes : Is (on_path caller io (path_number call caller.regs) can_write (λ opened. sends_on (sent_error caller) F_PERR caller io opened))
@@ -68,7 +77,9 @@ module _ (call : IoCall) (caller : Caller) (io : Io) where
       (open_path io caller.process.0 (path_number call caller.regs)) refl
 
 -- a call that does not write writes to no terminal
-other-writes : (call : IoCall) (P : Io → Type 0) (caller : Caller) (io : Io) → (direction_of_call call ≡ Some Way.Writing → ⊥) → (step : IoStep) → StepGives call P caller io step → StepWrites call caller io step
+other-writes : (call : IoCall) (P : Io → Type 0) (caller : Caller) (io : Io)
+    → (direction_of_call call ≡ Some Way.Writing → ⊥) → (step : IoStep) → StepGives call P caller io step
+    → StepWrites call caller io step
 other-writes call P caller io other (refused number) gives = tt
 other-writes call P caller io other (comes effect) gives = tt
 other-writes call P caller io other (reads read) gives = tt
@@ -80,7 +91,9 @@ none-writes is = cc
 read-writes : Some Way.Reading ≡ Some Way.Writing → ⊥
 read-writes is = cc
 
-pub step-writes : (call : IoCall) (P : Io → Type 0) (caller : Caller) (io : Io) (drives terms : ℕ) → StepGives call P caller io (io_step call caller io drives terms) → StepWrites call caller io (io_step call caller io drives terms)
+pub step-writes : (call : IoCall) (P : Io → Type 0) (caller : Caller) (io : Io) (drives terms : ℕ)
+    → StepGives call P caller io (io_step call caller io drives terms) → StepWrites call caller io
+    (io_step call caller io drives terms)
 step-writes Call.Write P caller io drives terms gives =
     send-writes Call.Write caller io (sent_bytes caller) I_WRITE (user_bytes caller.cells caller.regs.x caller.regs.y)
 step-writes Call.WritLn P caller io drives terms gives =

@@ -45,7 +45,9 @@ interrupted-left n io p = unfinished-left n io p (wait_target io p)
 
 -- ---- an attempt of a call on paths
 
-pub does-moves : (call : IoCall) (caller : Caller) (io : Io) (n : ℕ) (step : IoStep) (effect : IoEffect) (before after : List TerminalState) → StepMoves call caller io n step → Does step caller io effect before after → IsPipe io.pipes n → IsPipe effect.io.pipes n → Moved call caller io n effect
+pub does-moves : (call : IoCall) (caller : Caller) (io : Io) (n : ℕ) (step : IoStep) (effect : IoEffect)
+    (before after : List TerminalState) → StepMoves call caller io n step → Does step caller io effect before after
+    → IsPipe io.pipes n → IsPipe effect.io.pipes n → Moved call caller io n effect
 does-moves call caller io n (refused number) effect before after moves (is, same) lives still =
     inl (subst (λ (effect : IoEffect). Leaves call caller io n effect) (sym is) (record { held = refl; ends = λ way coded on. (tt, refl) }))
 does-moves call caller io n (comes it) effect before after moves (is, same) lives still =
@@ -56,7 +58,9 @@ does-moves call caller io n (writes write) effect before after moves does lives 
     inl (record { held = ap (λ (effect : IoEffect). pipe_bytes effect.io n) does.effect_is; ends = λ way coded on. absurd (moves on) })
 
 -- and a pipe that was not there is empty, if it is there
-pub does-fresh : (call : IoCall) (caller : Caller) (io : Io) (n : ℕ) (step : IoStep) (effect : IoEffect) (before after : List TerminalState) → StepMoves call caller io n step → Does step caller io effect before after → IsAbsent call caller io n → StaysEmpty n effect.io
+pub does-fresh : (call : IoCall) (caller : Caller) (io : Io) (n : ℕ) (step : IoStep) (effect : IoEffect)
+    (before after : List TerminalState) → StepMoves call caller io n step → Does step caller io effect before after
+    → IsAbsent call caller io n → StaysEmpty n effect.io
 does-fresh call caller io n (refused number) effect before after moves (is, same) absent =
     inl (ap (λ (effect : IoEffect). pipe_of effect.io.pipes n) is ∙ absent.none)
 does-fresh call caller io n (comes it) effect before after moves (is, same) absent =

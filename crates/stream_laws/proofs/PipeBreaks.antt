@@ -47,7 +47,10 @@ module _ (m : Inner) (p signal moved : ℕ) (lives : IsLiving m.records p) where
   Tells result = (delivery_end result ≡ Ended) ⊎ TellsMoved m p signal moved (after_delivery found p result)
 
   -- the frame, by the registers that the process had
-  frame-at : (waits : Bool) → is_waiting (record_at found.records p).life ≡ waits → stored m.memory p (stack_top (regs_at found p).s - 12) (frame_bytes (if waits then refused_regs (regs_at found p) signal else regs_at found p)) ≡ stored m.memory p (stack_top (regs_at m p).s - 12) (frame_bytes (pushed_regs m p signal moved))
+  frame-at : (waits : Bool) → is_waiting (record_at found.records p).life ≡ waits → stored m.memory p
+      (stack_top (regs_at found p).s - 12) (frame_bytes (if waits then refused_regs (regs_at found p) signal else
+      regs_at found p)) ≡ stored m.memory p (stack_top (regs_at m p).s - 12)
+      (frame_bytes (pushed_regs m p signal moved))
   frame-at waits is =
       ap (λ (regs : Regs). stored m.memory p (stack_top regs.s - 12) (frame_bytes (if waits then refused_regs regs signal else regs))) found-regs
       ∙ ap (λ (waits : Bool). stored m.memory p (stack_top (regs_at m p).s - 12) (frame_bytes (if waits then refused_regs (with_y m p moved) signal else with_y m p moved))) (sym is ∙ waits-still)
@@ -56,7 +59,11 @@ module _ (m : Inner) (p signal moved : ℕ) (lives : IsLiving m.records p) where
   routine-tells intercept =
       by_room (has_no_room found p (stack_top (regs_at found p).s)) (is_waiting (record_at found.records p).life) refl
     where
-      by_room : (none waits : Bool) → is_waiting (record_at found.records p).life ≡ waits → Tells (if none then Err E_PRCABT else Ok (with_frame (if waits then goes_on taken p (if waits then refused_regs (regs_at found p) signal else regs_at found p) else taken) p intercept signal (if waits then refused_regs (regs_at found p) signal else regs_at found p) (stack_top (regs_at found p).s - 12)))
+      by_room : (none waits : Bool) → is_waiting (record_at found.records p).life ≡ waits
+          → Tells (if none then Err E_PRCABT else Ok
+          (with_frame (if waits then goes_on taken p (if waits then refused_regs (regs_at found p) signal else regs_at
+          found p) else taken) p intercept signal (if waits then refused_regs (regs_at found p) signal else regs_at
+          found p) (stack_top (regs_at found p).s - 12)))
       by_room true waits is = inl refl
       by_room false true is = inr (record { frame = frame-at true is })
       by_room false false is = inr (record { frame = frame-at false is })
@@ -100,7 +107,9 @@ broken-tells s t end n p kept (q, chosen, living, acts) it =
     came =
         subst Came (sym (ap (broken_off s.inner p) count)) (delivery-tells s.inner p it.signal.0 kept.moved (subst (IsLiving s.inner.records) same living))
 
-    by_came : end ≡ delivery_end (delivered (before_delivery s p) p it.signal.0) → t.inner ≡ after_delivery (before_delivery s p) p (delivered (before_delivery s p) p it.signal.0) → Came (before_delivery s p) → (end ≡ Ended) ⊎ TellsMoved s.inner p it.signal.0 kept.moved t.inner
+    by_came : end ≡ delivery_end (delivered (before_delivery s p) p it.signal.0) → t.inner ≡ after_delivery
+        (before_delivery s p) p (delivered (before_delivery s p) p it.signal.0) → Came (before_delivery s p)
+        → (end ≡ Ended) ⊎ TellsMoved s.inner p it.signal.0 kept.moved t.inner
     by_came over is (inl ended_it) = inl (over ∙ ended_it)
     by_came over is (inr tells) = inr (subst (TellsMoved s.inner p it.signal.0 kept.moved) (sym is) tells)
 

@@ -57,7 +57,9 @@ module _ (s : State) (p n : ℕ) (chosen : s.chosen ≡ Some p) (lives : IsPipe 
           let here : AttemptsOn s p n call way = subst (λ (q : ℕ). AttemptsOn s q n call way) same_process on in
           absurd (none here.attempted.0 call here.attempted.1 here.attempted.2 (way, here.way_is, here.path.0, here.path.1, ap (λ (target : Target). place_of_target target) here.path.2))
 
-  module _ (code : ℕ) (call : IoCall) (result : CallResult) (rest : Rest) (next : act_of s.inner p ≡ attempts code) (coded : io_call_of code ≡ Some call) (attempt : IoAttempts call s.inner s.files.io (length s.files.drives) p result rest.files.io s.terms rest.terms) (still : IsPipe rest.files.io.pipes n) where
+  module _ (code : ℕ) (call : IoCall) (result : CallResult) (rest : Rest) (next : act_of s.inner p ≡ attempts code)
+      (coded : io_call_of code ≡ Some call) (attempt : IoAttempts call s.inner s.files.io (length s.files.drives) p
+      result rest.files.io s.terms rest.terms) (still : IsPipe rest.files.io.pipes n) where
     abbrev last : State
     last = with_rest s (after_attempt s.inner p result) rest
 
@@ -91,10 +93,13 @@ module _ (s : State) (p n : ℕ) (chosen : s.chosen ≡ Some p) (lives : IsPipe 
             let ends = it.ends way this.way_is this.path in
             (ends-in (MovesNone (caller_of s.inner p)) ends.0, memory-same ends.1)
 
-        attempted_on : (q : ℕ) (other : IoCall) (way : Direction) → s.chosen ≡ Some q → AttemptsOn s q n other way → EndsIn s q (MovesNone (caller_of s.inner q)) last × (last.inner.memory ≡ s.inner.memory)
+        attempted_on : (q : ℕ) (other : IoCall) (way : Direction) → s.chosen ≡ Some q → AttemptsOn s q n other way
+            → EndsIn s q (MovesNone (caller_of s.inner q)) last × (last.inner.memory ≡ s.inner.memory)
         attempted_on q other way chosen_is on =
             let same : q ≡ p = same_Some q p (sym chosen_is ∙ chosen) in
-            subst (λ (q : ℕ). EndsIn s q (MovesNone (caller_of s.inner q)) last × (last.inner.memory ≡ s.inner.memory)) (sym same) (here other way (subst (λ (q : ℕ). AttemptsOn s q n other way) same on))
+            subst (λ (q : ℕ). EndsIn s q (MovesNone (caller_of s.inner q)) last ×
+            (last.inner.memory ≡ s.inner.memory)) (sym same)
+            (here other way (subst (λ (q : ℕ). AttemptsOn s q n other way) same on))
     by_moved (inr (inl it)) = (
       Some (Out it.bytes),
       record {
@@ -109,7 +114,9 @@ module _ (s : State) (p n : ℕ) (chosen : s.chosen ≡ Some p) (lives : IsPipe 
       },
     )
       where
-        by_seen : (it.bytes ≡ []) ⊎ (attempt.effect.at ≡ stored_from call (regs_at s.inner p) (moved_before s.files.io p)) × IsStoring attempt.effect.end → (after_attempt s.inner p result).memory ≡ stored s.inner.memory p (stored_from call (regs_at s.inner p) (moved_before s.files.io p)) it.bytes
+        by_seen : (it.bytes ≡ []) ⊎ (attempt.effect.at ≡ stored_from call (regs_at s.inner p)
+            (moved_before s.files.io p)) × IsStoring attempt.effect.end → (after_attempt s.inner p result).memory ≡
+            stored s.inner.memory p (stored_from call (regs_at s.inner p) (moved_before s.files.io p)) it.bytes
         by_seen (inl none) =
             memory-same (it.stores_them ∙ none) ∙ sym (ap (stored s.inner.memory p (stored_from call (regs_at s.inner p) (moved_before s.files.io p))) none)
         by_seen (inr (at, storing)) =
@@ -133,11 +140,16 @@ module _ (s : State) (p n : ℕ) (chosen : s.chosen ≡ Some p) (lives : IsPipe 
 
     io-passes : Passes n s last
     io-passes =
-        by_moved (does-moves call (caller_of s.inner p) s.files.io n (step_of call s.inner p s.files.io (length s.files.drives) s.terms) attempt.effect s.terms rest.terms (step-moves call (caller_of s.inner p) s.files.io n (length s.files.drives) (length s.terms)) attempt.does lives (subst (λ (io : Io). IsPipe io.pipes n) attempt.state still))
+        by_moved (does-moves call (caller_of s.inner p) s.files.io n (step_of call s.inner p s.files.io
+        (length s.files.drives) s.terms) attempt.effect s.terms rest.terms (step-moves call (caller_of s.inner p)
+        s.files.io n (length s.files.drives) (length s.terms)) attempt.does lives
+        (subst (λ (io : Io). IsPipe io.pipes n) attempt.state still))
 
   -- ---- the event
 
-  call-passes : (code : ℕ) (result : CallResult) (rest : Rest) → act_of s.inner p ≡ attempts code → IsPipe rest.files.io.pipes n → IsOnDevice code s p result rest ⊎ IsAside s p result rest → Passes n s (with_rest s (after_attempt s.inner p result) rest)
+  call-passes : (code : ℕ) (result : CallResult) (rest : Rest) → act_of s.inner p ≡ attempts code
+      → IsPipe rest.files.io.pipes n → IsOnDevice code s p result rest ⊎ IsAside s p result rest
+      → Passes n s (with_rest s (after_attempt s.inner p result) rest)
   call-passes code result rest next still (inl on) =
       io-passes code on.call result rest next on.coded on.attempt still
   call-passes code result rest next still (inr it) =
@@ -145,11 +157,17 @@ module _ (s : State) (p n : ℕ) (chosen : s.chosen ≡ Some p) (lives : IsPipe 
 
   acts-pass : (act : Act) (end : EventEnd) (t : State) → act_of s.inner p ≡ act → Acts act s p end t → IsPipe t.files.io.pipes n → Passes n s t
   acts-pass executes end t next (over, is) still =
-      unmoved t (none-moves s p (none-executing (act_of s.inner p) next)) (left-held n s.files.io t.files.io (subst (λ (t : State). PipeLeft n s.files.io t.files.io) (sym is) (after-instruction s p n (next_instruction s.inner p))) still)
+      unmoved t (none-moves s p (none-executing (act_of s.inner p) next)) (left-held n s.files.io t.files.io
+      (subst (λ (t : State). PipeLeft n s.files.io t.files.io) (sym is)
+      (after-instruction s p n (next_instruction s.inner p))) still)
   acts-pass (delivers signal) end t next (over, is) still =
-      unmoved t (none-moves s p (none-delivering (act_of s.inner p) signal next)) (left-held n s.files.io t.files.io (subst (λ (t : State). PipeLeft n s.files.io t.files.io) (sym is) (after-delivery s p n (delivered (before_delivery s p) p signal))) still)
+      unmoved t (none-moves s p (none-delivering (act_of s.inner p) signal next)) (left-held n s.files.io t.files.io
+      (subst (λ (t : State). PipeLeft n s.files.io t.files.io) (sym is)
+      (after-delivery s p n (delivered (before_delivery s p) p signal))) still)
   acts-pass (attempts code) end t next (result, rest, (now, is_now, it), over, is) still =
-      subst (λ (t : State). Passes n s t) (sym is) (call-passes code result rest next (subst (λ (t : State). IsPipe t.files.io.pipes n) is still) (served s p code next now rest (service_of code) result (device-asked code) it))
+      subst (λ (t : State). Passes n s t) (sym is) (call-passes code result rest next
+      (subst (λ (t : State). IsPipe t.files.io.pipes n) is still) (served s p code next now rest (service_of code)
+      result (device-asked code) it))
 
 pub event-passes : (s t : State) (end : EventEnd) (n : ℕ) → Event s end t → IsPipe s.files.io.pipes n → IsPipe t.files.io.pipes n → Passes n s t
 event-passes s t end n (p, chosen, living, acts) lives still =
@@ -160,7 +178,10 @@ event-passes s t end n (p, chosen, living, acts) lives still =
 module _ (s : State) (p n : ℕ) (absent : (call : IoCall) → IsAbsent call (caller_of s.inner p) s.files.io n) (none : pipe_of s.files.io.pipes n ≡ None) where
   call-fresh : (code : ℕ) (result : CallResult) (rest : Rest) → IsOnDevice code s p result rest ⊎ IsAside s p result rest → StaysEmpty n rest.files.io
   call-fresh code result rest (inl on) =
-      subst (StaysEmpty n) (sym on.attempt.state) (by_effect (does-fresh on.call (caller_of s.inner p) s.files.io n (step_of on.call s.inner p s.files.io (length s.files.drives) s.terms) on.attempt.effect s.terms rest.terms (step-moves on.call (caller_of s.inner p) s.files.io n (length s.files.drives) (length s.terms)) on.attempt.does (absent on.call)))
+      subst (StaysEmpty n) (sym on.attempt.state) (by_effect (does-fresh on.call (caller_of s.inner p) s.files.io n
+      (step_of on.call s.inner p s.files.io (length s.files.drives) s.terms) on.attempt.effect s.terms rest.terms
+      (step-moves on.call (caller_of s.inner p) s.files.io n (length s.files.drives) (length s.terms))
+      on.attempt.does (absent on.call)))
     where
       by_effect : StaysEmpty n on.attempt.effect.io → StaysEmpty n (io_after p on.attempt.effect)
       by_effect (inl gone) = inl gone
@@ -170,9 +191,13 @@ module _ (s : State) (p n : ℕ) (absent : (call : IoCall) → IsAbsent call (ca
 
   acts-fresh : (act : Act) (end : EventEnd) (t : State) → act_of s.inner p ≡ act → Acts act s p end t → StaysEmpty n t.files.io
   acts-fresh executes end t next (over, is) =
-      subst (λ (t : State). StaysEmpty n t.files.io) (sym is) (left-empty n s.files.io (files_after_instruction s.files p (next_instruction s.inner p)).io (after-instruction s p n (next_instruction s.inner p)) none)
+      subst (λ (t : State). StaysEmpty n t.files.io) (sym is)
+      (left-empty n s.files.io (files_after_instruction s.files p (next_instruction s.inner p)).io
+      (after-instruction s p n (next_instruction s.inner p)) none)
   acts-fresh (delivers signal) end t next (over, is) =
-      subst (λ (t : State). StaysEmpty n t.files.io) (sym is) (left-empty n s.files.io (files_after_delivery s.files p (delivered (before_delivery s p) p signal)).io (after-delivery s p n (delivered (before_delivery s p) p signal)) none)
+      subst (λ (t : State). StaysEmpty n t.files.io) (sym is) (left-empty n s.files.io (files_after_delivery s.files p
+      (delivered (before_delivery s p) p signal)).io (after-delivery s p n (delivered (before_delivery s p) p
+      signal)) none)
   acts-fresh (attempts code) end t next (result, rest, (now, is_now, it), over, is) =
       subst (λ (t : State). StaysEmpty n t.files.io) (sym is) (call-fresh code result rest (served s p code next now rest (service_of code) result (device-asked code) it))
 

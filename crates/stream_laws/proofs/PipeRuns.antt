@@ -63,7 +63,9 @@ rests-choice s t is = record {
 -- ---- what passes, by its parts
 
 -- what passes in order is in order
-through : (n : ℕ) (s : State) (states : List State) (t : State) (events : List Passing) → map (λ (it : Passing). it.after) events ≡ states → Linked s events t → AllByRecursion (IsPassing n) events → Flows (moved_by events) (pipe_bytes s.files.io n) (pipe_bytes t.files.io n) → PassesThrough n s states t
+through : (n : ℕ) (s : State) (states : List State) (t : State) (events : List Passing)
+    → map (λ (it : Passing). it.after) events ≡ states → Linked s events t → AllByRecursion (IsPassing n) events
+    → Flows (moved_by events) (pipe_bytes s.files.io n) (pipe_bytes t.files.io n) → PassesThrough n s states t
 through n s states t events are linked each flow = record {
   events = events;
   through = are;
@@ -85,7 +87,9 @@ pass-none n s t rests = through n s [] t [] refl rests tt (held-rests n s t rest
 
 pass-from : (n : ℕ) (s m : State) (states : List State) (t : State) → Rests s m → PassesThrough n m states t → PassesThrough n s states t
 pass-from n s m states t rests it =
-    through n s states t it.events it.through (linked-from s m it.events t rests it.linked) it.each (subst (λ (held : List ℕ). Flows (moved_by it.events) held (pipe_bytes t.files.io n)) (held-rests n s m rests) it.flow)
+    through n s states t it.events it.through (linked-from s m it.events t rests it.linked) it.each
+    (subst (λ (held : List ℕ). Flows (moved_by it.events) held (pipe_bytes t.files.io n)) (held-rests n s m rests)
+    it.flow)
 
 -- an event, and then others
 pass-event : (n : ℕ) (s m : State) (end : EventEnd) (states : List State) (t : State) → Event s end m → Passes n s m → PassesThrough n m states t → PassesThrough n s (m ∷ states) t
@@ -116,8 +120,13 @@ after-then (it ∷ first) later = ap (λ (states : List State). it.after ∷ sta
 
 pub pass-then : (n : ℕ) (s m t : State) (first later : List State) → PassesThrough n s first m → PassesThrough n m later t → PassesThrough n s (first ++ later) t
 pass-then n s m t first later one two =
-    through n s (first ++ later) t (one.events ++ two.events) (after-then one.events two.events ∙ (λ i. one.through i ++ two.through i)) (linked-then s one.events two.events m t one.linked two.linked) (all-then n one.events two.events one.each two.each)
-    (subst (λ (moves : List Movement). Flows moves (pipe_bytes s.files.io n) (pipe_bytes t.files.io n)) (sym (filter_map-append (λ (it : Passing). it.moved) one.events two.events)) (flows-then (moved_by one.events) (moved_by two.events) (pipe_bytes s.files.io n) (pipe_bytes m.files.io n) (pipe_bytes t.files.io n) one.flow two.flow))
+    through n s (first ++ later) t (one.events ++ two.events) (after-then one.events two.events ∙
+    (λ i. one.through i ++ two.through i)) (linked-then s one.events two.events m t one.linked two.linked)
+    (all-then n one.events two.events one.each two.each)
+    (subst (λ (moves : List Movement). Flows moves (pipe_bytes s.files.io n) (pipe_bytes t.files.io n))
+    (sym (filter_map-append (λ (it : Passing). it.moved) one.events two.events)) (flows-then (moved_by one.events)
+    (moved_by two.events) (pipe_bytes s.files.io n) (pipe_bytes m.files.io n) (pipe_bytes t.files.io n) one.flow
+    two.flow))
 
 -- ---- slices and runs
 

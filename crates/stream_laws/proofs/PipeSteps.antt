@@ -140,7 +140,8 @@ begun-held pipes n k free lives =
 abbrev pub StaysEmpty : ℕ → Io → Type 0
 StaysEmpty n new = (pipe_of new.pipes n ≡ None) ⊎ (pipe_of new.pipes n ≡ Some [])
 
-begun-empty : (pipes : List (Option (List ℕ))) (n k : ℕ) → free_pipe pipes ≡ Some k → pipe_of pipes n ≡ None → (pipe_of (pipes_after_begin pipes) n ≡ None) ⊎ (pipe_of (pipes_after_begin pipes) n ≡ Some [])
+begun-empty : (pipes : List (Option (List ℕ))) (n k : ℕ) → free_pipe pipes ≡ Some k → pipe_of pipes n ≡ None
+    → (pipe_of (pipes_after_begin pipes) n ≡ None) ⊎ (pipe_of (pipes_after_begin pipes) n ≡ Some [])
 begun-empty pipes n k free none =
     subst (λ (now : List (Option (List ℕ))). (pipe_of now n ≡ None) ⊎ (pipe_of now n ≡ Some [])) (sym begun) (by_place (cases_eq n k))
   where
@@ -204,16 +205,21 @@ line-some held some = by_place (return_place held)
     by_place None = some
     by_place (Some k) = omega arith
 
-bytes-idle : (held : List ℕ) (most : ℕ) (empty alone : Bool) → (length held == 0) ≡ empty → 1 ≤ most → moved_count (if empty then answer_unmoved alone Ans.End else Ans.Done (min most (length held))) ≡ 0 → held ≡ []
+bytes-idle : (held : List ℕ) (most : ℕ) (empty alone : Bool) → (length held == 0) ≡ empty → 1 ≤ most
+    → moved_count (if empty then answer_unmoved alone Ans.End else Ans.Done (min most (length held))) ≡ 0 → held ≡ []
 bytes-idle held most true alone is some none = no-bytes held is
 bytes-idle held most false alone is some none = (let more = some-bytes held is in absurd (omega (arith, more, some, none)))
 
-line-idle : (held : List ℕ) (most : ℕ) (empty alone : Bool) → (length held == 0) ≡ empty → 1 ≤ most → moved_count (if empty then answer_unmoved alone Ans.End else Ans.Done (min most (line_length held))) ≡ 0 → held ≡ []
+line-idle : (held : List ℕ) (most : ℕ) (empty alone : Bool) → (length held == 0) ≡ empty → 1 ≤ most
+    → moved_count (if empty then answer_unmoved alone Ans.End else Ans.Done (min most (line_length held))) ≡ 0
+    → held ≡ []
 line-idle held most true alone is some none = no-bytes held is
 line-idle held most false alone is some none =
     let more = line-some held (some-bytes held is) in absurd (omega (arith, more, some, none))
 
-write-idle : (held rest : List ℕ) (full alone : Bool) → (pipe_room held == 0) ≡ full → 1 ≤ length rest → moved_count (if full then answer_unmoved alone Ans.NoReader else Ans.Done (min (length rest) (pipe_room held))) ≡ 0 → pipe_room held ≡ 0
+write-idle : (held rest : List ℕ) (full alone : Bool) → (pipe_room held == 0) ≡ full → 1 ≤ length rest
+    → moved_count (if full then answer_unmoved alone Ans.NoReader else Ans.Done (min (length rest) (pipe_room held)))
+    ≡ 0 → pipe_room held ≡ 0
 write-idle held rest true alone is some none = eqb-true (pipe_room held) 0 is
 write-idle held rest false alone is some none =
     absurd (eqb-false (pipe_room held) 0 is (omega (arith, some, none)))
@@ -309,7 +315,8 @@ module _ (call : IoCall) (caller : Caller) (io : Io) (n : ℕ) where
   module _ (lives : IsPipe io.pipes n) (path : OnPipe call caller io n) (now : Kept) (moved : now.moved ≡ moved_before io caller.process.0) where
     front-is : (answer : PipeAns) → pipe_bytes io n ≡ bytes_moved answer (pipe_bytes io n) ++ pipe_bytes (after_taking io n answer) n
     front-is answer =
-        sym (take-append-drop (moved_count answer) (pipe_bytes io n)) ∙ ap (λ (rest : List ℕ). bytes_moved answer (pipe_bytes io n) ++ rest) (sym (held-put io.pipes n (drop (moved_count answer) (pipe_bytes io n)) lives))
+        sym (take-append-drop (moved_count answer) (pipe_bytes io n)) ∙ ap (λ (rest : List ℕ). bytes_moved answer
+        (pipe_bytes io n) ++ rest) (sym (held-put io.pipes n (drop (moved_count answer) (pipe_bytes io n)) lives))
 
     none-more : now.moved ≡ moved_before io caller.process.0 + 0
     none-more = omega (arith, moved)
@@ -317,7 +324,11 @@ module _ (call : IoCall) (caller : Caller) (io : Io) (n : ℕ) where
     some-more : (count some : ℕ) → some ≡ count → (moved_on now count).moved ≡ moved_before io caller.process.0 + some
     some-more count some same_count = omega (arith, moved, same_count)
 
-    read-takes : direction_of_call call ≡ Some Reading → stored_from call caller.regs (moved_before io caller.process.0) ≡ caller.regs.x → ((count : ℕ) → read_answers call caller io count ≡ count_regs caller count) → (answer : PipeAns) → moved_count answer ≤ length (pipe_bytes io n) → (moved_before io caller.process.0 < in_all io caller.process.0 caller.regs.y → moved_count answer ≡ 0 → pipe_bytes io n ≡ []) → Takes call caller io n (read_leaves caller io n now answer)
+    read-takes : direction_of_call call ≡ Some Reading → stored_from call caller.regs
+        (moved_before io caller.process.0) ≡ caller.regs.x → ((count : ℕ) → read_answers call caller io count ≡
+        count_regs caller count) → (answer : PipeAns) → moved_count answer ≤ length (pipe_bytes io n)
+        → (moved_before io caller.process.0 < in_all io caller.process.0 caller.regs.y → moved_count answer ≡ 0
+        → pipe_bytes io n ≡ []) → Takes call caller io n (read_leaves caller io n now answer)
     read-takes way at regs (Ans.Done count) few idle = record {
       way = way;
       path = path;
@@ -352,7 +363,12 @@ module _ (call : IoCall) (caller : Caller) (io : Io) (n : ℕ) where
       counts = refl;
     }
 
-    line-takes : direction_of_call call ≡ Some Reading → stored_from call caller.regs (moved_before io caller.process.0) ≡ caller.regs.x + now.moved → ((count : ℕ) → read_answers call caller io count ≡ count_regs caller (moved_before io caller.process.0 + count)) → (alone : Bool) (answer : PipeAns) → moved_count answer ≤ length (pipe_bytes io n) → (moved_before io caller.process.0 < in_all io caller.process.0 caller.regs.y → moved_count answer ≡ 0 → pipe_bytes io n ≡ []) → Takes call caller io n (read_line_leaves caller io n now alone answer)
+    line-takes : direction_of_call call ≡ Some Reading → stored_from call caller.regs
+        (moved_before io caller.process.0) ≡ caller.regs.x + now.moved
+        → ((count : ℕ) → read_answers call caller io count ≡ count_regs caller (moved_before io caller.process.0 +
+        count)) → (alone : Bool) (answer : PipeAns) → moved_count answer ≤ length (pipe_bytes io n)
+        → (moved_before io caller.process.0 < in_all io caller.process.0 caller.regs.y → moved_count answer ≡ 0
+        → pipe_bytes io n ≡ []) → Takes call caller io n (read_line_leaves caller io n now alone answer)
     line-takes way at regs alone (Ans.Done count) few idle = record {
       way = way;
       path = path;
@@ -401,7 +417,9 @@ module _ (call : IoCall) (caller : Caller) (io : Io) (n : ℕ) where
       counts = refl;
     }
 
-    module _ (way : direction_of_call call ≡ Some Writing) (sent : List ℕ) (sends : sent_by call caller io ≡ Some sent) (regs : Regs) (answered : regs ≡ write_answers call caller (length sent)) (all : now.count ≡ in_all io caller.process.0 (length sent)) where
+    module _ (way : direction_of_call call ≡ Some Writing) (sent : List ℕ) (sends : sent_by call caller io ≡ Some
+        sent) (regs : Regs) (answered : regs ≡ write_answers call caller (length sent)) (all : now.count ≡ in_all io
+        caller.process.0 (length sent)) where
       next-is : (count : ℕ) → count ≤ length (drop now.moved sent) → take count (drop now.moved sent) ≡ take (length (take count (drop now.moved sent))) (drop (moved_before io caller.process.0) sent)
       next-is count few =
           ap (λ (k : ℕ). take k (drop now.moved sent)) (sym (length-take-le count (drop now.moved sent) few))
@@ -415,7 +433,9 @@ module _ (call : IoCall) (caller : Caller) (io : Io) (n : ℕ) where
       none-left : moved_before io caller.process.0 < in_all io caller.process.0 (length sent) → moved_before io caller.process.0 + 0 ≢ in_all io caller.process.0 (length sent)
       none-left before same = omega (arith, before, same)
 
-      write-puts : (alone : Bool) (answer : PipeAns) → moved_count answer ≤ length (drop now.moved sent) → (moved_before io caller.process.0 < length sent → moved_count answer ≡ 0 → pipe_room (pipe_bytes io n) ≡ 0) → Puts call caller io n (write_leaves io n now alone (drop now.moved sent) regs answer)
+      write-puts : (alone : Bool) (answer : PipeAns) → moved_count answer ≤ length (drop now.moved sent)
+          → (moved_before io caller.process.0 < length sent → moved_count answer ≡ 0 → pipe_room (pipe_bytes io n) ≡
+          0) → Puts call caller io n (write_leaves io n now alone (drop now.moved sent) regs answer)
       write-puts alone (Ans.Done count) few idle = record {
         way = way;
         path = path;
@@ -432,16 +452,41 @@ module _ (call : IoCall) (caller : Caller) (io : Io) (n : ℕ) where
           more : (moved_on now count).moved ≡ moved_before io caller.process.0 + length (take count (drop now.moved sent))
           more = some-more count (length (take count (drop now.moved sent))) (length-take-le count (drop now.moved sent) few)
 
-          counts : (complete single : Bool) → is_complete (moved_on now count) ≡ complete → WriteCounts call caller io sent (length (take count (drop now.moved sent))) (if complete then answers regs else (if single then fails E_WRITE else keeps (moved_on now count)))
+          counts : (complete single : Bool) → is_complete (moved_on now count) ≡ complete → WriteCounts call caller io
+              sent (length (take count (drop now.moved sent))) (if complete then answers regs else
+              (if single then fails E_WRITE else keeps (moved_on now count)))
           counts true single is = (sym more ∙ eqb-true (now.moved + count) now.count is ∙ all, answered)
           counts false true is = λ before same. false≢true (sym is ∙ eq-eqb (now.moved + count) now.count (more ∙ same ∙ sym all))
           counts false false is = more
       write-puts alone Ans.Wait few idle =
-          record { way = way; path = path; bytes = []; behind = behind-is Ans.Wait; sent = sent; sends = sends; next = refl; none = λ none some. idle some refl; stores_none = refl; counts = none-more }
+          record {
+            way = way;
+            path = path;
+            bytes = [];
+            behind = behind-is Ans.Wait;
+            sent = sent;
+            sends = sends;
+            next =
+                refl;
+            none = λ none some. idle some refl;
+            stores_none = refl;
+            counts = none-more;
+          }
       write-puts alone Ans.End few idle =
           record { way = way; path = path; bytes = []; behind = behind-is Ans.End; sent = sent; sends = sends; next = refl; none = λ none some. idle some refl; stores_none = refl; counts = none-left }
       write-puts alone Ans.NoReader few idle =
-          record { way = way; path = path; bytes = []; behind = behind-is Ans.NoReader; sent = sent; sends = sends; next = refl; none = λ none some. idle some refl; stores_none = refl; counts = none-left }
+          record {
+            way = way;
+            path = path;
+            bytes = [];
+            behind = behind-is Ans.NoReader;
+            sent = sent;
+            sends = sends;
+            next = refl;
+            none = λ none some. idle some refl;
+            stores_none = refl;
+            counts = none-left;
+          }
 
 -- ---- on any pipe
 
@@ -476,7 +521,9 @@ module _ (call : IoCall) (caller : Caller) (io : Io) (n : ℕ) where
   on-terminal terminal path on = term-pipe terminal n (one-target (Term terminal) (Pipe n) path on)
 
   -- what leaves the pipes but another one
-  passes-same : (effect : IoEffect) → pipe_of effect.io.pipes n ≡ pipe_of io.pipes n → ((way : Direction) → direction_of_call call ≡ Some way → OnPipe call caller io n → MovesNone caller effect.end × (effect.bytes ≡ [])) → Becomes call caller io n effect
+  passes-same : (effect : IoEffect) → pipe_of effect.io.pipes n ≡ pipe_of io.pipes n
+      → ((way : Direction) → direction_of_call call ≡ Some way → OnPipe call caller io n → MovesNone caller effect.end
+      × (effect.bytes ≡ [])) → Becomes call caller io n effect
   passes-same effect same ends = record {
     moved =
         λ lives still. inl (record { held = ap (λ (place : Option (List ℕ)). unwrap_or place []) same; ends = ends });
@@ -496,17 +543,30 @@ module _ (call : IoCall) (caller : Caller) (io : Io) (n : ℕ) where
         λ absent. absurd (absent.unused (path_number call caller.regs) path.0 path.1 (path.2 ∙ ap Pipe (sym same)));
   }
 
-  takes-here : (kind : ReadKind) → direction_of_call call ≡ Some Reading → ((moved : ℕ) → stored_from call caller.regs moved ≡ stored_by kind caller.regs.x moved) → call ≡ read_call kind → (now : Kept) → now.count ≡ in_all io caller.process.0 caller.regs.y → now.moved ≡ moved_before io caller.process.0 → HasPath (Pipe n) → IsPipe io.pipes n → Takes call caller io n (pipe_read kind caller io n now)
+  takes-here : (kind : ReadKind) → direction_of_call call ≡ Some Reading
+      → ((moved : ℕ) → stored_from call caller.regs moved ≡ stored_by kind caller.regs.x moved)
+      → call ≡ read_call kind → (now : Kept) → now.count ≡ in_all io caller.process.0 caller.regs.y
+      → now.moved ≡ moved_before io caller.process.0 → HasPath (Pipe n) → IsPipe io.pipes n → Takes call caller io n
+      (pipe_read kind caller io n now)
   takes-here Bytes way at is now all moved path lives =
-      read-takes call caller io n lives path now moved way (at (moved_before io caller.process.0)) (λ count. ap (λ (call : IoCall). read_answers call caller io count) is) (read_answer (pipe_bytes io n) (is_alone io caller.process.0 now.path.0 Reading) now.count)
+      read-takes call caller io n lives path now moved way (at (moved_before io caller.process.0))
+      (λ count. ap (λ (call : IoCall). read_answers call caller io count) is) (read_answer (pipe_bytes io n)
+      (is_alone io caller.process.0 now.path.0 Reading) now.count)
       (bytes-few (pipe_bytes io n) now.count (length (pipe_bytes io n) == 0) (is_alone io caller.process.0 now.path.0 Reading))
       (λ left. bytes-idle (pipe_bytes io n) now.count (length (pipe_bytes io n) == 0) (is_alone io caller.process.0 now.path.0 Reading) refl (omega (arith, left, all)))
   takes-here WholeLine way at is now all moved path lives =
-      line-takes call caller io n lives path now moved way (at (moved_before io caller.process.0) ∙ ap (λ (k : ℕ). caller.regs.x + k) (sym moved)) (λ count. ap (λ (call : IoCall). read_answers call caller io count) is) (is_alone io caller.process.0 now.path.0 Reading) (read_line_answer (pipe_bytes io n) (is_alone io caller.process.0 now.path.0 Reading) (count_left now))
+      line-takes call caller io n lives path now moved way (at (moved_before io caller.process.0) ∙ ap
+      (λ (k : ℕ). caller.regs.x + k) (sym moved)) (λ count. ap (λ (call : IoCall). read_answers call caller io
+      count) is) (is_alone io caller.process.0 now.path.0 Reading) (read_line_answer (pipe_bytes io n)
+      (is_alone io caller.process.0 now.path.0 Reading) (count_left now))
       (read-few (pipe_bytes io n) (count_left now) (length (pipe_bytes io n) == 0) (is_alone io caller.process.0 now.path.0 Reading))
       (λ left. line-idle (pipe_bytes io n) (count_left now) (length (pipe_bytes io n) == 0) (is_alone io caller.process.0 now.path.0 Reading) refl (omega (arith, left, all, moved)))
 
-  read-moves : (kind : ReadKind) → direction_of_call call ≡ Some Reading → ((moved : ℕ) → stored_from call caller.regs moved ≡ stored_by kind caller.regs.x moved) → call ≡ read_call kind → (now : Kept) → now.count ≡ in_all io caller.process.0 caller.regs.y → now.moved ≡ moved_before io caller.process.0 → (target : Target) → HasPath target → StepMoves call caller io n (reads_target kind caller io now target)
+  read-moves : (kind : ReadKind) → direction_of_call call ≡ Some Reading
+      → ((moved : ℕ) → stored_from call caller.regs moved ≡ stored_by kind caller.regs.x moved)
+      → call ≡ read_call kind → (now : Kept) → now.count ≡ in_all io caller.process.0 caller.regs.y
+      → now.moved ≡ moved_before io caller.process.0 → (target : Target) → HasPath target → StepMoves call caller io n
+      (reads_target kind caller io now target)
   read-moves kind way at is now all moved (File drive sector) path = tt
   read-moves kind way at is now all moved (Folder drive sector) path = tt
   read-moves kind way at is now all moved (Term terminal) path = λ on. on-terminal terminal path on
@@ -519,19 +579,31 @@ module _ (call : IoCall) (caller : Caller) (io : Io) (n : ℕ) where
       by_place : (n ≡ pipe) ⊎ (n ≢ pipe) → Becomes call caller io n (pipe_read kind caller io pipe now)
       by_place (inl same) =
           passes-here (pipe_read kind caller io pipe now) pipe same path
-          (λ lives. inr (inl (subst (λ (m : ℕ). Takes call caller io n (pipe_read kind caller io m now)) same (takes-here kind way at is now all moved (subst (λ (m : ℕ). HasPath (Pipe m)) (sym same) path) lives))))
+          (λ lives. inr (inl (subst (λ (m : ℕ). Takes call caller io n (pipe_read kind caller io m now)) same
+          (takes-here kind way at is now all moved (subst (λ (m : ℕ). HasPath (Pipe m)) (sym same) path) lives))))
       by_place (inr apart) =
           passes-apart (pipe_read kind caller io pipe now) pipe path apart (apart-held kind apart)
 
   -- what a write sends is what its call sends
-  puts-here : (sending : Sending) (sent : List ℕ) → direction_of_call call ≡ Some Writing → sent_by call caller io ≡ Some sent → sending.bytes ≡ sent → sending.regs ≡ write_answers call caller (length sent) → (now : Kept) → now.count ≡ in_all io caller.process.0 (length sent) → now.moved ≡ moved_before io caller.process.0 → HasPath (Pipe n) → IsPipe io.pipes n → Puts call caller io n (writes_pipe io n now (is_alone io caller.process.0 now.path.0 Writing) sending.bytes sending.regs)
+  puts-here : (sending : Sending) (sent : List ℕ) → direction_of_call call ≡ Some Writing → sent_by call caller io ≡
+      Some sent → sending.bytes ≡ sent → sending.regs ≡ write_answers call caller (length sent) → (now : Kept)
+      → now.count ≡ in_all io caller.process.0 (length sent) → now.moved ≡ moved_before io caller.process.0
+      → HasPath (Pipe n) → IsPipe io.pipes n → Puts call caller io n
+      (writes_pipe io n now (is_alone io caller.process.0 now.path.0 Writing) sending.bytes sending.regs)
   puts-here sending sent way sends same answered now all moved path lives =
       subst (λ (bytes : List ℕ). Puts call caller io n (writes_pipe io n now (is_alone io caller.process.0 now.path.0 Writing) bytes sending.regs)) (sym same)
-      (write-puts call caller io n lives path now moved way sent sends sending.regs answered all (is_alone io caller.process.0 now.path.0 Writing) (write_answer (pipe_bytes io n) (is_alone io caller.process.0 now.path.0 Writing) (length (drop now.moved sent)))
+      (write-puts call caller io n lives path now moved way sent sends sending.regs answered all
+      (is_alone io caller.process.0 now.path.0 Writing) (write_answer (pipe_bytes io n)
+      (is_alone io caller.process.0 now.path.0 Writing) (length (drop now.moved sent)))
       (write-few (pipe_bytes io n) (drop now.moved sent) (pipe_room (pipe_bytes io n) == 0) (is_alone io caller.process.0 now.path.0 Writing))
-      (λ left. write-idle (pipe_bytes io n) (drop now.moved sent) (pipe_room (pipe_bytes io n) == 0) (is_alone io caller.process.0 now.path.0 Writing) refl (omega (arith, left, moved, length-drop now.moved sent))))
+      (λ left. write-idle (pipe_bytes io n) (drop now.moved sent) (pipe_room (pipe_bytes io n) == 0)
+      (is_alone io caller.process.0 now.path.0 Writing) refl
+      (omega (arith, left, moved, length-drop now.moved sent))))
 
-  write-moves : (sending : Sending) (sent : List ℕ) → direction_of_call call ≡ Some Writing → sent_by call caller io ≡ Some sent → sending.bytes ≡ sent → sending.regs ≡ write_answers call caller (length sent) → (now : Kept) → now.count ≡ in_all io caller.process.0 (length sent) → now.moved ≡ moved_before io caller.process.0 → (target : Target) → HasPath target → StepMoves call caller io n (writes_target sending caller io now target)
+  write-moves : (sending : Sending) (sent : List ℕ) → direction_of_call call ≡ Some Writing → sent_by call caller io ≡
+      Some sent → sending.bytes ≡ sent → sending.regs ≡ write_answers call caller (length sent) → (now : Kept)
+      → now.count ≡ in_all io caller.process.0 (length sent) → now.moved ≡ moved_before io caller.process.0
+      → (target : Target) → HasPath target → StepMoves call caller io n (writes_target sending caller io now target)
   write-moves sending sent way sends bytes_are answered now all moved (File drive sector) path = tt
   write-moves sending sent way sends bytes_are answered now all moved (Folder drive sector) path = tt
   write-moves sending sent way sends bytes_are answered now all moved (Term terminal) path = λ on. on-terminal terminal path on
@@ -540,7 +612,10 @@ module _ (call : IoCall) (caller : Caller) (io : Io) (n : ℕ) where
       by_place : (n ≡ pipe) ⊎ (n ≢ pipe) → Becomes call caller io n (writes_pipe io pipe now (is_alone io caller.process.0 now.path.0 Writing) sending.bytes sending.regs)
       by_place (inl same) =
           passes-here (writes_pipe io pipe now (is_alone io caller.process.0 now.path.0 Writing) sending.bytes sending.regs) pipe same path
-          (λ lives. inr (inr (subst (λ (m : ℕ). Puts call caller io n (writes_pipe io m now (is_alone io caller.process.0 now.path.0 Writing) sending.bytes sending.regs)) same (puts-here sending sent way sends bytes_are answered now all moved (subst (λ (m : ℕ). HasPath (Pipe m)) (sym same) path) lives))))
+          (λ lives. inr (inr (subst (λ (m : ℕ). Puts call caller io n
+          (writes_pipe io m now (is_alone io caller.process.0 now.path.0 Writing) sending.bytes sending.regs))
+          same (puts-here sending sent way sends bytes_are answered now all moved
+          (subst (λ (m : ℕ). HasPath (Pipe m)) (sym same) path) lives))))
       by_place (inr apart) =
           passes-apart (writes_pipe io pipe now (is_alone io caller.process.0 now.path.0 Writing) sending.bytes sending.regs) pipe path apart (other-held pipe _ apart)
 
@@ -549,14 +624,18 @@ module _ (call : IoCall) (caller : Caller) (io : Io) (n : ℕ) where
   abbrev Through : IoStep → Type 0
   Through step = StepMoves call caller io n step
 
-  path-moves : (number : ℕ) (is_allowed : ℕ → Bool) (next : OpenPath → IoStep) → ((opened : OpenPath) → open_path io caller.process.0 number ≡ Some opened → Through (next opened)) → Through (on_path caller io number is_allowed next)
+  path-moves : (number : ℕ) (is_allowed : ℕ → Bool) (next : OpenPath → IoStep)
+      → ((opened : OpenPath) → open_path io caller.process.0 number ≡ Some opened → Through (next opened))
+      → Through (on_path caller io number is_allowed next)
   path-moves number is_allowed next moves = by_path (open_path io caller.process.0 number) refl
     where
       by_mode : (opened : OpenPath) → open_path io caller.process.0 number ≡ Some opened → (allowed : Bool) → Through (refuses (not allowed) E_BMODE (next opened))
       by_mode opened is true = moves opened is
       by_mode opened is false = tt
 
-      by_path : (opened : Option OpenPath) → open_path io caller.process.0 number ≡ opened → Through (needs opened E_BPNUM (λ opened. refuses (not (is_allowed opened.desc.mode)) E_BMODE (next opened)))
+      by_path : (opened : Option OpenPath) → open_path io caller.process.0 number ≡ opened
+          → Through (needs opened E_BPNUM (λ opened. refuses (not (is_allowed opened.desc.mode)) E_BMODE
+          (next opened)))
       by_path None is = tt
       by_path (Some opened) is = by_mode opened is (is_allowed opened.desc.mode)
 
@@ -565,22 +644,46 @@ module _ (call : IoCall) (caller : Caller) (io : Io) (n : ℕ) where
       passes-same (leaves (answers caller.regs) io) refl (λ way is on. ((eqb-true caller.regs.y 0 none, refl), refl))
   nothing-moves false none next moves = moves
 
-  read-through : (kind : ReadKind) (code : ℕ) → caller.regs.a ≡ path_number call caller.regs → direction_of_call call ≡ Some Reading → ((moved : ℕ) → stored_from call caller.regs moved ≡ stored_by kind caller.regs.x moved) → call ≡ read_call kind → (is_missing : Bool) → Through (refuses is_missing E_BPADDR (on_path caller io caller.regs.a can_read (λ opened. unless_nothing caller io (reads_target kind caller io (call_now caller io code opened caller.regs.y) opened.desc.target))))
+  read-through : (kind : ReadKind) (code : ℕ) → caller.regs.a ≡ path_number call caller.regs → direction_of_call call
+      ≡ Some Reading → ((moved : ℕ) → stored_from call caller.regs moved ≡ stored_by kind caller.regs.x moved)
+      → call ≡ read_call kind → (is_missing : Bool)
+      → Through (refuses is_missing E_BPADDR (on_path caller io caller.regs.a can_read
+      (λ opened. unless_nothing caller io (reads_target kind caller io (call_now caller io code opened caller.regs.y)
+      opened.desc.target))))
   read-through kind code named way at is true = tt
   read-through kind code named way at one false =
       path-moves caller.regs.a can_read (λ opened. unless_nothing caller io (reads_target kind caller io (call_now caller io code opened caller.regs.y) opened.desc.target))
-      (λ opened is. nothing-moves (caller.regs.y == 0) refl (reads_target kind caller io (call_now caller io code opened caller.regs.y) opened.desc.target) (read-moves kind way at one (call_now caller io code opened caller.regs.y) (now-count caller io code opened caller.regs.y) (now-moved caller io code caller.regs.y opened) opened.desc.target (opened, ap (open_path io caller.process.0) (sym named) ∙ is, refl)))
+      (λ opened is. nothing-moves (caller.regs.y == 0) refl (reads_target kind caller io
+      (call_now caller io code opened caller.regs.y) opened.desc.target) (read-moves kind way at one
+      (call_now caller io code opened caller.regs.y) (now-count caller io code opened caller.regs.y)
+      (now-moved caller io code caller.regs.y opened) opened.desc.target
+      (opened, ap (open_path io caller.process.0) (sym named) ∙ is, refl)))
 
-  send-through : (sending : List ℕ → Sending) (code : ℕ) → caller.regs.a ≡ path_number call caller.regs → direction_of_call call ≡ Some Writing → ((bytes : List ℕ) → (sending bytes).bytes ≡ bytes) → ((bytes : List ℕ) → (sending bytes).regs ≡ write_answers call caller (length bytes)) → (bytes : Option (List ℕ)) → sent_by call caller io ≡ bytes → Through (needs bytes E_BPADDR (λ bytes. on_path caller io caller.regs.a can_write (λ opened. unless_nothing caller io (sends_on (sending bytes) code caller io opened))))
+  send-through : (sending : List ℕ → Sending) (code : ℕ) → caller.regs.a ≡ path_number call caller.regs
+      → direction_of_call call ≡ Some Writing → ((bytes : List ℕ) → (sending bytes).bytes ≡ bytes)
+      → ((bytes : List ℕ) → (sending bytes).regs ≡ write_answers call caller (length bytes))
+      → (bytes : Option (List ℕ)) → sent_by call caller io ≡ bytes
+      → Through (needs bytes E_BPADDR (λ bytes. on_path caller io caller.regs.a can_write
+      (λ opened. unless_nothing caller io (sends_on (sending bytes) code caller io opened))))
   send-through sending code named way same regs None sends = tt
   send-through sending code named way same regs (Some bytes) sends =
       path-moves caller.regs.a can_write (λ opened. unless_nothing caller io (sends_on (sending bytes) code caller io opened))
-      (λ opened is. nothing-moves (caller.regs.y == 0) refl (sends_on (sending bytes) code caller io opened) (write-moves (sending bytes) bytes way sends (same bytes) (regs bytes) (call_now caller io code opened (length (sending bytes).bytes)) (now-count caller io code opened (length (sending bytes).bytes) ∙ ap (λ (bytes : List ℕ). in_all io caller.process.0 (length bytes)) (same bytes)) (now-moved caller io code (length (sending bytes).bytes) opened) opened.desc.target (opened, ap (open_path io caller.process.0) (sym named) ∙ is, refl)))
+      (λ opened is. nothing-moves (caller.regs.y == 0) refl (sends_on (sending bytes) code caller io opened)
+      (write-moves (sending bytes) bytes way sends (same bytes) (regs bytes) (call_now caller io code opened
+      (length (sending bytes).bytes)) (now-count caller io code opened (length (sending bytes).bytes) ∙ ap
+      (λ (bytes : List ℕ). in_all io caller.process.0 (length bytes)) (same bytes))
+      (now-moved caller io code (length (sending bytes).bytes) opened) opened.desc.target
+      (opened, ap (open_path io caller.process.0) (sym named) ∙ is, refl)))
 
-  error-through : STANDARD_ERROR ≡ path_number call caller.regs → direction_of_call call ≡ Some Writing → sent_by call caller io ≡ Some (error_line caller.regs.b) → caller.regs ≡ write_answers call caller (length (error_line caller.regs.b)) → Through (f_perr caller io)
+  error-through : STANDARD_ERROR ≡ path_number call caller.regs → direction_of_call call ≡ Some Writing
+      → sent_by call caller io ≡ Some (error_line caller.regs.b) → caller.regs ≡ write_answers call caller
+      (length (error_line caller.regs.b)) → Through (f_perr caller io)
   error-through named way sends regs =
       path-moves STANDARD_ERROR can_write (λ opened. sends_on (sent_error caller) F_PERR caller io opened)
-      (λ opened is. write-moves (sent_error caller) (error_line caller.regs.b) way sends refl regs (call_now caller io F_PERR opened (length (sent_error caller).bytes)) (now-count caller io F_PERR opened (length (sent_error caller).bytes)) (now-moved caller io F_PERR (length (sent_error caller).bytes) opened) opened.desc.target (opened, ap (open_path io caller.process.0) (sym named) ∙ is, refl))
+      (λ opened is. write-moves (sent_error caller) (error_line caller.regs.b) way sends refl regs
+      (call_now caller io F_PERR opened (length (sent_error caller).bytes)) (now-count caller io F_PERR opened
+      (length (sent_error caller).bytes)) (now-moved caller io F_PERR (length (sent_error caller).bytes) opened)
+      opened.desc.target (opened, ap (open_path io caller.process.0) (sym named) ∙ is, refl))
 
   -- ---- calls that move no byte
 
@@ -591,7 +694,9 @@ module _ (call : IoCall) (caller : Caller) (io : Io) (n : ℕ) where
     quiet-done : (regs : Regs) (new : Io) → pipe_of new.pipes n ≡ pipe_of io.pipes n → Becomes call caller io n (leaves (answers regs) new)
     quiet-done regs new same = passes-same (leaves (answers regs) new) same (quiet-ends (leaves (answers regs) new))
 
-    dup-through : (path : Option SysPath) (free : Option ℕ) → Through (needs path E_BPNUM (λ path. needs free E_PTHFUL (λ number. done (record caller.regs { a = number }) (with_paths io (paths_after_dup io.paths caller.process.0 caller.regs.a)))))
+    dup-through : (path : Option SysPath) (free : Option ℕ)
+        → Through (needs path E_BPNUM (λ path. needs free E_PTHFUL (λ number. done (record caller.regs { a = number })
+        (with_paths io (paths_after_dup io.paths caller.process.0 caller.regs.a)))))
     dup-through None free = tt
     dup-through (Some path) None = tt
     dup-through (Some path) (Some number) =
@@ -601,24 +706,42 @@ module _ (call : IoCall) (caller : Caller) (io : Io) (n : ℕ) where
     close-through None = tt
     close-through (Some path) = record {
       moved =
-          λ lives still. inl (record { held = left-held n io (after_close io caller.process.0 caller.regs.a) (closed-left n io caller.process.0 caller.regs.a) still; ends = quiet-ends (leaves (answers caller.regs) (after_close io caller.process.0 caller.regs.a)) });
+          λ lives still. inl (record {
+            held = left-held n io (after_close io caller.process.0 caller.regs.a)
+                (closed-left n io caller.process.0 caller.regs.a) still;
+            ends = quiet-ends (leaves (answers caller.regs)
+                (after_close io caller.process.0 caller.regs.a));
+          });
       fresh =
           λ absent. left-empty n io (after_close io caller.process.0 caller.regs.a) (closed-left n io caller.process.0 caller.regs.a) absent.none;
     }
 
     module _ (list : PathList) where
-      begins-through : (before : Io) (desc : Desc) (number : Option ℕ) → (IsPipe io.pipes n → pipe_bytes before n ≡ pipe_bytes io n) → (pipe_of io.pipes n ≡ None → StaysEmpty n before) → Through (needs number E_PTHFUL (λ number. done (opened_regs caller.regs list number) (with_paths before (paths_after_begin before.paths caller.process.0 desc))))
+      begins-through : (before : Io) (desc : Desc) (number : Option ℕ)
+          → (IsPipe io.pipes n → pipe_bytes before n ≡ pipe_bytes io n) → (pipe_of io.pipes n ≡ None
+          → StaysEmpty n before) → Through
+          (needs number E_PTHFUL (λ number. done (opened_regs caller.regs list number)
+          (with_paths before (paths_after_begin before.paths caller.process.0 desc))))
       begins-through before desc None same fresh = tt
       begins-through before desc (Some number) same fresh = record {
         moved =
-            λ lives still. inl (record { held = same lives; ends = quiet-ends (leaves (answers (opened_regs caller.regs list number)) (with_paths before (paths_after_begin before.paths caller.process.0 desc))) });
+            λ lives still. inl (record {
+              held = same lives;
+              ends = quiet-ends
+                  (leaves (answers (opened_regs caller.regs list number))
+                  (with_paths before (paths_after_begin before.paths caller.process.0 desc)));
+            });
         fresh = λ absent. fresh absent.none;
       }
 
-      pipe-through : (pipe : Option ℕ) → free_pipe io.pipes ≡ pipe → Through (needs pipe E_PTHFUL (λ pipe. begins caller (with_pipes io (pipes_after_begin io.pipes)) list (new_desc (Pipe pipe) caller.regs.a)))
+      pipe-through : (pipe : Option ℕ) → free_pipe io.pipes ≡ pipe
+          → Through (needs pipe E_PTHFUL (λ pipe. begins caller (with_pipes io (pipes_after_begin io.pipes)) list
+          (new_desc (Pipe pipe) caller.regs.a)))
       pipe-through None free = tt
       pipe-through (Some pipe) free =
-          begins-through (with_pipes io (pipes_after_begin io.pipes)) (new_desc (Pipe pipe) caller.regs.a) (new_number io.paths caller.process.0) (begun-held io.pipes n pipe free) (begun-empty io.pipes n pipe free)
+          begins-through (with_pipes io (pipes_after_begin io.pipes)) (new_desc (Pipe pipe) caller.regs.a)
+          (new_number io.paths caller.process.0) (begun-held io.pipes n pipe free) (begun-empty io.pipes n pipe
+          free)
 
       lead-through : (lead : Lead) → Through (opens_lead caller io list lead)
       lead-through (to_terminal terminal) =
@@ -642,7 +765,9 @@ module _ (call : IoCall) (caller : Caller) (io : Io) (n : ℕ) where
     ready-through target true = tt
     ready-through target false = quiet-done (record caller.regs { b = min 255 (ready_count io target) }) io refl
 
-    status-by : (target : Target) (opt ready end : Bool) → Through (if opt then gets_options caller io target else (if ready then gets_ready caller io target else (if end then gets_end caller io target else refused E_UNKSVC)))
+    status-by : (target : Target) (opt ready end : Bool) → Through (if opt then gets_options caller io target else
+        (if ready then gets_ready caller io target else (if end then gets_end caller io target else refused
+        E_UNKSVC)))
     status-by target true ready end = options-through target (is_none (user_bytes caller.cells caller.regs.x OPTION_BYTES))
     status-by target false true end = ready-through target (ready_count io target == 0)
     status-by target false false true = quiet-done (record caller.regs { b = 0 }) io refl

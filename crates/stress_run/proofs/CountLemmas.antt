@@ -58,7 +58,12 @@ segments-few descriptor =
 
 sectors-few : (g : Geometry) (segments : List (ℕ × ℕ)) → g.total ≤ 524280 → LieWithin g segments → length (sectors_of segments) ≤ length segments * 524280
 sectors-few g segments most within =
-    omega (arith, length-flat_map segment_sectors segments, sum_by-le (λ segment. length (segment_sectors segment)) 524280 segments (λ k d low. segment-few g (get_or segments k d) most (within k d low)))
+    omega (
+      arith,
+      length-flat_map segment_sectors segments,
+      sum_by-le (λ segment. length (segment_sectors segment))
+          524280 segments (λ k d low. segment-few g (get_or segments k d) most (within k d low)),
+    )
 
 bytes-few : (image sectors : List ℕ) → length (flat_map (sector image) sectors) ≤ length sectors * 256
 bytes-few image sectors =
@@ -76,7 +81,16 @@ module _ (image : List ℕ) (v : DiskVolume) (represents : Vol image v) where
       let shown : file ≡ file_at (sector image) n = represents.sound.shows.shown n file is in
       let within : LieWithin (image_geometry image) segments =
       subst (λ (it : DiskFile). LieWithin (image_geometry image) it.segments) shown (represents.sound.mapped.within n file is) in
-      omega (arith, ap (λ (it : DiskFile). length it.contents) shown, length-take (size_field (sector image n)) (segment_bytes (sector image) segments), bytes-few image (sectors_of segments), sectors-few (image_geometry image) segments represents.header.header.most within, segments-few (sector image n))
+      omega (
+        arith,
+        ap (λ (it : DiskFile). length it.contents) shown,
+        length-take (size_field (sector image n))
+            (segment_bytes (sector image) segments),
+        bytes-few image (sectors_of segments),
+        sectors-few
+            (image_geometry image) segments represents.header.header.most within,
+        segments-few (sector image n),
+      )
 
   node-few : (node : Node) → TellsNode (image_geometry image) v node → node_size node ≤ 2 ^ 33
   node-few node told =
@@ -106,7 +120,9 @@ abbrev the-counts : ℕ → ℕ → ℕ → Tree → StressCounts
 the-counts slices files bytes tree = record { slices = slices; files = files; bytes = bytes; free = tree.free; lost = tree.lost }
 
 -- what a tree of an image counts is what its volume has
-pub counts-told : (image : List ℕ) (tree : Tree) (is : IsTreeOf image tree) (slices files bytes : ℕ) → files ≡ count_by (λ node. not (is_directory_node node)) tree.nodes → bytes ≡ file_bytes (image_geometry image) is.volume
+pub counts-told : (image : List ℕ) (tree : Tree) (is : IsTreeOf image tree) (slices files bytes : ℕ)
+    → files ≡ count_by (λ node. not (is_directory_node node)) tree.nodes → bytes ≡ file_bytes (image_geometry image)
+    is.volume
     → (v : DiskVolume) → Vol image v → the-counts slices files bytes tree ≡ counts_with slices v
 counts-told image tree is slices files bytes files_are bytes_are v represents =
     let told : the-counts slices files bytes tree ≡ counts_at slices (image_geometry image) is.volume =

@@ -80,7 +80,8 @@ never-refused seed below fault refuses =
 
 -- ---- the machine ran to its end
 
-module _ {Host : Type 0} (members : Ghosts Host) (seed : ℕ) (below : seed < 2147483648) (images : List (List ℕ)) (image : List ℕ) (first : slice_get images 0 ≡ Some image) (host ran : Host) (before after : Outside) where
+module _ {Host : Type 0} (members : Ghosts Host) (seed : ℕ) (below : seed < 2147483648) (images : List (List ℕ))
+    (image : List ℕ) (first : slice_get images 0 ≡ Some image) (host ran : Host) (before after : Outside) where
   abbrev World-before : World
   World-before = world_of members host before
 
@@ -156,7 +157,8 @@ module _ {Host : Type 0} (members : Ghosts Host) (seed : ℕ) (below : seed < 21
       inr (inr (unprinted lives begun gives told (wrote.counts is.volume is.back.volume).prefix))
 
   -- the host failed where the line was not written
-  told-failed : (whole : StressEnd) (slices : ℕ) (told : Host) (answer : Result (Unit {0}) HostFault) → whole ≢ OutputFailed → HasNoFault World-before World-ran → WritesCounts members slices image answer ran told
+  told-failed : (whole : StressEnd) (slices : ℕ) (told : Host) (answer : Result (Unit {0}) HostFault)
+      → whole ≢ OutputFailed → HasNoFault World-before World-ran → WritesCounts members slices image answer ran told
       → end_told whole answer ≡ OutputFailed → FailsToWrite World-before (world_of members told after)
   told-failed whole slices told (Ok done) other kept wrote is = absurd (other is)
   told-failed whole slices told (Err Failed) other kept wrote is =
@@ -171,7 +173,9 @@ module _ {Host : Type 0} (members : Ghosts Host) (seed : ℕ) (below : seed < 21
   told-kept whole slices told (Err OutOfMemory) kept wrote other =
       (wrote.writes.count_kept ∙ kept.0, wrote.writes.name_kept ∙ kept.1, wrote.writes.read_kept ∙ kept.2)
 
-  told-devices : (whole : StressEnd) (told : Host) (answer : Result (Unit {0}) HostFault) → LeavesStress World-before (world_of members told after) whole → LeavesStress World-before (world_of members told after) (end_told whole answer)
+  told-devices : (whole : StressEnd) (told : Host) (answer : Result (Unit {0}) HostFault) → LeavesStress World-before
+      (world_of members told after) whole → LeavesStress World-before (world_of members told after)
+      (end_told whole answer)
   told-devices whole told (Ok done) leaves = leaves
   told-devices whole told (Err Failed) leaves = tt
   told-devices whole told (Err OutOfMemory) leaves = tt
@@ -196,12 +200,15 @@ module _ {Host : Type 0} (members : Ghosts Host) (seed : ℕ) (below : seed < 21
   -- ---- by the end of the run
 
   -- nothing was told behind a run that stopped
-  without-counts : (stopped end : StressEnd) (told : Host) → StressCall seed World-before World-ran stopped → TellsNothing stopped end ran told → StressCall seed World-before (world_of members told after) end
+  without-counts : (stopped end : StressEnd) (told : Host) → StressCall seed World-before World-ran stopped
+      → TellsNothing stopped end ran told → StressCall seed World-before (world_of members told after) end
   without-counts stopped end told call nothing =
       subst (StressCall seed World-before (world_of members told after)) (sym nothing.is)
       (subst (λ (now : Host). StressCall seed World-before (world_of members now after) stopped) (sym nothing.kept) call)
 
-  pub called : (run_end : RunEnd) (end : StressEnd) (told : Host) → RunsImages (stress_setup seed) images World-before World-ran run_end → TellsEnd members run_end image end ran told → StressCall seed World-before (world_of members told after) end
+  pub called : (run_end : RunEnd) (end : StressEnd) (told : Host) → RunsImages (stress_setup seed) images World-before
+      World-ran run_end → TellsEnd members run_end image end ran told → StressCall seed World-before
+      (world_of members told after) end
   called (Run.Ended begun) end told run tells =
       with-counts Ended false begun (Run.Ended begun) end told (λ same. cc) (λ same. cc) (λ ends. ends) tt run run.gives tells
   called (Run.Living begun) end told run tells =

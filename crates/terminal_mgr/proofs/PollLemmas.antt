@@ -67,7 +67,9 @@ kept-one old new byte none kept =
     kept ∙ sym (ap (λ (bytes : List ℕ). take 256 (old ++ bytes)) (typed-one byte none))
 
 -- the key that is due
-due-if : (key : Key) (keys : List Key) (tick byte : ℕ) (is_due : Bool) → (is_due ≡ true → key.tick ≤ tick) → (if is_due then Some key.byte else None) ≡ Some byte → (it : Key) × (key ∷ keys ≡ it ∷ (if is_due then keys else key ∷ keys)) × (it.tick ≤ tick) × (it.byte ≡ byte)
+due-if : (key : Key) (keys : List Key) (tick byte : ℕ) (is_due : Bool) → (is_due ≡ true → key.tick ≤ tick)
+    → (if is_due then Some key.byte else None) ≡ Some byte
+    → (it : Key) × (key ∷ keys ≡ it ∷ (if is_due then keys else key ∷ keys)) × (it.tick ≤ tick) × (it.byte ≡ byte)
 due-if key keys tick byte true inside is = (key, refl, inside refl, cc)
 due-if key keys tick byte false inside is = absurd cc
 
@@ -115,7 +117,10 @@ pub record KeyArrives (tick : ℕ) (key : Key) (old mid : List ℕ) (before afte
   pub count : bells + mute + short ≡ dropped_count old (key.byte ∷ [])
 
 -- no key arrived
-pub polls-none : (tick : ℕ) (sent : Option ℕ) (old : List ℕ) (before now : TerminalState) (broken : ℕ) → broken ≤ 1 → length old ≤ 256 → now.keys ≡ before.keys → now.put ≡ before.put → RoseTimes broken before.faults now.faults → (broken ≡ 0 → due_byte now.keys tick ≡ None) → Polls tick sent old old before now (record { signal = sent; memory = true })
+pub polls-none : (tick : ℕ) (sent : Option ℕ) (old : List ℕ) (before now : TerminalState) (broken : ℕ) → broken ≤ 1
+    → length old ≤ 256 → now.keys ≡ before.keys → now.put ≡ before.put → RoseTimes broken before.faults now.faults
+    → (broken ≡ 0 → due_byte now.keys tick ≡ None) → Polls tick sent old old before now
+    (record { signal = sent; memory = true })
 polls-none tick sent old before now broken once within keys put faults none_due = record {
   taken = [];
   bells = 0;
@@ -135,7 +140,9 @@ polls-none tick sent old before now broken once within keys put faults none_due 
 }
 
 -- a bell found no memory
-pub polls-last : (tick : ℕ) (sent : Option ℕ) (key : Key) (old mid : List ℕ) (before after : TerminalState) → KeyArrives tick key old mid before after 1 → signal_of key.byte ≡ None → Polls tick sent old mid before after (record { signal = sent; memory = false })
+pub polls-last : (tick : ℕ) (sent : Option ℕ) (key : Key) (old mid : List ℕ) (before after : TerminalState)
+    → KeyArrives tick key old mid before after 1 → signal_of key.byte ≡ None → Polls tick sent old mid before after
+    (record { signal = sent; memory = false })
 polls-last tick sent key old mid before after k none = record {
   taken = key ∷ [];
   bells = k.bells;
@@ -163,7 +170,8 @@ bells-last b c m n x y first rest = omega arith
 dropped-sum : (a k t m : ℕ) → m ≡ min 256 (a + k) → a + (k + t) - 256 ≡ (a + k - 256) + (m + t - 256)
 dropped-sum a k t m is = omega arith
 
-dropped-more : (old mid : List ℕ) (byte : ℕ) (rest : List ℕ) → mid ≡ take 256 (old ++ typed_bytes (byte ∷ [])) → dropped_count old (byte ∷ rest) ≡ dropped_count old (byte ∷ []) + dropped_count mid rest
+dropped-more : (old mid : List ℕ) (byte : ℕ) (rest : List ℕ) → mid ≡ take 256 (old ++ typed_bytes (byte ∷ []))
+    → dropped_count old (byte ∷ rest) ≡ dropped_count old (byte ∷ []) + dropped_count mid rest
 dropped-more old mid byte rest kept =
     let one : List ℕ = typed_bytes (byte ∷ []) in
     let others : List ℕ = typed_bytes rest in
@@ -172,11 +180,14 @@ dropped-more old mid byte rest kept =
     ap (λ (n : ℕ). length old + n - 256) sum ∙ dropped-sum (length old) (length one) (length others) (length mid) room
 
 -- a key arrived, and others after it
-pub polls-cons : (tick : ℕ) (sent : Option ℕ) (key : Key) (old mid new : List ℕ) (before after now : TerminalState) (answer : Arrival) → KeyArrives tick key old mid before after 0 → Polls tick (option_or sent (signal_of key.byte)) mid new after now answer → Polls tick sent old new before now answer
+pub polls-cons : (tick : ℕ) (sent : Option ℕ) (key : Key) (old mid new : List ℕ) (before after now : TerminalState)
+    (answer : Arrival) → KeyArrives tick key old mid before after 0 → Polls tick (option_or sent (signal_of key.byte))
+    mid new after now answer → Polls tick sent old new before now answer
 polls-cons tick sent key old mid new before after now answer k p =
     let one : List ℕ = typed_bytes (key.byte ∷ []) in
     let others : List ℕ = typed_bytes (key_bytes p.taken) in
-    let count : dropped_count old (key.byte ∷ key_bytes p.taken) ≡ dropped_count old (key.byte ∷ []) + dropped_count mid (key_bytes p.taken) = dropped-more old mid key.byte (key_bytes p.taken) k.kept in
+    let count : dropped_count old (key.byte ∷ key_bytes p.taken) ≡ dropped_count old (key.byte ∷ []) + dropped_count
+    mid (key_bytes p.taken) = dropped-more old mid key.byte (key_bytes p.taken) k.kept in
     record {
       taken = key ∷ p.taken;
       bells = k.bells + p.bells;
@@ -185,18 +196,31 @@ polls-cons tick sent key old mid new before after now answer k p =
       once = p.once;
       in_order = k.keys ∙ ap (λ (keys : List Key). key ∷ keys) p.in_order;
       due = All-cons (λ (key : Key). key.tick ≤ tick) key p.taken k.due p.due;
-      kept = p.kept ∙ ap (λ (bytes : List ℕ). take 256 (bytes ++ others)) k.kept ∙ take-front 256 (old ++ one) others ∙ ap (take 256) (append_assoc old one others ∙ ap (λ (bytes : List ℕ). old ++ bytes) (sym (typed-first key.byte (key_bytes p.taken))));
+      kept = p.kept ∙ ap (λ (bytes : List ℕ). take 256 (bytes ++ others)) k.kept ∙ take-front 256 (old ++ one) others
+          ∙ ap (take 256) (append_assoc old one others ∙ ap (λ (bytes : List ℕ). old ++ bytes)
+          (sym (typed-first key.byte (key_bytes p.taken))));
       signal = p.signal ∙ signal-first sent key.byte (key_bytes p.taken);
-      put = p.put ∙ ap (λ (stream : Option (List ℕ)). stream_with stream (replicate p.bells 7)) k.put ∙ stream_with-twice before.put (replicate k.bells 7) (replicate p.bells 7) ∙ ap (stream_with before.put) (replicate-append-replicate k.bells p.bells 7);
-      faults = let P : ℕ → Type 0 = λ n. RoseTimes n before.faults now.faults in subst P (sym (add_assoc k.mute p.mute p.broken)) (rose-both k.mute (p.mute + p.broken) before.faults after.faults now.faults k.faults p.faults);
-      every_bell = λ memory. let rest : p.bells + p.mute ≡ dropped_count mid (key_bytes p.taken) = p.every_bell memory in let first : k.bells + k.mute + 0 ≡ dropped_count old (key.byte ∷ []) = k.count in bells-sum k.bells p.bells k.mute p.mute 0 _ _ first rest ∙ sym count;
-      last_bell = λ memory. let rest : p.bells + p.mute + 1 ≡ dropped_count mid (key_bytes p.taken) = p.last_bell memory in let first : k.bells + k.mute + 0 ≡ dropped_count old (key.byte ∷ []) = k.count in bells-last k.bells p.bells k.mute p.mute _ _ first rest ∙ sym count;
+      put = p.put ∙ ap (λ (stream : Option (List ℕ)). stream_with stream (replicate p.bells 7)) k.put ∙
+          stream_with-twice before.put (replicate k.bells 7) (replicate p.bells 7) ∙ ap (stream_with before.put)
+          (replicate-append-replicate k.bells p.bells 7);
+      faults = let P : ℕ → Type 0 = λ n. RoseTimes n before.faults now.faults in subst P
+          (sym (add_assoc k.mute p.mute p.broken)) (rose-both k.mute (p.mute + p.broken) before.faults after.faults
+          now.faults k.faults p.faults);
+      every_bell = λ memory. let rest : p.bells + p.mute ≡ dropped_count mid (key_bytes p.taken) = p.every_bell memory
+          in let first : k.bells + k.mute + 0 ≡ dropped_count old (key.byte ∷ []) = k.count in bells-sum k.bells
+          p.bells k.mute p.mute 0 _ _ first rest ∙ sym count;
+      last_bell = λ memory. let rest : p.bells + p.mute + 1 ≡ dropped_count mid (key_bytes p.taken) = p.last_bell
+          memory in let first : k.bells + k.mute + 0 ≡ dropped_count old (key.byte ∷ []) = k.count in bells-last
+          k.bells p.bells k.mute p.mute _ _ first rest ∙ sym count;
       all_taken = p.all_taken;
       unbroken = p.unbroken;
     }
 
 -- the driver gave a key, and it arrived
-module _ (tick : ℕ) (sent : Option ℕ) (byte : ℕ) (old mid : List ℕ) (before asked after : TerminalState) (given : due_byte before.keys tick ≡ Some byte) (left : asked.keys ≡ keys_after before.keys tick) (put_kept : asked.put ≡ before.put) (faults_kept : asked.faults ≡ before.faults) (kept : mid ≡ take 256 (old ++ typed_bytes (byte ∷ []))) where
+module _ (tick : ℕ) (sent : Option ℕ) (byte : ℕ) (old mid : List ℕ) (before asked after : TerminalState)
+    (given : due_byte before.keys tick ≡ Some byte) (left : asked.keys ≡ keys_after before.keys tick)
+    (put_kept : asked.put ≡ before.put) (faults_kept : asked.faults ≡ before.faults)
+    (kept : mid ≡ take 256 (old ++ typed_bytes (byte ∷ []))) where
   abbrev the_key : (key : Key) × (before.keys ≡ key ∷ keys_after before.keys tick) × (key.tick ≤ tick) × (key.byte ≡ byte)
   the_key = due-key before.keys tick byte given
 
@@ -213,7 +237,10 @@ module _ (tick : ℕ) (sent : Option ℕ) (byte : ℕ) (old mid : List ℕ) (bef
   }
 
   -- and others may follow
-  pub poll-goes_on : (new : List ℕ) (now : TerminalState) (answer : Arrival) → (bells mute : ℕ) × (bells + mute ≡ dropped_count old (byte ∷ [])) × Rings bells mute asked after → Polls tick (option_or sent (signal_of byte)) mid new after now answer → Polls tick sent old new before now answer
+  pub poll-goes_on : (new : List ℕ) (now : TerminalState) (answer : Arrival) → (bells mute : ℕ) ×
+      (bells + mute ≡ dropped_count old (byte ∷ [])) × Rings bells mute asked after
+      → Polls tick (option_or sent (signal_of byte)) mid new after now answer → Polls tick sent old new before now
+      answer
   poll-goes_on new now answer rung rest =
       let P : ℕ → Type 0 = λ b. Polls tick (option_or sent (signal_of b)) mid new after now answer in
       polls-cons tick sent the_key.0 old mid new before after now answer (arrived rung.0 rung.1 0 (add-zero (rung.0 + rung.1) ∙ rung.2) rung.3) (subst P (sym the_key.3) rest)

@@ -9,7 +9,9 @@ use Rattle.io_model.specs.declared.terminal.Reading.{Reading}
 differ : (a b : ℕ) → (a == b) ≡ false → b ≡ a → ⊥
 differ a b h same = grind (arith, nat_tests)
 
-by_reading : (request : Reading) (reading : Option Reading) → option_map_or (is_process request.process) (option_map (λ (it : Reading). it.process) reading) false ≡ false → IfSome reading (λ it. it.process ≡ request.process → it ≡ request)
+by_reading : (request : Reading) (reading : Option Reading) → option_map_or (is_process request.process)
+    (option_map (λ (it : Reading). it.process) reading) false ≡ false
+    → IfSome reading (λ it. it.process ≡ request.process → it ≡ request)
 by_reading request None free = tt
 by_reading request (Some it) free = λ same. absurd (differ request.process.0 it.process.0 free (ap (λ (p : Pid). p.0) same))
 

@@ -106,7 +106,9 @@ module _ (call : PathCall) (asker : Asker) (files : Files) (reached : Option ℕ
       };
     }
 
-    left-changed : (it : FileEffect) → Leaves call asker files it → (regs : Regs) → it.end ≡ answers regs → may_change_volume call ≡ true → (drive : ℕ) → reached ≡ Some drive → (old v : DiskVolume) → volume_at files drive ≡ Some old → Left (with_drives_after (with_volume_after it drive v) drives)
+    left-changed : (it : FileEffect) → Leaves call asker files it → (regs : Regs) → it.end ≡ answers regs
+        → may_change_volume call ≡ true → (drive : ℕ) → reached ≡ Some drive → (old v : DiskVolume)
+        → volume_at files drive ≡ Some old → Left (with_drives_after (with_volume_after it drive v) drives)
     left-changed it left regs answered may drive reaches old v was = record {
       over = left.over;
       paths = left.paths;
@@ -150,7 +152,8 @@ module _ (call : PathCall) (asker : Asker) (files : Files) (reached : Option ℕ
       ap (λ (v : DiskVolume). slice_set files.volumes drive (Some v)) same
       ∙ ap (slice_set files.volumes drive) (sym was) ∙ set-get_or files.volumes drive None
 
-  left-broken : (step : FileStep) → reached ≡ drive_of step → (effect : FileEffect) (broken : IsBroken step asker files effect) → (may_change_volume call ≡ false → broken.left ≡ broken.old) → Left effect
+  left-broken : (step : FileStep) → reached ≡ drive_of step → (effect : FileEffect) (broken : IsBroken step asker
+      files effect) → (may_change_volume call ≡ false → broken.left ≡ broken.old) → Left effect
   left-broken step reached_is effect broken same = subst Left (sym broken.effect_is) (record {
     over = refl;
     paths = inl refl;
@@ -227,13 +230,18 @@ module _ (call : PathCall) (inner : Inner) (files : Files) (now : TimePacket) (p
         is = it.is;
       }
 
-      by_volumes : NoVolumeChanges files effect.files ⊎ OneVolumeChanges reached files effect.files ⊎ FailsSo call asker files reached effect → NoVolumeChanges files (files_after p effect) ⊎ OneVolumeChanges reached files (files_after p effect) ⊎ OneDriveFails reached files (result_of inner p (io_effect effect)) (files_after p effect)
+      by_volumes : NoVolumeChanges files effect.files ⊎ OneVolumeChanges reached files effect.files ⊎ FailsSo call
+          asker files reached effect → NoVolumeChanges files (files_after p effect) ⊎ OneVolumeChanges reached files
+          (files_after p effect) ⊎ OneDriveFails reached files (result_of inner p (io_effect effect))
+          (files_after p effect)
       by_volumes (inl stay) = inl (same_volumes stay)
       by_volumes (inr (inl one)) =
           inr (inl (record { drive = one.drive; reaches = one.reaches; old = one.old; was = one.was; changed = one.changed; is = one.is; none_failed = one.none_failed }))
       by_volumes (inr (inr broken)) = inr (inr (one_fails broken))
 
-      by_refusal : NoVolumeChanges files effect.files ⊎ FailsSo call asker files reached effect → NoVolumeChanges files (files_after p effect) ⊎ OneDriveFails reached files (result_of inner p (io_effect effect)) (files_after p effect)
+      by_refusal : NoVolumeChanges files effect.files ⊎ FailsSo call asker files reached effect
+          → NoVolumeChanges files (files_after p effect) ⊎ OneDriveFails reached files
+          (result_of inner p (io_effect effect)) (files_after p effect)
       by_refusal (inl stay) = inl (same_volumes stay)
       by_refusal (inr broken) = inr (one_fails broken)
 
@@ -248,7 +256,10 @@ module _ (call : PathCall) (inner : Inner) (files : Files) (now : TimePacket) (p
   Comes effect = OnIt effect ⊎ Touching effect
 
   -- a call on a terminal or a pipe
-  pub on-device : (io : IoStep) (it : IoEffect) (drives : List DriveState) → NoneFailed files.drives drives → IsDeviceStep call asker files (length old) io → Does io asker.caller files.io it old new → IsOnDevice call inner files p (result_of inner p it) (files_after p (with_drives_after (on_files files it) drives)) old new
+  pub on-device : (io : IoStep) (it : IoEffect) (drives : List DriveState) → NoneFailed files.drives drives
+      → IsDeviceStep call asker files (length old) io → Does io asker.caller files.io it old new
+      → IsOnDevice call inner files p (result_of inner p it)
+      (files_after p (with_drives_after (on_files files it) drives)) old new
   on-device io it drives none on does = record {
     device = on.device;
     device_is = on.device_is;
@@ -263,37 +274,60 @@ module _ (call : PathCall) (inner : Inner) (files : Files) (now : TimePacket) (p
     none_failed = none;
   }
 
-  by-deed : (deed : Deed) (it : FileEffect) (drives : List DriveState) → NoneFailed files.drives drives → Splits call asker files (length old) reached deed → DoesDeed deed asker files it old new → Comes (with_drives_after it drives)
+  by-deed : (deed : Deed) (it : FileEffect) (drives : List DriveState) → NoneFailed files.drives drives
+      → Splits call asker files (length old) reached deed → DoesDeed deed asker files it old new
+      → Comes (with_drives_after it drives)
   by-deed (leaves_so effect) it drives none left (is, same) =
-      inr (subst (λ (it : FileEffect). Touching (with_drives_after it drives)) (sym is) (left-devices (with_drives_after effect drives) (left-so call asker files reached drives none effect left) same))
+      inr (subst (λ (it : FileEffect). Touching (with_drives_after it drives)) (sym is)
+      (left-devices (with_drives_after effect drives) (left-so call asker files reached drives none effect left)
+      same))
   by-deed (as_io io) it drives none (inl on) (effect, does, is) =
       inl (subst (λ (it : FileEffect). OnIt (with_drives_after it drives)) (sym is) (on-device io effect drives none on.0 does, on.1))
   by-deed (as_io io) it drives none (inr still) (effect, does, is) =
       let nothing = still effect old new does in
-      inr (subst (λ (it : FileEffect). Touching (with_drives_after it drives)) (sym is) (left-devices (with_drives_after (on_files files effect) drives) (left-still call asker files reached drives none effect nothing.over nothing.io) nothing.terminals))
+      inr (subst (λ (it : FileEffect). Touching (with_drives_after it drives)) (sym is)
+      (left-devices (with_drives_after (on_files files effect) drives) (left-still call asker files reached drives
+      none effect nothing.over nothing.io) nothing.terminals))
   by-deed (changes change) it drives none answer (inl changed, same) =
       let (regs, answered) = answer.answer changed.number in
-      inr (subst (λ (it : FileEffect). Touching (with_drives_after it drives)) (sym changed.effect_is) (left-devices (with_drives_after (with_volume_after (change.effect changed.number) change.drive changed.new) drives) (left-changed call asker files reached drives none (change.effect changed.number) (answer.left changed.number) regs answered answer.may change.drive answer.reaches changed.old changed.new changed.is) same))
+      inr (subst (λ (it : FileEffect). Touching (with_drives_after it drives)) (sym changed.effect_is)
+      (left-devices (with_drives_after (with_volume_after (change.effect changed.number) change.drive changed.new)
+      drives) (left-changed call asker files reached drives none (change.effect changed.number)
+      (answer.left changed.number) regs answered answer.may change.drive answer.reaches changed.old changed.new
+      changed.is) same))
   by-deed (changes change) it drives none answer (inr long, same) =
-      inr (subst (λ (it : FileEffect). Touching (with_drives_after it drives)) (sym long.effect_is) (left-devices (with_drives_after (refuses_so _ files) drives) (left-so call asker files reached drives none (refuses_so _ files) (none-splits call asker files (length old) _)) same))
+      inr (subst (λ (it : FileEffect). Touching (with_drives_after it drives)) (sym long.effect_is)
+      (left-devices (with_drives_after (refuses_so _ files) drives) (left-so call asker files reached drives none
+      (refuses_so _ files) (none-splits call asker files (length old) _)) same))
 
   does-comes : (effect : FileEffect) → FileDoes step asker files effect old new → Comes effect
   does-comes effect (inl well) =
       subst Comes (sym well.effect_is) (by-deed (deed_of step files) well.it well.drives well.none_failed (step-splits call asker files (length old)) well.does)
   does-comes effect (inr (broken, same)) =
-      inr (left-devices effect (left-broken call asker files reached step refl effect broken (fault-still call asker files reached (length old) (deed_of step files) (step-splits call asker files (length old)) broken.old broken.left broken.may_be)) same)
+      inr (left-devices effect (left-broken call asker files reached step refl effect broken
+      (fault-still call asker files reached (length old) (deed_of step files) (step-splits call asker files
+      (length old)) broken.old broken.left broken.may_be)) same)
 
-module _ (call : PathCall) (inner : Inner) (files : Files) (now : TimePacket) (p : ℕ) (result : CallResult) (new : Files) (before after : List TerminalState) (it : FileAttempts call inner files now p result new before after) where
+module _ (call : PathCall) (inner : Inner) (files : Files) (now : TimePacket) (p : ℕ) (result : CallResult)
+    (new : Files) (before after : List TerminalState) (it : FileAttempts call inner files now p result new before
+    after) where
   -- it is on a terminal or a pipe, on no file, or it touches none
-  pub attempt-splits : IsOnDevice call inner files p result new before after × IsOnNoFile call (asker_of inner p now) files (length before) ⊎ LeavesDevices call inner files now p result new before after
+  pub attempt-splits : IsOnDevice call inner files p result new before after × IsOnNoFile call (asker_of inner p now)
+      files (length before) ⊎ LeavesDevices call inner files now p result new before after
   attempt-splits =
-      subst (λ (result : CallResult). IsOnDevice call inner files p result new before after × IsOnNoFile call (asker_of inner p now) files (length before) ⊎ LeavesDevices call inner files now p result new before after) (sym it.result_is)
-      (subst (λ (new : Files). IsOnDevice call inner files p (result_of inner p (io_effect it.effect)) new before after × IsOnNoFile call (asker_of inner p now) files (length before) ⊎ LeavesDevices call inner files now p (result_of inner p (io_effect it.effect)) new before after) (sym it.state)
+      subst (λ (result : CallResult). IsOnDevice call inner files p result new before after × IsOnNoFile call
+      (asker_of inner p now) files (length before) ⊎ LeavesDevices call inner files now p result new before after)
+      (sym it.result_is)
+      (subst (λ (new : Files). IsOnDevice call inner files p (result_of inner p (io_effect it.effect)) new before
+      after × IsOnNoFile call (asker_of inner p now) files (length before) ⊎ LeavesDevices call inner files now p
+      (result_of inner p (io_effect it.effect)) new before after) (sym it.state)
       (does-comes call inner files now p before after it.effect it.does))
 
   pub attempt-comes : IsOnDevice call inner files p result new before after ⊎ LeavesDevices call inner files now p result new before after
   attempt-comes = by_case attempt-splits
     where
-      by_case : IsOnDevice call inner files p result new before after × IsOnNoFile call (asker_of inner p now) files (length before) ⊎ LeavesDevices call inner files now p result new before after → IsOnDevice call inner files p result new before after ⊎ LeavesDevices call inner files now p result new before after
+      by_case : IsOnDevice call inner files p result new before after × IsOnNoFile call (asker_of inner p now) files
+          (length before) ⊎ LeavesDevices call inner files now p result new before after → IsOnDevice call inner files
+          p result new before after ⊎ LeavesDevices call inner files now p result new before after
       by_case (inl on) = inl on.0
       by_case (inr left) = inr left

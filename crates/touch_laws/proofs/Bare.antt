@@ -84,7 +84,8 @@ module _ (asker : Asker) (files : Files) (terms : ℕ) (bare : HasNoFiles files 
     way-agrees (Some device) = device-agrees (device_of (length files.drives) terms device)
 
     -- nothing is made at a root
-    root-agrees : (root : Bool) (drive : ℕ) → WayAgrees (if root && true then nowhere E_BPNAM else way_on_drive drive list.names (volume_at files drive)) (leads_nowhere (if root then E_BPNAM else E_MNF))
+    root-agrees : (root : Bool) (drive : ℕ) → WayAgrees (if root && true then nowhere E_BPNAM else way_on_drive drive
+        list.names (volume_at files drive)) (leads_nowhere (if root then E_BPNAM else E_MNF))
     root-agrees true drive = inr (E_BPNAM, refl, refl)
     root-agrees false drive = inr (E_MNF, ap (way_on_drive drive list.names) (bare.volumes drive), refl)
 
@@ -100,7 +101,10 @@ module _ (asker : Asker) (files : Files) (terms : ℕ) (bare : HasNoFiles files 
     new-device (Some Pipe) =
         no-root (length list.names == 0) (to_device_of list) _ (slash-agrees (has_slash_behind_device list) _)
 
-    new-way : (device : Option (List ℕ)) → WayAgrees (if (length list.names == 0) && option_map_or (λ device. is_drive (device_of (length files.drives) terms device)) device false then nowhere E_BPNAM else way_by asker files terms execute list device) (lead_by_device a_new_place (length files.drives) terms list device)
+    new-way : (device : Option (List ℕ)) → WayAgrees (if (length list.names == 0) && option_map_or
+        (λ device. is_drive (device_of (length files.drives) terms device)) device false then nowhere E_BPNAM else
+        way_by asker files terms execute list device) (lead_by_device a_new_place (length files.drives) terms list
+        device)
     new-way None =
         no-root (length list.names == 0) (way_from (directory_of files asker.caller.process.0 execute) list.names) (leads_nowhere E_PNNF) from-agrees
     new-way (Some device) = new-device (device_of (length files.drives) terms device)
@@ -108,14 +112,20 @@ module _ (asker : Asker) (files : Files) (terms : ℕ) (bare : HasNoFiles files 
     new-agrees : WayAgrees (way_to_new asker files terms execute list) (lead_of a_new_place (length files.drives) terms list)
     new-agrees = by_dots (ends_in_dots list)
       where
-        by_dots : (dots : Bool) → WayAgrees (if dots || is_root files terms list then nowhere E_BPNAM else way_of asker files terms execute list) (if dots then leads_nowhere E_BPNAM else lead_by_device a_new_place (length files.drives) terms list list.device)
+        by_dots : (dots : Bool) → WayAgrees (if dots || is_root files terms list then nowhere E_BPNAM else way_of
+            asker files terms execute list) (if dots then leads_nowhere E_BPNAM else lead_by_device a_new_place
+            (length files.drives) terms list list.device)
         by_dots true = inr (E_BPNAM, refl, refl)
         by_dots false = new-way list.device
 
   -- ---- I$Open and I$Create
 
   -- the list that was read
-  list-agrees : (whole : IoStep) (allowed : Bool) (next : PathList → FileStep) (lead : PathList → Lead) → ((list : PathList) → (next list ≡ comes (as_io whole)) ⊎ ((number : ℕ) × (next list ≡ refused number) × (opens_lead asker.caller files.io list (lead list) ≡ io_refused number))) → (list : Result PathList NameFault) → reads_device_list list allowed (λ list. opens_lead asker.caller files.io list (lead list)) ≡ whole → Agrees (reads_list list (tests_mode allowed) next) whole
+  list-agrees : (whole : IoStep) (allowed : Bool) (next : PathList → FileStep) (lead : PathList → Lead)
+      → ((list : PathList) → (next list ≡ comes (as_io whole)) ⊎ ((number : ℕ) × (next list ≡ refused number) ×
+      (opens_lead asker.caller files.io list (lead list) ≡ io_refused number))) → (list : Result PathList NameFault)
+      → reads_device_list list allowed (λ list. opens_lead asker.caller files.io list (lead list)) ≡ whole
+      → Agrees (reads_list list (tests_mode allowed) next) whole
   list-agrees whole true next lead agrees (Ok list) is = by_list (agrees list)
     where
       by_list : (next list ≡ comes (as_io whole)) ⊎ ((number : ℕ) × (next list ≡ refused number) × (opens_lead asker.caller files.io list (lead list) ≡ io_refused number)) → Agrees (next list) whole
@@ -128,22 +138,39 @@ module _ (asker : Asker) (files : Files) (terms : ℕ) (bare : HasNoFiles files 
 
   open-agrees : Agrees (file_step Call.Open asker files terms) (opens_device asker.caller files.io (length files.drives) terms)
   open-agrees =
-      list-agrees (opens_device asker.caller files.io (length files.drives) terms) (is_mode asker.caller.regs.a) (λ list. opens_on_way asker files terms list (way_of asker files terms (is_for_execution asker.caller.regs.a) list)) (lead_of what_is_there (length files.drives) terms)
-      (λ list. by_way list (way_of asker files terms (is_for_execution asker.caller.regs.a) list) (lead_of what_is_there (length files.drives) terms list) (way-agrees (is_for_execution asker.caller.regs.a) list list.device))
+      list-agrees (opens_device asker.caller files.io (length files.drives) terms) (is_mode asker.caller.regs.a)
+      (λ list. opens_on_way asker files terms list
+      (way_of asker files terms (is_for_execution asker.caller.regs.a) list))
+      (lead_of what_is_there (length files.drives) terms)
+      (λ list. by_way list (way_of asker files terms (is_for_execution asker.caller.regs.a) list)
+      (lead_of what_is_there (length files.drives) terms list) (way-agrees (is_for_execution asker.caller.regs.a)
+      list list.device))
       (list_of asker) refl
     where
-      by_way : (list : PathList) (way : Way) (lead : Lead) → WayAgrees way lead → (opens_on_way asker files terms list way ≡ comes (as_io (opens_device asker.caller files.io (length files.drives) terms))) ⊎ ((number : ℕ) × (opens_on_way asker files terms list way ≡ refused number) × (opens_lead asker.caller files.io list lead ≡ io_refused number))
+      by_way : (list : PathList) (way : Way) (lead : Lead) → WayAgrees way lead
+          → (opens_on_way asker files terms list way ≡ comes
+          (as_io (opens_device asker.caller files.io (length files.drives) terms))) ⊎
+          ((number : ℕ) × (opens_on_way asker files terms list way ≡ refused number) ×
+          (opens_lead asker.caller files.io list lead ≡ io_refused number))
       by_way list way lead (inl is) = inl (ap (opens_on_way asker files terms list) is)
       by_way list way lead (inr (number, here, there)) =
           inr (number, ap (opens_on_way asker files terms list) here, ap (opens_lead asker.caller files.io list) there)
 
   create-agrees : Agrees (file_step Call.Create asker files terms) (creates_device asker.caller files.io (length files.drives) terms)
   create-agrees =
-      list-agrees (creates_device asker.caller files.io (length files.drives) terms) (can_write asker.caller.regs.a) (λ list. creates_on_way asker files terms list (way_to_new asker files terms (is_for_execution asker.caller.regs.a) list)) (lead_of a_new_place (length files.drives) terms)
-      (λ list. by_way list (way_to_new asker files terms (is_for_execution asker.caller.regs.a) list) (lead_of a_new_place (length files.drives) terms list) (new-agrees (is_for_execution asker.caller.regs.a) list))
+      list-agrees (creates_device asker.caller files.io (length files.drives) terms) (can_write asker.caller.regs.a)
+      (λ list. creates_on_way asker files terms list (way_to_new asker files terms
+      (is_for_execution asker.caller.regs.a) list)) (lead_of a_new_place (length files.drives) terms)
+      (λ list. by_way list (way_to_new asker files terms (is_for_execution asker.caller.regs.a) list)
+      (lead_of a_new_place (length files.drives) terms list) (new-agrees (is_for_execution asker.caller.regs.a)
+      list))
       (list_of asker) refl
     where
-      by_way : (list : PathList) (way : Way) (lead : Lead) → WayAgrees way lead → (creates_on_way asker files terms list way ≡ comes (as_io (creates_device asker.caller files.io (length files.drives) terms))) ⊎ ((number : ℕ) × (creates_on_way asker files terms list way ≡ refused number) × (opens_lead asker.caller files.io list lead ≡ io_refused number))
+      by_way : (list : PathList) (way : Way) (lead : Lead) → WayAgrees way lead
+          → (creates_on_way asker files terms list way ≡ comes
+          (as_io (creates_device asker.caller files.io (length files.drives) terms))) ⊎
+          ((number : ℕ) × (creates_on_way asker files terms list way ≡ refused number) ×
+          (opens_lead asker.caller files.io list lead ≡ io_refused number))
       by_way list way lead (inl is) = inl (ap (creates_on_way asker files terms list) is)
       by_way list way lead (inr (number, here, there)) =
           inr (number, ap (creates_on_way asker files terms list) here, ap (opens_lead asker.caller files.io list) there)
@@ -187,7 +214,9 @@ module _ (call : PathCall) (device : IoCall) (inner : Inner) (files : Files) (no
   asker = asker_of inner p now
 
   -- both are refused
-  refused-does : (number : ℕ) (effect : FileEffect) (old new : List TerminalState) → io_step device asker.caller files.io (length files.drives) (length old) ≡ io_refused number → FileDoes (refused number) asker files effect old new → IsOnDevice call inner files p (result_of inner p (io_effect effect)) (files_after p effect) old new
+  refused-does : (number : ℕ) (effect : FileEffect) (old new : List TerminalState) → io_step device asker.caller
+      files.io (length files.drives) (length old) ≡ io_refused number → FileDoes (refused number) asker files effect
+      old new → IsOnDevice call inner files p (result_of inner p (io_effect effect)) (files_after p effect) old new
   refused-does number effect old new device_is (inr (broken, same)) = absurd (none-some broken.drive broken.reached)
   refused-does number effect old new device_is (inl well) =
       subst (λ (effect : FileEffect). IsOnDevice call inner files p (result_of inner p (io_effect effect)) (files_after p effect) old new)
@@ -207,7 +236,10 @@ module _ (call : PathCall) (device : IoCall) (inner : Inner) (files : Files) (no
       })
 
   -- a step that agrees with theirs is one of theirs
-  pub agreed-attempt : (left : Files) (old new : List TerminalState) → Agrees (file_step call asker files (length old)) (io_step device asker.caller files.io (length files.drives) (length old)) → FileAttempts call inner files now p result left old new → IsOnDevice call inner files p result left old new
+  pub agreed-attempt : (left : Files) (old new : List TerminalState)
+      → Agrees (file_step call asker files (length old)) (io_step device asker.caller files.io (length files.drives)
+      (length old)) → FileAttempts call inner files now p result left old new → IsOnDevice call inner files p result
+      left old new
   agreed-attempt left old new (inl step_is) it = step-on-device call device is inner files now p old new result left it step_is
   agreed-attempt left old new (inr (number, step_is, device_is)) it =
       subst (λ (result : CallResult). IsOnDevice call inner files p result left old new) (sym it.result_is)
@@ -218,7 +250,9 @@ module _ (call : PathCall) (device : IoCall) (inner : Inner) (files : Files) (no
   bare-attempt left old new bare it = agreed-attempt left old new (agrees-by asker files (length old) bare call device is) it
 
   -- and back
-  attempts-by : (left : Io) (old new : List TerminalState) (it : IoAttempts device inner files.io (length files.drives) p result left old new) → FileDoes (file_step call asker files (length old)) asker files (on_files files it.effect) old new → FileAttempts call inner files now p result (with_io files left) old new
+  attempts-by : (left : Io) (old new : List TerminalState) (it : IoAttempts device inner files.io
+      (length files.drives) p result left old new) → FileDoes (file_step call asker files (length old)) asker files
+      (on_files files it.effect) old new → FileAttempts call inner files now p result (with_io files left) old new
   attempts-by left old new it does = record {
     effect = on_files files it.effect;
     does = does;
@@ -226,10 +260,14 @@ module _ (call : PathCall) (device : IoCall) (inner : Inner) (files : Files) (no
     state = ap (with_io files) it.state;
   }
 
-  pub bare-back : (left : Io) (old new : List TerminalState) → HasNoFiles files p → IoAttempts device inner files.io (length files.drives) p result left old new → FileAttempts call inner files now p result (with_io files left) old new
+  pub bare-back : (left : Io) (old new : List TerminalState) → HasNoFiles files p → IoAttempts device inner files.io
+      (length files.drives) p result left old new → FileAttempts call inner files now p result (with_io files left)
+      old new
   bare-back left old new bare it = by_step (agrees-by asker files (length old) bare call device is)
     where
-      by_step : Agrees (file_step call asker files (length old)) (io_step device asker.caller files.io (length files.drives) (length old)) → FileAttempts call inner files now p result (with_io files left) old new
+      by_step : Agrees (file_step call asker files (length old)) (io_step device asker.caller files.io
+          (length files.drives) (length old)) → FileAttempts call inner files now p result (with_io files left) old
+          new
       by_step (inl step_is) =
           attempts-by left old new it
           (subst (λ (step : FileStep). FileDoes step asker files (on_files files it.effect) old new) (sym step_is)

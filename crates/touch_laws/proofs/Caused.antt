@@ -35,7 +35,9 @@ module _ (m : Made) where
   abbrev pub Caused : Deed → Type 0
   Caused (leaves_so it) = (number : ℕ) → it.end ≡ fails number → FileCause m number
   Caused (as_io step) =
-      IsDeviceStep m.call m.asker m.files m.terms step × IsOnNoFile m.call m.asker m.files m.terms ⊎ ((it : IoEffect) (old new : List TerminalState) (number : ℕ) → Does step m.asker.caller m.files.io it old new → it.end ≡ fails number → FileCause m number)
+      IsDeviceStep m.call m.asker m.files m.terms step × IsOnNoFile m.call m.asker m.files m.terms ⊎
+      ((it : IoEffect) (old new : List TerminalState) (number : ℕ) → Does step m.asker.caller m.files.io it old
+      new → it.end ≡ fails number → FileCause m number)
   Caused (changes it) = (n : ℕ) → (regs : Regs) × ((it.effect n).end ≡ answers regs)
 
   abbrev pub StepCaused : FileStep → Type 0
@@ -58,7 +60,10 @@ module _ (m : Made) where
   -- ---- the list
 
   module _ (reads : reads_list m.call ≡ true) (unreadable : list_of m.asker ≡ Err Unreadable → IsUnreadable m.call m.asker) where
-    pub caused-list : (read : Result PathList NameFault) → list_of m.asker ≡ read → (test : FileStep → FileStep) (next : PathList → FileStep) → ((step : FileStep) → StepCaused step → StepCaused (test step)) → ((list : PathList) → list_of m.asker ≡ Ok list → StepCaused (next list)) → StepCaused (reads_list_of read test next)
+    pub caused-list : (read : Result PathList NameFault) → list_of m.asker ≡ read → (test : FileStep → FileStep)
+        (next : PathList → FileStep) → ((step : FileStep) → StepCaused step → StepCaused (test step))
+        → ((list : PathList) → list_of m.asker ≡ Ok list → StepCaused (next list))
+        → StepCaused (reads_list_of read test next)
     caused-list (Ok list) is test next tests holds = tests (next list) (holds list is)
     caused-list (Err Unreadable) is test next tests holds = caused-refused E_BPADDR (bad_address refl (unreadable is))
     caused-list (Err NoName) is test next tests holds =
@@ -66,18 +71,33 @@ module _ (m : Made) where
 
   -- ---- the walk
 
-  module _ (execute : Bool) (names steps : List (List ℕ)) (walks_so : (place : FilePlace) (v : DiskVolume) (end : WalkEnd) → Leads m (along place names) → volume_at m.files place.drive ≡ Some v → walk v.files m.asker.user execute place.number steps ≡ end → Walks m names place v end) where
-    pub caused-walks : (place : FilePlace) (next : Found → FileStep) → Leads m (along place names) → ((found : Found) → Finds m names found → StepCaused (next found)) → StepCaused (walks m.asker m.files execute place steps next)
+  module _ (execute : Bool) (names steps : List (List ℕ)) (walks_so : (place : FilePlace) (v : DiskVolume)
+      (end : WalkEnd) → Leads m (along place names) → volume_at m.files place.drive ≡ Some v
+      → walk v.files m.asker.user execute place.number steps ≡ end → Walks m names place v end) where
+    pub caused-walks : (place : FilePlace) (next : Found → FileStep) → Leads m (along place names)
+        → ((found : Found) → Finds m names found → StepCaused (next found))
+        → StepCaused (walks m.asker m.files execute place steps next)
     caused-walks place next leads holds =
         caused-needs (volume_at m.files place.drive) E_MNF (λ v. reaches place.drive (walk_ends place.drive v (walk v.files m.asker.user execute place.number steps) next))
         (λ none. no_volume names place refl leads none)
         (λ v is. by_end v is (walk v.files m.asker.user execute place.number steps) refl)
       where
-        by_end : (v : DiskVolume) → volume_at m.files place.drive ≡ Some v → (end : WalkEnd) → walk v.files m.asker.user execute place.number steps ≡ end → StepCaused (walk_ends place.drive v end next)
+        by_end : (v : DiskVolume) → volume_at m.files place.drive ≡ Some v → (end : WalkEnd)
+            → walk v.files m.asker.user execute place.number steps ≡ end
+            → StepCaused (walk_ends place.drive v end next)
         by_end v mounted (arrives n) is =
             caused-needs (v.files n) E_PNNF (λ file. next (record { place = record { drive = place.drive; number = n }; volume = v; file = file }))
             (λ none. not_there names place v n refl (walks_so place v (arrives n) leads mounted is) none)
-            (λ file there. holds (record { place = record { drive = place.drive; number = n }; volume = v; file = file }) (record { start = place.number; walks = walks_so place v (arrives n) leads mounted is; there = there }))
+            (λ file there. holds (record {
+              place = record { drive = place.drive; number = n };
+              volume = v;
+              file = file;
+            }) (record {
+              start = place.number;
+              walks = walks_so place v (arrives n) leads mounted is;
+              there =
+                  there;
+            }))
         by_end v mounted not_allowed is =
             caused-refused E_FNA (may_not_pass names place v refl (walks_so place v not_allowed leads mounted is))
         by_end v mounted not_found is =

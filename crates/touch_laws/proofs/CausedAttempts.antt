@@ -54,7 +54,10 @@ module _ (call : PathCall) (inner : Inner) (files : Files) (now : TimePacket) (p
   abbrev Why : Type 0
   Why = FileCause (made call (asker_of inner p now) files (length old)) number
 
-  by-deed : (deed : Deed) → deed_of step files ≡ deed → (it : FileEffect) (drives : List DriveState) → NoneFailed files.drives drives → Caused (made call (asker_of inner p now) files (length old)) deed → DoesDeed deed (asker_of inner p now) files it old new → it.end ≡ fails number → On (with_drives_after it drives) ⊎ Why
+  by-deed : (deed : Deed) → deed_of step files ≡ deed → (it : FileEffect) (drives : List DriveState)
+      → NoneFailed files.drives drives → Caused (made call (asker_of inner p now) files (length old)) deed
+      → DoesDeed deed (asker_of inner p now) files it old new → it.end ≡ fails number
+      → On (with_drives_after it drives) ⊎ Why
   by-deed (leaves_so effect) deed_is it drives none caused (is, same) ended =
       inr (caused number (sym (ap (λ (it : FileEffect). it.end) is) ∙ ended))
   by-deed (as_io io) deed_is it drives none (inl on) (effect, does, is) ended =
@@ -65,7 +68,8 @@ module _ (call : PathCall) (inner : Inner) (files : Files) (now : TimePacket) (p
       let (regs, answered) = answer changed.number in
       absurd (not-refused regs number (sym answered ∙ sym (ap (λ (it : FileEffect). it.end) changed.effect_is) ∙ ended))
   by-deed (changes change) deed_is it drives none answer (inr long, same) ended =
-      inr (finds_no_segment (sym (same-fails E_SLF number (sym (ap (λ (it : FileEffect). it.end) long.effect_is) ∙ ended))) (record { it = change; is = deed_is; v = long.old; mounted = long.is; full = long.too_long }))
+      inr (finds_no_segment (sym (same-fails E_SLF number (sym (ap (λ (it : FileEffect). it.end) long.effect_is) ∙
+      ended))) (record { it = change; is = deed_is; v = long.old; mounted = long.is; full = long.too_long }))
 
   abbrev reached : Option ℕ
   reached = drive_reached call (asker_of inner p now) files (length old)
@@ -75,22 +79,26 @@ module _ (call : PathCall) (inner : Inner) (files : Files) (now : TimePacket) (p
 
   comes-of : (effect : FileEffect) → FileDoes step (asker_of inner p now) files effect old new → effect.end ≡ fails number → Comes effect
   comes-of effect (inl well) ended =
-      subst Comes (sym well.effect_is) (by_case (by-deed (deed_of step files) refl well.it well.drives well.none_failed (step-caused call (asker_of inner p now) files (length old)) well.does (sym (ap (λ (it : FileEffect). it.end) well.effect_is) ∙ ended)))
+      subst Comes (sym well.effect_is) (by_case (by-deed (deed_of step files) refl well.it well.drives
+      well.none_failed (step-caused call (asker_of inner p now) files (length old)) well.does
+      (sym (ap (λ (it : FileEffect). it.end) well.effect_is) ∙ ended)))
     where
       by_case : On (with_drives_after well.it well.drives) ⊎ Why → Comes (with_drives_after well.it well.drives)
       by_case (inl on) = inl on
       by_case (inr why) = inr (inr why)
-  comes-of effect (inr (broken, same)) ended = inr (inl (subst (λ (effect : FileEffect). OneDriveFails reached files (result_of inner p (io_effect effect)) (files_after p effect)) (sym broken.effect_is) (record {
-    drive = broken.drive;
-    reaches = broken.reached;
-    number = broken.number;
-    failed = broken.failed;
-    answer = refl;
-    old = broken.old;
-    was = broken.is;
-    left = broken.left;
-    is = refl;
-  })))
+  comes-of effect (inr (broken, same)) ended = inr
+      (inl (subst (λ (effect : FileEffect). OneDriveFails reached files (result_of inner p (io_effect effect))
+      (files_after p effect)) (sym broken.effect_is) (record {
+        drive = broken.drive;
+        reaches = broken.reached;
+        number = broken.number;
+        failed = broken.failed;
+        answer = refl;
+        old = broken.old;
+        was = broken.is;
+        left = broken.left;
+        is = refl;
+      })))
 
 module _ (call : PathCall) (inner : Inner) (files : Files) (now : TimePacket) (p : ℕ) (before after : List TerminalState) (number : ℕ) where
   -- it is on a terminal or a pipe, on no file; or the drive that it reached failed; or it has its cause

@@ -38,15 +38,32 @@ no-names : (names : List (List ℕ)) → last_of names ≡ None → before_last 
 no-names [] none = refl
 no-names (name ∷ names) none = absurd (got name names (ap (slice_get (name ∷ names)) (omega arith) ∙ none))
 
-module _ (m : Made) (reads : reads_list m.call ≡ true) (deletes_it : deletes_name m.call ≡ true) (execute : Bool) (execute_is : execute ≡ executes m.call m.asker.caller.regs.a) (other_open : m.call ≢ Call.Open) (other_create : m.call ≢ Call.Create) (walks_so : (names : List (List ℕ)) (place : FilePlace) (v : DiskVolume) (end : WalkEnd) → Leads m (along place names) → volume_at m.files place.drive ≡ Some v → walk v.files m.asker.user execute place.number (before_last names) ≡ end → Walks m names place v end) where
+module _ (m : Made) (reads : reads_list m.call ≡ true) (deletes_it : deletes_name m.call ≡ true) (execute : Bool)
+    (execute_is : execute ≡ executes m.call m.asker.caller.regs.a) (other_open : m.call ≢ Call.Open)
+    (other_create : m.call ≢ Call.Create) (walks_so : (names : List (List ℕ)) (place : FilePlace) (v : DiskVolume)
+    (end : WalkEnd) → Leads m (along place names) → volume_at m.files place.drive ≡ Some v → walk v.files m.asker.user
+    execute place.number (before_last names) ≡ end → Walks m names place v end) where
   abbrev D : FileStep → Type 0
   D step = StepCaused m step
 
   goes : (list : PathList) (name : List ℕ) (found : Found) (n : ℕ) → FindsIn m found name → look_up found.file.contents name ≡ Some n → D (deletes_file m.asker m.files list name found n)
   goes list name found n finds there =
-      caused-refuses m (not (may_delete (found.volume.files n) m.asker.user)) E_FNA (refuses (is_open m.files (record { drive = found.place.drive; number = n })) E_SHARE (comes (changes (record { drive = found.place.drive; change = deletes found.place.number n name; effect = λ new. leaves (answers (past_list m.asker.caller.regs list)) m.files }))))
+      caused-refuses m (not (may_delete (found.volume.files n) m.asker.user)) E_FNA
+      (refuses (is_open m.files (record { drive = found.place.drive; number = n })) E_SHARE
+      (comes (changes (record {
+        drive = found.place.drive;
+        change = deletes found.place.number n name;
+        effect = λ
+            new. leaves (answers (past_list m.asker.caller.regs list)) m.files;
+      }))))
       (λ test. forbidden_in found name refl finds (inr (inr (n, deletes_it, there, not-is (may_delete (found.volume.files n) m.asker.user) test))))
-      (caused-refuses m (is_open m.files (record { drive = found.place.drive; number = n })) E_SHARE (comes (changes (record { drive = found.place.drive; change = deletes found.place.number n name; effect = λ new. leaves (answers (past_list m.asker.caller.regs list)) m.files })))
+      (caused-refuses m (is_open m.files (record { drive = found.place.drive; number = n })) E_SHARE
+      (comes (changes (record {
+        drive = found.place.drive;
+        change = deletes found.place.number n name;
+        effect = λ
+            new. leaves (answers (past_list m.asker.caller.regs list)) m.files;
+      })))
       (λ test. is_used found name n refl deletes_it finds there test)
       (λ new. (past_list m.asker.caller.regs list, refl)))
 
@@ -58,10 +75,14 @@ module _ (m : Made) (reads : reads_list m.call ≡ true) (deletes_it : deletes_n
       (λ none. not_in found name refl deletes_it finds none)
       (λ n there. goes list name found n finds there))
 
-  delete-way : (list : PathList) (way : Way) → Leads m way → (last : Option (List ℕ)) → ((place : FilePlace) (names : List (List ℕ)) → way ≡ along place names → last_of names ≡ last) → D (deletes_named m.asker m.files execute list way last)
+  delete-way : (list : PathList) (way : Way) → Leads m way → (last : Option (List ℕ))
+      → ((place : FilePlace) (names : List (List ℕ)) → way ≡ along place names → last_of names ≡ last)
+      → D (deletes_named m.asker m.files execute list way last)
   delete-way list (along place names) leads None last_is =
       let last = last_is place names refl in
-      caused-walks m execute names names (λ place v end leads mounted is. walks_so names place v end leads mounted (ap (walk v.files m.asker.user execute place.number) (no-names names last) ∙ is)) place (λ root. refused E_FNA) leads
+      caused-walks m execute names names (λ place v end leads mounted is. walks_so names place v end leads mounted
+      (ap (walk v.files m.asker.user execute place.number) (no-names names last) ∙ is)) place
+      (λ root. refused E_FNA) leads
       (λ found finds. caused-refused m E_FNA (a_root names place refl deletes_it leads last))
   delete-way list (along place names) leads (Some name) last_is =
       caused-walks m execute names (before_last names) (λ place v end leads mounted is. walks_so names place v end leads mounted is) place (deletes_in m.asker m.files execute list name) leads
@@ -105,19 +126,33 @@ module _ (asker : Asker) (files : Files) (terms : ℕ) (execute : Bool) (list : 
 
 -- ---- the calls
 
-last-of : (asker : Asker) (files : Files) (terms : ℕ) (execute : Bool) (list : PathList) (place : FilePlace) (names : List (List ℕ)) → way_of asker files terms execute list ≡ along place names → last_of names ≡ last_of list.names
+last-of : (asker : Asker) (files : Files) (terms : ℕ) (execute : Bool) (list : PathList) (place : FilePlace)
+    (names : List (List ℕ)) → way_of asker files terms execute list ≡ along place names → last_of names ≡ last_of
+    list.names
 last-of asker files terms execute list place names is =
     ap last_of (way-names asker files terms execute list place names list.device is)
 
 module _ (asker : Asker) (files : Files) (terms : ℕ) where
   pub delete-caused : StepCaused (made Call.Delete asker files terms) (i_delete asker files terms)
   delete-caused =
-      caused-list (made Call.Delete asker files terms) refl (λ is. (refl, is)) (list_of asker) refl (λ step. step) (λ list. deletes_named asker files false list (way_of asker files terms false list) (last_of list.names))
+      caused-list (made Call.Delete asker files terms) refl (λ is. (refl, is)) (list_of asker) refl (λ step. step)
+      (λ list. deletes_named asker files false list (way_of asker files terms false list) (last_of list.names))
       (λ step holds. holds)
-      (λ list read. delete-way (made Call.Delete asker files terms) refl refl false refl (λ same. cc) (λ same. cc) (λ names place v end leads mounted is. record { leads = leads; mounted = mounted; is = is }) list (way_of asker files terms false list) (record { reads = refl; list = list; read = read; is = refl }) (last_of list.names) (last-of asker files terms false list))
+      (λ list read. delete-way (made Call.Delete asker files terms) refl refl false refl (λ same. cc) (λ same. cc)
+      (λ names place v end leads mounted is. record { leads = leads; mounted = mounted; is = is }) list
+      (way_of asker files terms false list) (record { reads = refl; list = list; read = read; is = refl })
+      (last_of list.names) (last-of asker files terms false list))
 
   pub deletx-caused : StepCaused (made Call.DeletX asker files terms) (i_deletx asker files terms)
   deletx-caused =
-      caused-list (made Call.DeletX asker files terms) refl (λ is. (refl, is)) (list_of asker) refl (tests_mode (is_mode asker.caller.regs.a)) (λ list. deletes_named asker files (is_for_execution asker.caller.regs.a) list (way_of asker files terms (is_for_execution asker.caller.regs.a) list) (last_of list.names))
+      caused-list (made Call.DeletX asker files terms) refl (λ is. (refl, is)) (list_of asker) refl
+      (tests_mode (is_mode asker.caller.regs.a)) (λ list. deletes_named asker files
+      (is_for_execution asker.caller.regs.a) list (way_of asker files terms (is_for_execution asker.caller.regs.a)
+      list) (last_of list.names))
       (tests (made Call.DeletX asker files terms) (is_mode asker.caller.regs.a) (λ bad. bad))
-      (λ list read. delete-way (made Call.DeletX asker files terms) refl refl (is_for_execution asker.caller.regs.a) refl (λ same. cc) (λ same. cc) (λ names place v end leads mounted is. record { leads = leads; mounted = mounted; is = is }) list (way_of asker files terms (is_for_execution asker.caller.regs.a) list) (record { reads = refl; list = list; read = read; is = refl }) (last_of list.names) (last-of asker files terms (is_for_execution asker.caller.regs.a) list))
+      (λ list read. delete-way (made Call.DeletX asker files terms) refl refl (is_for_execution asker.caller.regs.a)
+      refl (λ same. cc) (λ same. cc) (λ names place v end leads mounted is. record
+      { leads = leads; mounted = mounted; is = is }) list
+      (way_of asker files terms (is_for_execution asker.caller.regs.a) list)
+      (record { reads = refl; list = list; read = read; is = refl }) (last_of list.names)
+      (last-of asker files terms (is_for_execution asker.caller.regs.a) list))

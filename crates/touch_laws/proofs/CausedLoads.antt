@@ -78,9 +78,14 @@ module _ (asker : Asker) (files : Files) (terms : ℕ) (Tested : ℕ → Type 0)
 
   k-found : (list : PathList) (names : List (List ℕ)) (found : Found) → Finds (looking asker files terms) names found → K (program_found asker files list found)
   k-found list names found finds =
-      k-refuses (not (may_open found.file asker.user MODE_EXECUTE)) E_FNA (refuses (is_not_shared files found MODE_EXECUTE) E_SHARE (refuses (nat_lt MOST_GROUP_BYTES (length found.file.contents)) E_MEMFUL (comes (record { bytes = found.file.contents; next = list.next }))))
+      k-refuses (not (may_open found.file asker.user MODE_EXECUTE)) E_FNA
+      (refuses (is_not_shared files found MODE_EXECUTE) E_SHARE
+      (refuses (nat_lt MOST_GROUP_BYTES (length found.file.contents)) E_MEMFUL
+      (comes (record { bytes = found.file.contents; next = list.next }))))
       (λ test. opened E_FNA (λ same. omega (arith, same)) (forbidden names found refl finds (not-is (may_open found.file asker.user MODE_EXECUTE) test)))
-      (λ may. k-refuses (is_not_shared files found MODE_EXECUTE) E_SHARE (refuses (nat_lt MOST_GROUP_BYTES (length found.file.contents)) E_MEMFUL (comes (record { bytes = found.file.contents; next = list.next })))
+      (λ may. k-refuses (is_not_shared files found MODE_EXECUTE) E_SHARE
+      (refuses (nat_lt MOST_GROUP_BYTES (length found.file.contents)) E_MEMFUL
+      (comes (record { bytes = found.file.contents; next = list.next })))
       (λ test. opened E_SHARE (λ same. omega (arith, same)) (not_shared names found refl refl finds test))
       (λ shared. k-refuses (nat_lt MOST_GROUP_BYTES (length found.file.contents)) E_MEMFUL (comes (record { bytes = found.file.contents; next = list.next }))
       (λ test. inr (too_long names found refl finds (ltb-true MOST_GROUP_BYTES (length found.file.contents) test)))
@@ -93,17 +98,32 @@ module _ (asker : Asker) (files : Files) (terms : ℕ) (Tested : ℕ → Type 0)
         bytes = refl;
       })))
 
-  k-walks : (list : PathList) (names : List (List ℕ)) (place : FilePlace) → Leads (looking asker files terms) (along place names) → K (walks asker files true place names (program_found asker files list))
+  k-walks : (list : PathList) (names : List (List ℕ)) (place : FilePlace) → Leads (looking asker files terms)
+      (along place names) → K (walks asker files true place names (program_found asker files list))
   k-walks list names place leads =
       k-needs (volume_at files place.drive) E_MNF (λ v. reaches place.drive (walk_ends place.drive v (walk v.files asker.user true place.number names) (program_found asker files list)))
       (λ none. opened E_MNF (λ same. omega (arith, same)) (no_volume names place refl leads none))
       (λ v mounted. by_end v mounted (walk v.files asker.user true place.number names) refl)
     where
-      by_end : (v : DiskVolume) → volume_at files place.drive ≡ Some v → (end : WalkEnd) → walk v.files asker.user true place.number names ≡ end → K (walk_ends place.drive v end (program_found asker files list))
+      by_end : (v : DiskVolume) → volume_at files place.drive ≡ Some v → (end : WalkEnd) → walk v.files asker.user
+          true place.number names ≡ end → K (walk_ends place.drive v end (program_found asker files list))
       by_end v mounted (arrives n) is =
           k-needs (v.files n) E_PNNF (λ file. program_found asker files list (record { place = record { drive = place.drive; number = n }; volume = v; file = file }))
           (λ none. opened E_PNNF (λ same. omega (arith, same)) (not_there names place v n refl (record { leads = leads; mounted = mounted; is = is }) none))
-          (λ file there. k-found list names (record { place = record { drive = place.drive; number = n }; volume = v; file = file }) (record { start = place.number; walks = record { leads = leads; mounted = mounted; is = is }; there = there }))
+          (λ file there. k-found list names (record {
+            place = record { drive = place.drive; number = n };
+            volume = v;
+            file = file;
+          }) (record {
+            start = place.number;
+            walks = record {
+              leads = leads;
+              mounted = mounted;
+              is =
+                  is;
+            };
+            there = there;
+          }))
       by_end v mounted not_allowed is =
           opened E_FNA (λ same. omega (arith, same)) (may_not_pass names place v refl (record { leads = leads; mounted = mounted; is = is }))
       by_end v mounted not_found is =
@@ -153,11 +173,15 @@ abbrev entered_so : ℕ → ModuleEntry → Entered
 entered_so number entry = record { number = number; entry = entry }
 
 -- the first module of a file in memory is entered there
-entered-there : (entries : List (Option ModuleEntry)) (number : Option ℕ) (first : Entered) → option_and_then (entered_at entries) number ≡ Some first → module_entry_at entries first.number ≡ Some first.entry
+entered-there : (entries : List (Option ModuleEntry)) (number : Option ℕ) (first : Entered)
+    → option_and_then (entered_at entries) number ≡ Some first → module_entry_at entries first.number ≡ Some
+    first.entry
 entered-there entries None first is = absurd (none-some first is)
 entered-there entries (Some n) first is = by_entry (module_entry_at entries n) refl is
   where
-    by_entry : (entry : Option ModuleEntry) → module_entry_at entries n ≡ entry → option_map (λ (entry : ModuleEntry). entered_so n entry) entry ≡ Some first → module_entry_at entries first.number ≡ Some first.entry
+    by_entry : (entry : Option ModuleEntry) → module_entry_at entries n ≡ entry
+        → option_map (λ (entry : ModuleEntry). entered_so n entry) entry ≡ Some first → module_entry_at entries
+        first.number ≡ Some first.entry
     by_entry None there is = absurd (none-some first is)
     by_entry (Some entry) there is =
         subst (λ (first : Entered). module_entry_at entries first.number ≡ Some first.entry) (same_Some (entered_so n entry) first is) there
@@ -166,12 +190,17 @@ abbrev IsThere : Loaded → Type 0
 IsThere loaded = module_entry_at loaded.memory.modules loaded.first.number ≡ Some loaded.first.entry
 
 module _ (m : MemoryState) (file : List ℕ) (loaded : Loaded) where
-  there-by-room : (entries : List (Option ModuleEntry)) (first : Entered) → first_entered m entries ≡ Some first → (wants : Bool) → a_load loaded ≡ (if wants then Err E_NORAM else Ok (record { first = first; memory = with_file_entered m file entries })) → IsThere loaded
+  there-by-room : (entries : List (Option ModuleEntry)) (first : Entered) → first_entered m entries ≡ Some first
+      → (wants : Bool) → a_load loaded ≡ (if wants then Err E_NORAM else Ok
+      (record { first = first; memory = with_file_entered m file entries })) → IsThere loaded
   there-by-room entries first at true is = absurd (not-loaded E_NORAM loaded (sym is))
   there-by-room entries first at false is =
       subst IsThere (same-load loaded (record { first = first; memory = with_file_entered m file entries }) is) (entered-there entries (free_number m.modules) first at)
 
-  there-by-first : (entries : List (Option ModuleEntry)) (first : Option Entered) → first_entered m entries ≡ first → a_load loaded ≡ option_map_or (λ (first : Entered). if wants_blocks m (file_blocks file) then Err E_NORAM else a_load (record { first = first; memory = with_file_entered m file entries })) first (Err E_BMID) → IsThere loaded
+  there-by-first : (entries : List (Option ModuleEntry)) (first : Option Entered) → first_entered m entries ≡ first
+      → a_load loaded ≡ option_map_or (λ (first : Entered). if wants_blocks m (file_blocks file) then Err E_NORAM else
+      a_load (record { first = first; memory = with_file_entered m file entries })) first (Err E_BMID)
+      → IsThere loaded
   there-by-first entries None at is = absurd (not-loaded E_BMID loaded (sym is))
   there-by-first entries (Some first) at is = there-by-room entries first at (wants_blocks m (file_blocks file)) is
 
@@ -193,12 +222,16 @@ module _ (m : Inner) (asker : Asker) (files : Files) (terms : ℕ) (Tested : ℕ
         if wants_blocks m.memory (file_blocks file) then Err E_NORAM
         else Ok (record { first = first; memory = with_file_entered m.memory file entries })
 
-    by-room : (entries : List (Option ModuleEntry)) (first : Entered) (wants : Bool) → wants_blocks m.memory (file_blocks file) ≡ wants → no_load error ≡ (if wants then Err E_NORAM else Ok (record { first = first; memory = with_file_entered m.memory file entries })) → GroupCause m file number
+    by-room : (entries : List (Option ModuleEntry)) (first : Entered) (wants : Bool) → wants_blocks m.memory
+        (file_blocks file) ≡ wants → no_load error ≡ (if wants then Err E_NORAM else Ok
+        (record { first = first; memory = with_file_entered m.memory file entries })) → GroupCause m file number
     by-room entries first true wants is =
         no_blocks (sym same ∙ same-error error E_NORAM is) (ltb-true (free_blocks m.memory) (file_blocks file) wants)
     by-room entries first false wants is = absurd (not-loaded error _ is)
 
-    by-first : (entries : List (Option ModuleEntry)) → Enters m file (Ok entries) → (first : Option Entered) → first_entered m.memory entries ≡ first → no_load error ≡ option_map_or (loaded_as entries) first (Err E_BMID) → GroupCause m file number
+    by-first : (entries : List (Option ModuleEntry)) → Enters m file (Ok entries) → (first : Option Entered)
+        → first_entered m.memory entries ≡ first → no_load error ≡ option_map_or (loaded_as entries) first
+        (Err E_BMID) → GroupCause m file number
     by-first entries modules None none is = no_module entries (sym same ∙ same-error error E_BMID is) modules none
     by-first entries modules (Some first) there is =
         by-room entries first (wants_blocks m.memory (file_blocks file)) refl is
@@ -211,7 +244,10 @@ module _ (m : Inner) (asker : Asker) (files : Files) (terms : ℕ) (Tested : ℕ
             a_module at (subst (λ (n : ℕ). Enters m file (Err (at, n))) (sym (same-error error refusal is) ∙ same) modules)
         by_entries (Ok entries) modules is = by-first entries modules (first_entered m.memory entries) refl is
 
-  pub goes-caused : (reading : Result ProgramFile ℕ) → ReadComes asker files terms Tested reading → (next : ProgramFile → Loaded → CallResult) → ((file : ProgramFile) (loaded : Loaded) → IsThere loaded → next file loaded ≡ call_refused number → Ends file loaded number) → GoesOnLoaded m reading next (call_refused number) → Why
+  pub goes-caused : (reading : Result ProgramFile ℕ) → ReadComes asker files terms Tested reading
+      → (next : ProgramFile → Loaded → CallResult) → ((file : ProgramFile) (loaded : Loaded) → IsThere loaded
+      → next file loaded ≡ call_refused number → Ends file loaded number) → GoesOnLoaded m reading next
+      (call_refused number) → Why
   goes-caused (Err error) known next ends goes = by_cause known
     where
       same : error ≡ number
@@ -226,10 +262,15 @@ module _ (m : Inner) (asker : Asker) (files : Files) (terms : ℕ) (Tested : ℕ
       not_ended file loaded known loads (ends file loaded (first-there m.memory file.bytes loaded loads) (sym is))
 
   -- a reading of a file, and what comes of it
-  pub reads-caused : (old new : Files) (step : Step ProgramFile) → K asker files terms Tested step → (reading : Result ProgramFile ℕ) → ReadsProgram step reading old new → (next : ProgramFile → Loaded → CallResult) → ((file : ProgramFile) (loaded : Loaded) → IsThere loaded → next file loaded ≡ call_refused number → Ends file loaded number) → GoesOnLoaded m reading next (call_refused number) → FaultAnswers (drive_of step) old (call_refused number) new ⊎ Why
+  pub reads-caused : (old new : Files) (step : Step ProgramFile) → K asker files terms Tested step
+      → (reading : Result ProgramFile ℕ) → ReadsProgram step reading old new → (next : ProgramFile → Loaded
+      → CallResult) → ((file : ProgramFile) (loaded : Loaded) → IsThere loaded → next file loaded ≡ call_refused
+      number → Ends file loaded number) → GoesOnLoaded m reading next (call_refused number)
+      → FaultAnswers (drive_of step) old (call_refused number) new ⊎ Why
   reads-caused old new step known reading it next ends goes = by_outcome it.outcome
     where
-      by_outcome : ((reading ≡ reading_of step) × NoneFailed old.drives it.drives) ⊎ ReadingIsBroken step reading old.drives it.drives → FaultAnswers (drive_of step) old (call_refused number) new ⊎ Why
+      by_outcome : ((reading ≡ reading_of step) × NoneFailed old.drives it.drives) ⊎ ReadingIsBroken step reading
+          old.drives it.drives → FaultAnswers (drive_of step) old (call_refused number) new ⊎ Why
       by_outcome (inl (is, none)) =
           inr (goes-caused reading (subst (ReadComes asker files terms Tested) (sym is) known) next ends goes)
       by_outcome (inr broken) =
@@ -244,11 +285,14 @@ module _ (m : Inner) (asker : Asker) (files : Files) (terms : ℕ) (Tested : ℕ
 -- ---- each call
 
 -- what comes of a test and of what there is
-refuses-so : (test : Bool) (error number : ℕ) (next : CallResult) (P : Type 0) → (test ≡ true → number ≡ error → P) → (test ≡ false → next ≡ call_refused number → P) → call_refuses test error next ≡ call_refused number → P
+refuses-so : (test : Bool) (error number : ℕ) (next : CallResult) (P : Type 0) → (test ≡ true → number ≡ error → P)
+    → (test ≡ false → next ≡ call_refused number → P) → call_refuses test error next ≡ call_refused number → P
 refuses-so true error number next P fits rest is = fits refl (same-refusal error number is)
 refuses-so false error number next P fits rest is = rest refl is
 
-needs-so : {A : Type 0} (o : Option A) (error number : ℕ) (next : A → CallResult) (P : Type 0) → (o ≡ None → number ≡ error → P) → ((a : A) → o ≡ Some a → next a ≡ call_refused number → P) → call_needs o error next ≡ call_refused number → P
+needs-so : {A : Type 0} (o : Option A) (error number : ℕ) (next : A → CallResult) (P : Type 0)
+    → (o ≡ None → number ≡ error → P) → ((a : A) → o ≡ Some a → next a ≡ call_refused number → P) → call_needs o error
+    next ≡ call_refused number → P
 needs-so None error number next P none rest is = none refl (same-refusal error number is)
 needs-so (Some a) error number next P none rest is = rest a refl is
 
@@ -273,12 +317,19 @@ module _ (m : Inner) (p number : ℕ) where
       abbrev P : Type 0
       P = StartCause m p begins file loaded number
 
-      by-free : (few : Bool) → nat_lt (free_blocks loaded.memory + (map_at loaded.memory q).low) blocks ≡ few → changes (if few then Err NoRam else Ok (with_first_slots loaded.memory q loaded.first.entry.group blocks)) (λ memory. done (next memory)) ≡ call_refused number → P
+      by-free : (few : Bool) → nat_lt (free_blocks loaded.memory + (map_at loaded.memory q).low) blocks ≡ few
+          → changes (if few then Err NoRam else Ok (with_first_slots loaded.memory q loaded.first.entry.group blocks))
+          (λ memory. done (next memory)) ≡ call_refused number → P
       by-free true few is =
           no_memory q begins_is (same-refusal E_NORAM number is) (ltb-true (free_blocks loaded.memory + (map_at loaded.memory q).low) blocks few)
       by-free false few is = absurd (not-done number _ is)
 
-      by-slots : (most over : Bool) → has_most_links loaded.first.entry ≡ most → nat_lt 8 (blocks + length loaded.first.entry.group) ≡ over → changes (if most || over then Err MemFull else (if nat_lt (free_blocks loaded.memory + (map_at loaded.memory q).low) blocks then Err NoRam else Ok (with_first_slots loaded.memory q loaded.first.entry.group blocks))) (λ memory. done (next memory)) ≡ call_refused number → P
+      by-slots : (most over : Bool) → has_most_links loaded.first.entry ≡ most
+          → nat_lt 8 (blocks + length loaded.first.entry.group) ≡ over
+          → changes (if most || over then Err MemFull else
+          (if nat_lt (free_blocks loaded.memory + (map_at loaded.memory q).low) blocks then Err NoRam else Ok
+          (with_first_slots loaded.memory q loaded.first.entry.group blocks))) (λ memory. done (next memory)) ≡
+          call_refused number → P
       by-slots true over a b is = no_place q begins_is (same-refusal E_MEMFUL number is) (inl a)
       by-slots false true a b is =
           no_place q begins_is (same-refusal E_MEMFUL number is) (inr (ltb-true 8 (blocks + length loaded.first.entry.group) b))
@@ -291,16 +342,23 @@ module _ (m : Inner) (p number : ℕ) where
           (subst (λ (entry : Option ModuleEntry). changes (option_map_or (started_with loaded.memory q blocks) entry (Err MemFull)) (λ memory. done (next memory)) ≡ call_refused number) there is)
 
     -- the test of the module's type, before it is started
-    first-caused : (begins : Option ℕ) (start : Inner → ℕ → Program → CallResult) → (start (with_memory m loaded.memory) p program ≡ call_refused number → StartCause m p begins file loaded number) → starts_first start m p file loaded ≡ call_refused number → StartCause m p begins file loaded number
+    first-caused : (begins : Option ℕ) (start : Inner → ℕ → Program → CallResult)
+        → (start (with_memory m loaded.memory) p program ≡ call_refused number → StartCause m p begins file loaded
+        number) → starts_first start m p file loaded ≡ call_refused number → StartCause m p begins file loaded number
     first-caused begins start starts is =
         refuses-so (not (loaded.first.entry.info.kind == program_kind)) E_NEMOD number (start (with_memory m loaded.memory) p program) (StartCause m p begins file loaded number)
         (λ other number_is. no_program number_is (eqb-false loaded.first.entry.info.kind program_kind (not-is (loaded.first.entry.info.kind == program_kind) other)))
         (λ same is. starts is) is
 
     -- the pages are tested, and then the memory is taken
-    pages-caused : IsThere loaded → (begins : Option ℕ) (q : ℕ) → begins ≡ Some q → (next : MemoryState → Inner) → call_refuses (nat_lt most_pages program.pages) E_MEMFUL (changes (started loaded.memory q loaded.first.number (blocks_for m p file loaded)) (λ memory. done (next memory))) ≡ call_refused number → StartCause m p begins file loaded number
+    pages-caused : IsThere loaded → (begins : Option ℕ) (q : ℕ) → begins ≡ Some q → (next : MemoryState → Inner)
+        → call_refuses (nat_lt most_pages program.pages) E_MEMFUL
+        (changes (started loaded.memory q loaded.first.number (blocks_for m p file loaded))
+        (λ memory. done (next memory))) ≡ call_refused number → StartCause m p begins file loaded number
     pages-caused there begins q begins_is next is =
-        refuses-so (nat_lt most_pages program.pages) E_MEMFUL number (changes (started loaded.memory q loaded.first.number (blocks_for m p file loaded)) (λ memory. done (next memory))) (StartCause m p begins file loaded number)
+        refuses-so (nat_lt most_pages program.pages) E_MEMFUL number
+        (changes (started loaded.memory q loaded.first.number (blocks_for m p file loaded))
+        (λ memory. done (next memory))) (StartCause m p begins file loaded number)
         (λ many number_is. many_pages number_is (ltb-true most_pages program.pages many))
         (λ few is. change-caused begins q begins_is next there is) is
 
@@ -325,22 +383,38 @@ module _ (m : Inner) (p number : ℕ) where
       (λ asks. holds))
 
 module _ (m : Inner) (asker : Asker) (old : Files) (terms p number : ℕ) (new : Files) where
-  pub load-caused : LoadAttempts m asker old terms p (call_refused number) new → FaultAnswers (drive_of (program_file asker old terms (λ step. step))) old (call_refused number) new ⊎ LoadCause m asker old terms p number
+  pub load-caused : LoadAttempts m asker old terms p (call_refused number) new
+      → FaultAnswers (drive_of (program_file asker old terms (λ step. step))) old (call_refused number) new ⊎
+      LoadCause m asker old terms p number
   load-caused it =
-      reads-caused m asker old terms (λ number. ⊥) (λ file. LinkCause m p) number old new (program_file asker old terms (λ step. step)) (file-caused asker old terms (λ number. ⊥) (λ step. step) (λ step holds. holds)) it.reading it.reads (links_first m p) (link-caused m p number) it.comes
+      reads-caused m asker old terms (λ number. ⊥) (λ file. LinkCause m p) number old new
+      (program_file asker old terms (λ step. step)) (file-caused asker old terms (λ number. ⊥) (λ step. step)
+      (λ step holds. holds)) it.reading it.reads (links_first m p) (link-caused m p number) it.comes
 
   abbrev start_drive : Option ℕ
   start_drive = drive_of (program_file asker old terms (tests_program m p))
 
   -- a start of a program in a file
-  start-caused : (begins : Option ℕ) (start : Inner → ℕ → Program → CallResult) → ((file : ProgramFile) (loaded : Loaded) → IsThere loaded → starts_first start m p file loaded ≡ call_refused number → StartCause m p begins file loaded number) → (named : CallResult) → named_program m p ≡ None → MatchOption (named_program m p) (StartsFile start m asker old terms p (call_refused number) new) (λ entered. (call_refused number ≡ named) × (new ≡ old)) → FaultAnswers start_drive old (call_refused number) new ⊎ CauseOfLoad m asker old terms (TestCause m p) (StartCause m p begins) number
+  start-caused : (begins : Option ℕ) (start : Inner → ℕ → Program → CallResult)
+      → ((file : ProgramFile) (loaded : Loaded) → IsThere loaded → starts_first start m p file loaded ≡ call_refused
+      number → StartCause m p begins file loaded number) → (named : CallResult) → named_program m p ≡ None
+      → MatchOption (named_program m p) (StartsFile start m asker old terms p (call_refused number) new)
+      (λ entered. (call_refused number ≡ named) × (new ≡ old)) → FaultAnswers start_drive old (call_refused number)
+      new ⊎ CauseOfLoad m asker old terms (TestCause m p) (StartCause m p begins) number
   start-caused begins start ends named none attempt =
-      let it : StartsFile start m asker old terms p (call_refused number) new = subst (λ (entered : Option Entered). MatchOption entered (StartsFile start m asker old terms p (call_refused number) new) (λ entered. (call_refused number ≡ named) × (new ≡ old))) none attempt in
-      reads-caused m asker old terms (TestCause m p) (StartCause m p begins) number old new (program_file asker old terms (tests_program m p)) (file-caused asker old terms (TestCause m p) (tests_program m p) (test-caused m p number asker old terms)) it.reading it.reads (starts_first start m p) ends it.comes
+      let it : StartsFile start m asker old terms p (call_refused number) new = subst (λ (entered : Option Entered).
+      MatchOption entered (StartsFile start m asker old terms p (call_refused number) new)
+      (λ entered. (call_refused number ≡ named) × (new ≡ old))) none attempt in
+      reads-caused m asker old terms (TestCause m p) (StartCause m p begins) number old new
+      (program_file asker old terms (tests_program m p)) (file-caused asker old terms (TestCause m p)
+      (tests_program m p) (test-caused m p number asker old terms)) it.reading it.reads (starts_first start m p)
+      ends it.comes
 
-  pub fork-caused : ForkAttempts m asker old terms p (call_refused number) new → named_program m p ≡ None → FaultAnswers start_drive old (call_refused number) new ⊎ ForkCause m asker old terms p number
+  pub fork-caused : ForkAttempts m asker old terms p (call_refused number) new → named_program m p ≡ None
+      → FaultAnswers start_drive old (call_refused number) new ⊎ ForkCause m asker old terms p number
   fork-caused it none =
       start-caused (free_process m.records) forks (fork-ends m p number) (f_fork m p) none it
 
-  pub chain-caused : ChainAttempts m asker old terms p (call_refused number) new → named_program m p ≡ None → FaultAnswers start_drive old (call_refused number) new ⊎ ChainCause m asker old terms p number
+  pub chain-caused : ChainAttempts m asker old terms p (call_refused number) new → named_program m p ≡ None
+      → FaultAnswers start_drive old (call_refused number) new ⊎ ChainCause m asker old terms p number
   chain-caused it none = start-caused (Some p) chains (chain-ends m p number) (f_chain m p) none it

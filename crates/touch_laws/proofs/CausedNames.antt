@@ -44,12 +44,23 @@ module _ (m : Made) where
   module _ (makes : makes_new m.call ≡ true) (reads : reads_list m.call ≡ true) (found : Found) (name : List ℕ) (finds : FindsIn m found name) where
     room : (next : FileStep) → C next → C (has_room_for found (first_size m.call) next)
     room next holds =
-        caused-refuses m (nat_lt (free_total found.volume) (clusters_for found (first_size m.call))) E_FULL (refuses (nat_lt 0 (entry_clusters (cluster_size found.volume) found.file) && (length found.file.segments == 48)) E_SLF next)
+        caused-refuses m (nat_lt (free_total found.volume) (clusters_for found (first_size m.call))) E_FULL
+        (refuses (nat_lt 0 (entry_clusters (cluster_size found.volume) found.file) && (length found.file.segments
+        == 48)) E_SLF next)
         (λ test. no_room refl (record { makes = makes; found = found; name = name; finds = finds; full = ltb-true (free_total found.volume) (clusters_for found (first_size m.call)) test }))
         (caused-refuses m (nat_lt 0 (entry_clusters (cluster_size found.volume) found.file) && (length found.file.segments == 48)) E_SLF next
         (λ test.
         let both = and_parts (nat_lt 0 (entry_clusters (cluster_size found.volume) found.file)) (length found.file.segments == 48) test in
-        no_segment refl (record { makes = makes; found = found; name = name; finds = finds; needs = ltb-true 0 (entry_clusters (cluster_size found.volume) found.file) both.0; full = eqb-true (length found.file.segments) 48 both.1 }))
+        no_segment refl (record {
+          makes = makes;
+          found = found;
+          name = name;
+          finds = finds;
+          needs = ltb-true 0
+              (entry_clusters (cluster_size found.volume) found.file) both.0;
+          full = eqb-true
+              (length found.file.segments) 48 both.1;
+        }))
         holds)
 
     is-new : (next : FileStep) → C next → C (refuses (is_some (look_up found.file.contents name)) E_CEF next)
@@ -73,20 +84,27 @@ module _ (asker : Asker) (files : Files) (terms : ℕ) where
 
   open-way : (list : PathList) (way : Way) → Leads opening way → StepCaused opening (opens_on_way asker files terms list way)
   open-way list (along place names) leads =
-      caused-walks opening (is_for_execution asker.caller.regs.a) names names (λ place v end leads mounted is. record { leads = leads; mounted = mounted; is = is }) place (opens_found asker files list) leads (λ found finds.
+      caused-walks opening (is_for_execution asker.caller.regs.a) names names (λ place v end leads mounted is. record
+      { leads = leads; mounted = mounted; is = is }) place (opens_found asker files list) leads (λ found finds.
       caused-refuses opening (not (may_open found.file asker.user asker.caller.regs.a)) E_FNA (refuses (is_not_shared files found asker.caller.regs.a) E_SHARE (begins_on asker files list found))
       (λ test. forbidden names found refl finds (not-is (may_open found.file asker.user asker.caller.regs.a) test))
       (caused-refuses opening (is_not_shared files found asker.caller.regs.a) E_SHARE (begins_on asker files list found)
       (λ test. not_shared names found refl refl finds test)
-      (number-free opening (inl refl) (λ number. done (opened_regs asker.caller.regs list number) (with_path_table files (paths_after_begin files.io.paths asker.caller.process.0 (new_desc (target_on found.file found.place) asker.caller.regs.a))))
-      (λ number. caused-done opening (opened_regs asker.caller.regs list number) (with_path_table files (paths_after_begin files.io.paths asker.caller.process.0 (new_desc (target_on found.file found.place) asker.caller.regs.a)))))))
+      (number-free opening (inl refl) (λ number. done (opened_regs asker.caller.regs list number)
+      (with_path_table files (paths_after_begin files.io.paths asker.caller.process.0
+      (new_desc (target_on found.file found.place) asker.caller.regs.a))))
+      (λ number. caused-done opening (opened_regs asker.caller.regs list number)
+      (with_path_table files (paths_after_begin files.io.paths asker.caller.process.0
+      (new_desc (target_on found.file found.place) asker.caller.regs.a)))))))
   open-way list to_device leads =
       inl (record { device = Device.Open; device_is = refl; is = refl }, (leads.list, leads.read, leads.is))
   open-way list (nowhere number) leads = caused-refused opening number (nowhere-caused opening number leads)
 
   pub open-caused : StepCaused (made Call.Open asker files terms) (i_open asker files terms)
   open-caused =
-      caused-list opening refl (λ is. (refl, is)) (list_of asker) refl (tests_mode (is_mode asker.caller.regs.a)) (λ list. opens_on_way asker files terms list (way_of asker files terms (is_for_execution asker.caller.regs.a) list))
+      caused-list opening refl (λ is. (refl, is)) (list_of asker) refl (tests_mode (is_mode asker.caller.regs.a))
+      (λ list. opens_on_way asker files terms list
+      (way_of asker files terms (is_for_execution asker.caller.regs.a) list))
       (tests opening (is_mode asker.caller.regs.a) (λ bad. bad))
       (λ list read. open-way list (way_of asker files terms (is_for_execution asker.caller.regs.a) list) (record { reads = refl; list = list; read = read; is = refl }))
 
@@ -99,16 +117,33 @@ module _ (asker : Asker) (files : Files) (terms : ℕ) where
   create-way list (along place names) leads =
       caused-needs creating (last_of names) E_BPNAM (λ name. walks asker files (is_for_execution asker.caller.regs.a) place (before_last names) (creates_in asker files list name))
       (λ none. no_last names place refl refl leads none)
-      (λ name last. caused-walks creating (is_for_execution asker.caller.regs.a) names (before_last names) (λ place v end leads mounted is. record { leads = leads; mounted = mounted; is = is }) place (creates_in asker files list name) leads (λ found finds. in_it found name (record { enters = refl; names = names; finds = finds; last = last })))
+      (λ name last. caused-walks creating (is_for_execution asker.caller.regs.a) names (before_last names)
+      (λ place v end leads mounted is. record { leads = leads; mounted = mounted; is = is }) place
+      (creates_in asker files list name) leads (λ found finds. in_it found name
+      (record { enters = refl; names = names; finds = finds; last = last })))
     where
       in_it : (found : Found) (name : List ℕ) → FindsIn creating found name → StepCaused creating (creates_in asker files list name found)
       in_it found name finds =
-          may creating refl refl found name finds (refuses (says_directory asker.caller.regs.b) E_FNA (refuses (is_some (look_up found.file.contents name)) E_CEF (creates_with_path asker files list name found)))
+          may creating refl refl found name finds (refuses (says_directory asker.caller.regs.b) E_FNA
+          (refuses (is_some (look_up found.file.contents name)) E_CEF (creates_with_path asker files list name
+          found)))
           (caused-refuses creating (says_directory asker.caller.regs.b) E_FNA (refuses (is_some (look_up found.file.contents name)) E_CEF (creates_with_path asker files list name found))
           (λ test. forbidden_in found name refl finds (inr (inl (refl, test))))
           (is-new creating refl refl found name finds (creates_with_path asker files list name found)
-          (number-free creating (inr refl) (λ number. has_room_for found 0 (comes (changes (record { drive = found.place.drive; change = creates found.place.number name asker.caller.regs.b; effect = opens_new asker files list found.place.drive number }))))
-          (λ number. room creating refl refl found name finds (comes (changes (record { drive = found.place.drive; change = creates found.place.number name asker.caller.regs.b; effect = opens_new asker files list found.place.drive number })))
+          (number-free creating (inr refl) (λ number. has_room_for found 0
+          (comes (changes (record {
+            drive = found.place.drive;
+            change = creates found.place.number name
+                asker.caller.regs.b;
+            effect = opens_new asker files list found.place.drive number;
+          }))))
+          (λ number. room creating refl refl found name finds
+          (comes (changes (record {
+            drive = found.place.drive;
+            change = creates found.place.number name
+                asker.caller.regs.b;
+            effect = opens_new asker files list found.place.drive number;
+          })))
           (λ n. (opened_regs asker.caller.regs list number, refl))))))
   create-way list to_device leads =
       inl (record { device = Device.Create; device_is = refl; is = refl }, (leads.list, leads.read, leads.is))
@@ -116,7 +151,9 @@ module _ (asker : Asker) (files : Files) (terms : ℕ) where
 
   pub create-caused : StepCaused (made Call.Create asker files terms) (i_create asker files terms)
   create-caused =
-      caused-list creating refl (λ is. (refl, is)) (list_of asker) refl (tests_mode (can_write asker.caller.regs.a)) (λ list. creates_on_way asker files terms list (way_to_new asker files terms (is_for_execution asker.caller.regs.a) list))
+      caused-list creating refl (λ is. (refl, is)) (list_of asker) refl (tests_mode (can_write asker.caller.regs.a))
+      (λ list. creates_on_way asker files terms list (way_to_new asker files terms
+      (is_for_execution asker.caller.regs.a) list))
       (tests creating (can_write asker.caller.regs.a) (λ bad. bad))
       (λ list read. create-way list (way_to_new asker files terms (is_for_execution asker.caller.regs.a) list) (record { reads = refl; list = list; read = read; is = refl }))
 
@@ -129,13 +166,34 @@ module _ (asker : Asker) (files : Files) (terms : ℕ) where
   make-way list (along place names) leads =
       caused-needs making (last_of names) E_BPNAM (λ name. walks asker files false place (before_last names) (makes_in asker files list name))
       (λ none. no_last names place refl refl leads none)
-      (λ name last. caused-walks making false names (before_last names) (λ place v end leads mounted is. record { leads = leads; mounted = mounted; is = is }) place (makes_in asker files list name) leads (λ found finds. in_it found name (record { enters = refl; names = names; finds = finds; last = last })))
+      (λ name last. caused-walks making false names (before_last names) (λ place v end leads mounted is. record
+      { leads = leads; mounted = mounted; is = is }) place (makes_in asker files list name) leads
+      (λ found finds. in_it found name (record { enters = refl; names = names; finds = finds; last = last })))
     where
       in_it : (found : Found) (name : List ℕ) → FindsIn making found name → StepCaused making (makes_in asker files list name found)
       in_it found name finds =
-          may making refl refl found name finds (refuses (is_some (look_up found.file.contents name)) E_CEF (has_room_for found new_directory_size (comes (changes (record { drive = found.place.drive; change = makes_directory found.place.number name asker.caller.regs.b; effect = λ n. leaves (answers (past_list asker.caller.regs list)) files })))))
-          (is-new making refl refl found name finds (has_room_for found new_directory_size (comes (changes (record { drive = found.place.drive; change = makes_directory found.place.number name asker.caller.regs.b; effect = λ n. leaves (answers (past_list asker.caller.regs list)) files }))))
-          (room making refl refl found name finds (comes (changes (record { drive = found.place.drive; change = makes_directory found.place.number name asker.caller.regs.b; effect = λ n. leaves (answers (past_list asker.caller.regs list)) files })))
+          may making refl refl found name finds (refuses (is_some (look_up found.file.contents name)) E_CEF
+          (has_room_for found new_directory_size
+          (comes (changes (record {
+            drive = found.place.drive;
+            change = makes_directory found.place.number name
+                asker.caller.regs.b;
+            effect = λ n. leaves (answers (past_list asker.caller.regs list)) files;
+          })))))
+          (is-new making refl refl found name finds (has_room_for found new_directory_size
+          (comes (changes (record {
+            drive = found.place.drive;
+            change = makes_directory found.place.number name
+                asker.caller.regs.b;
+            effect = λ n. leaves (answers (past_list asker.caller.regs list)) files;
+          }))))
+          (room making refl refl found name finds
+          (comes (changes (record {
+            drive = found.place.drive;
+            change = makes_directory found.place.number name
+                asker.caller.regs.b;
+            effect = λ n. leaves (answers (past_list asker.caller.regs list)) files;
+          })))
           (λ n. (past_list asker.caller.regs list, refl))))
   make-way list to_device leads = caused-refused making E_FNA (a_device refl (λ same. cc) (λ same. cc) leads)
   make-way list (nowhere number) leads = caused-refused making number (nowhere-caused making number leads)
@@ -153,15 +211,23 @@ module _ (asker : Asker) (files : Files) (terms : ℕ) where
 
   go-way : (list : PathList) (way : Way) → Leads going way → StepCaused going (goes_on_way asker files list way)
   go-way list (along place names) leads =
-      caused-walks going (is_for_execution asker.caller.regs.a) names names (λ place v end leads mounted is. record { leads = leads; mounted = mounted; is = is }) place (goes_to asker files list) leads (λ found finds.
-      caused-refuses going (not (may_go_to found.file asker.user asker.caller.regs.a)) E_FNA (done (past_list asker.caller.regs list) (with_directories_of files asker.caller.process.0 (with_directory (directories_at files asker.caller.process.0) (is_for_execution asker.caller.regs.a) found.place)))
+      caused-walks going (is_for_execution asker.caller.regs.a) names names (λ place v end leads mounted is. record
+      { leads = leads; mounted = mounted; is = is }) place (goes_to asker files list) leads (λ found finds.
+      caused-refuses going (not (may_go_to found.file asker.user asker.caller.regs.a)) E_FNA
+      (done (past_list asker.caller.regs list) (with_directories_of files asker.caller.process.0
+      (with_directory (directories_at files asker.caller.process.0) (is_for_execution asker.caller.regs.a)
+      found.place)))
       (λ test. forbidden names found refl finds (not-is (may_go_to found.file asker.user asker.caller.regs.a) test))
-      (caused-done going (past_list asker.caller.regs list) (with_directories_of files asker.caller.process.0 (with_directory (directories_at files asker.caller.process.0) (is_for_execution asker.caller.regs.a) found.place))))
+      (caused-done going (past_list asker.caller.regs list) (with_directories_of files asker.caller.process.0
+      (with_directory (directories_at files asker.caller.process.0) (is_for_execution asker.caller.regs.a)
+      found.place))))
   go-way list to_device leads = caused-refused going E_FNA (a_device refl (λ same. cc) (λ same. cc) leads)
   go-way list (nowhere number) leads = caused-refused going number (nowhere-caused going number leads)
 
   pub chgdir-caused : StepCaused (made Call.ChgDir asker files terms) (i_chgdir asker files terms)
   chgdir-caused =
-      caused-list going refl (λ is. (refl, is)) (list_of asker) refl (tests_mode (is_mode asker.caller.regs.a)) (λ list. goes_on_way asker files list (way_of asker files terms (is_for_execution asker.caller.regs.a) list))
+      caused-list going refl (λ is. (refl, is)) (list_of asker) refl (tests_mode (is_mode asker.caller.regs.a))
+      (λ list. goes_on_way asker files list (way_of asker files terms (is_for_execution asker.caller.regs.a)
+      list))
       (tests going (is_mode asker.caller.regs.a) (λ bad. bad))
       (λ list read. go-way list (way_of asker files terms (is_for_execution asker.caller.regs.a) list) (record { reads = refl; list = list; read = read; is = refl }))

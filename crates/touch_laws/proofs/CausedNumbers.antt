@@ -52,7 +52,10 @@ module _ (m : Made) where
   C step = StepCaused m step
 
   -- a call on a number: on a file, or the other call
-  on-number : (number : ℕ) (otherwise : IoStep) (next : OpenFile → FileStep) → (open_file m.files m.asker.caller.process.0 number ≡ None → C (comes (as_io otherwise))) → ((found : OpenFile) → open_file m.files m.asker.caller.process.0 number ≡ Some found → C (next found)) → C (on_file m.asker m.files number otherwise next)
+  on-number : (number : ℕ) (otherwise : IoStep) (next : OpenFile → FileStep)
+      → (open_file m.files m.asker.caller.process.0 number ≡ None → C (comes (as_io otherwise)))
+      → ((found : OpenFile) → open_file m.files m.asker.caller.process.0 number ≡ Some found → C (next found))
+      → C (on_file m.asker m.files number otherwise next)
   on-number number otherwise next other holds =
       by_file (open_file m.files m.asker.caller.process.0 number) other holds
     where
@@ -62,7 +65,9 @@ module _ (m : Made) where
 
   module _ (found : OpenFile) (names : Names m found) where
     -- the mode is tested, and then bytes are moved
-    moves : (is_allowed : ℕ → Bool) (next : FileStep) → (is_allowed found.opened.desc.mode ≡ false → LacksMode m.call m.asker found) → (0 < m.asker.caller.regs.y → C next) → C (moves_bytes m.asker m.files found is_allowed next)
+    moves : (is_allowed : ℕ → Bool) (next : FileStep) → (is_allowed found.opened.desc.mode ≡ false
+        → LacksMode m.call m.asker found) → (0 < m.asker.caller.regs.y → C next)
+        → C (moves_bytes m.asker m.files found is_allowed next)
     moves is_allowed next lacks holds =
         caused-refuses m (not (is_allowed found.opened.desc.mode)) E_BMODE (if m.asker.caller.regs.y == 0 then done m.asker.caller.regs m.files else next)
         (λ test. path_mode found refl names (lacks (not-is (is_allowed found.opened.desc.mode) test)))
@@ -84,22 +89,42 @@ module _ (m : Made) where
 
     grows : (change : Change) (size : ℕ) → Sizes m.call m.asker found size → (regs : Regs) (after : Files) → C (changes_file m.files found change size regs after)
     grows change size asks regs after =
-        caused-refuses m (nat_lt (free_total found.volume) (clusters_needed (cluster_size found.volume) found.file.segments size)) E_FULL (comes (changes (record { drive = found.place.drive; change = change; effect = λ n. leaves (answers regs) after })))
-        (λ test. cannot_grow refl (record { found = found; names = names; size = size; asks = asks; full = ltb-true (free_total found.volume) (clusters_needed (cluster_size found.volume) found.file.segments size) test }))
+        caused-refuses m (nat_lt (free_total found.volume) (clusters_needed (cluster_size found.volume)
+        found.file.segments size)) E_FULL
+        (comes (changes (record {
+          drive = found.place.drive;
+          change = change;
+          effect = λ n. leaves (answers regs)
+              after;
+        })))
+        (λ test. cannot_grow refl (record {
+          found = found;
+          names = names;
+          size = size;
+          asks = asks;
+          full = ltb-true
+              (free_total found.volume) (clusters_needed (cluster_size found.volume) found.file.segments size) test;
+        }))
         (λ n. (regs, refl))
 
     write : (bytes : List ℕ) → Sizes m.call m.asker found (length (written found.file.contents found.opened.desc.at bytes)) → (regs : Regs) → C (writes_bytes m.files found bytes regs)
     write bytes asks regs =
-        grows (writes found.place.number found.opened.desc.at bytes) (length (written found.file.contents found.opened.desc.at bytes)) asks regs (with_position m.files found.opened (found.opened.desc.at + length bytes))
+        grows (writes found.place.number found.opened.desc.at bytes)
+        (length (written found.file.contents found.opened.desc.at bytes)) asks regs
+        (with_position m.files found.opened (found.opened.desc.at + length bytes))
 
-    send : (bytes : List ℕ) → (0 < m.asker.caller.regs.y → Sizes m.call m.asker found (length (written found.file.contents found.opened.desc.at bytes))) → (can_write found.opened.desc.mode ≡ false → LacksMode m.call m.asker found) → C (sends_bytes m.asker m.files found bytes)
+    send : (bytes : List ℕ) → (0 < m.asker.caller.regs.y → Sizes m.call m.asker found
+        (length (written found.file.contents found.opened.desc.at bytes))) → (can_write found.opened.desc.mode ≡ false
+        → LacksMode m.call m.asker found) → C (sends_bytes m.asker m.files found bytes)
     send bytes asks lacks =
         moves can_write (writes_bytes m.files found bytes (count_regs m.asker.caller (length bytes))) lacks (λ some. write bytes (asks some) (count_regs m.asker.caller (length bytes)))
 
 -- ---- I$Read, I$ReadLn, I$Write, I$WritLn and F$PErr
 
 module _ (asker : Asker) (files : Files) (terms : ℕ) where
-  theirs : (call : PathCall) (device : IoCall) → device_call call ≡ Some device → IsOnNoFile call asker files terms → StepCaused (made call asker files terms) (comes (as_io (io_step device asker.caller files.io (length files.drives) terms)))
+  theirs : (call : PathCall) (device : IoCall) → device_call call ≡ Some device → IsOnNoFile call asker files terms
+      → StepCaused (made call asker files terms)
+      (comes (as_io (io_step device asker.caller files.io (length files.drives) terms)))
   theirs call device is none = inl (record { device = device; device_is = is; is = refl }, none)
 
   pub read-caused : StepCaused (made Call.Read asker files terms) (i_read asker files)
@@ -107,14 +132,16 @@ module _ (asker : Asker) (files : Files) (terms : ℕ) where
       on-number (made Call.Read asker files terms) asker.caller.regs.a (reads_device asker.caller files.io) _ (theirs Call.Read Device.Read refl) (λ found names.
       caused-refuses (made Call.Read asker files terms) (is_none (user_bytes asker.caller.cells asker.caller.regs.x asker.caller.regs.y)) E_BPADDR _
       (λ test. bad_address refl (is_nothing (user_bytes asker.caller.cells asker.caller.regs.x asker.caller.regs.y) test))
-      (moves (made Call.Read asker files terms) found names can_read (reads_file asker files (λ bytes. bytes) found) (λ lacks. lacks) (λ some. read (made Call.Read asker files terms) found names some (λ bytes. bytes))))
+      (moves (made Call.Read asker files terms) found names can_read (reads_file asker files (λ bytes. bytes) found)
+      (λ lacks. lacks) (λ some. read (made Call.Read asker files terms) found names some (λ bytes. bytes))))
 
   pub readln-caused : StepCaused (made Call.ReadLn asker files terms) (i_readln asker files)
   readln-caused =
       on-number (made Call.ReadLn asker files terms) asker.caller.regs.a (reads_device_line asker.caller files.io) _ (theirs Call.ReadLn Device.ReadLn refl) (λ found names.
       caused-refuses (made Call.ReadLn asker files terms) (is_none (user_bytes asker.caller.cells asker.caller.regs.x asker.caller.regs.y)) E_BPADDR _
       (λ test. bad_address refl (is_nothing (user_bytes asker.caller.cells asker.caller.regs.x asker.caller.regs.y) test))
-      (moves (made Call.ReadLn asker files terms) found names can_read (reads_file asker files first_line found) (λ lacks. lacks) (λ some. read (made Call.ReadLn asker files terms) found names some first_line)))
+      (moves (made Call.ReadLn asker files terms) found names can_read (reads_file asker files first_line found)
+      (λ lacks. lacks) (λ some. read (made Call.ReadLn asker files terms) found names some first_line)))
 
   pub write-caused : StepCaused (made Call.Write asker files terms) (i_write asker files)
   write-caused =
@@ -139,7 +166,10 @@ module _ (asker : Asker) (files : Files) (terms : ℕ) where
 
   -- ---- I$Seek
 
-  no-path : (opened : Option OpenPath) → open_path files.io asker.caller.process.0 asker.caller.regs.a ≡ opened → (it : IoEffect) (old new : List TerminalState) (number : ℕ) → Does (io_needs opened E_BPNUM (λ opened. io_done asker.caller.regs files.io)) asker.caller files.io it old new → it.end ≡ fails number → FileCause (made Call.Seek asker files terms) number
+  no-path : (opened : Option OpenPath) → open_path files.io asker.caller.process.0 asker.caller.regs.a ≡ opened
+      → (it : IoEffect) (old new : List TerminalState) (number : ℕ)
+      → Does (io_needs opened E_BPNUM (λ opened. io_done asker.caller.regs files.io)) asker.caller files.io it old new
+      → it.end ≡ fails number → FileCause (made Call.Seek asker files terms) number
   no-path None none it old new number (is, same) ended =
       bad_number (sym (same-number E_BPNUM number (sym (ap (λ (it : IoEffect). it.end) is) ∙ ended))) refl none
     where
@@ -166,9 +196,19 @@ module _ (asker : Asker) (files : Files) (terms : ℕ) where
     same : (regs : Regs) → G (done regs files)
     same regs = caused-done (made Call.GetStt asker files terms) regs files
 
-    status : (opt ready size pos end fd : Bool) → (asker.caller.regs.b == SS_OPT) ≡ opt → (asker.caller.regs.b == SS_READY) ≡ ready → (asker.caller.regs.b == SS_SIZE) ≡ size → (asker.caller.regs.b == SS_POS) ≡ pos → (asker.caller.regs.b == SS_EOF) ≡ end → (asker.caller.regs.b == SS_FD) ≡ fd → G (if opt then gets_bytes asker files OPTION_BYTES (λ step. step) (options found.opened.desc.target) else (if ready then done (record asker.caller.regs { b = 0 }) files else (if size then gets_size asker files found else (if pos then done (long_regs asker.caller.regs found.opened.desc.at) files else (if end then gets_end asker files found else (if fd then gets_descriptor asker files found else refused E_UNKSVC))))))
+    status : (opt ready size pos end fd : Bool) → (asker.caller.regs.b == SS_OPT) ≡ opt
+        → (asker.caller.regs.b == SS_READY) ≡ ready → (asker.caller.regs.b == SS_SIZE) ≡ size
+        → (asker.caller.regs.b == SS_POS) ≡ pos → (asker.caller.regs.b == SS_EOF) ≡ end
+        → (asker.caller.regs.b == SS_FD) ≡ fd → G (if opt then gets_bytes asker files OPTION_BYTES (λ step. step)
+        (options found.opened.desc.target) else (if ready then done (record asker.caller.regs { b = 0 }) files else
+        (if size then gets_size asker files found else
+        (if pos then done (long_regs asker.caller.regs found.opened.desc.at) files else (if end then gets_end asker
+        files found else (if fd then gets_descriptor asker files found else refused E_UNKSVC))))))
     status true ready size pos end fd a b c d e f =
-        caused-refuses (made Call.GetStt asker files terms) (is_none (user_bytes asker.caller.cells asker.caller.regs.x OPTION_BYTES)) E_BPADDR (comes (leaves_so (stores asker.caller.regs.x (options found.opened.desc.target) asker.caller.regs files)))
+        caused-refuses (made Call.GetStt asker files terms)
+        (is_none (user_bytes asker.caller.cells asker.caller.regs.x OPTION_BYTES)) E_BPADDR
+        (comes (leaves_so (stores asker.caller.regs.x (options found.opened.desc.target) asker.caller.regs
+        files)))
         (λ test. bad_address refl (inl (eqb-true asker.caller.regs.b SS_OPT a, is_nothing (user_bytes asker.caller.cells asker.caller.regs.x OPTION_BYTES) test)))
         (stored_so (options found.opened.desc.target))
     status false true size pos end fd a b c d e f = same (record asker.caller.regs { b = 0 })
@@ -177,28 +217,53 @@ module _ (asker : Asker) (files : Files) (terms : ℕ) where
     status false false false false true fd a b c d e f =
         ends (made Call.GetStt asker files terms) found names (eqb-true asker.caller.regs.b SS_EOF e) (done (record asker.caller.regs { b = 0 }) files) (same (record asker.caller.regs { b = 0 }))
     status false false false false false true a b c d e f =
-        caused-refuses (made Call.GetStt asker files terms) (is_none (user_bytes asker.caller.cells asker.caller.regs.x (asked_bytes asker))) E_BPADDR (reaches found.place.drive (comes (leaves_so (stores asker.caller.regs.x (take (asked_bytes asker) (descriptor_front found.file)) asker.caller.regs files))))
+        caused-refuses (made Call.GetStt asker files terms)
+        (is_none (user_bytes asker.caller.cells asker.caller.regs.x (asked_bytes asker))) E_BPADDR
+        (reaches found.place.drive
+        (comes (leaves_so (stores asker.caller.regs.x (take (asked_bytes asker) (descriptor_front found.file))
+        asker.caller.regs files))))
         (λ test. bad_address refl (inr (eqb-true asker.caller.regs.b SS_FD f, is_nothing (user_bytes asker.caller.cells asker.caller.regs.x (asked_bytes asker)) test)))
         (stored_so (take (asked_bytes asker) (descriptor_front found.file)))
     status false false false false false false a b c d e f =
         caused-refused (made Call.GetStt asker files terms) E_UNKSVC
-        (no_status found refl names (eqb-false asker.caller.regs.b SS_OPT a, eqb-false asker.caller.regs.b SS_READY b, eqb-false asker.caller.regs.b SS_SIZE c, eqb-false asker.caller.regs.b SS_POS d, eqb-false asker.caller.regs.b SS_EOF e, eqb-false asker.caller.regs.b SS_FD f))
+        (no_status found refl names (
+          eqb-false asker.caller.regs.b SS_OPT a,
+          eqb-false asker.caller.regs.b SS_READY b,
+          eqb-false asker.caller.regs.b SS_SIZE c,
+          eqb-false asker.caller.regs.b SS_POS d,
+          eqb-false
+              asker.caller.regs.b SS_EOF e,
+          eqb-false asker.caller.regs.b SS_FD f,
+        ))
 
   pub getstt-caused : StepCaused (made Call.GetStt asker files terms) (i_getstt asker files)
   getstt-caused =
       on-number (made Call.GetStt asker files terms) asker.caller.regs.a (gets_of_device asker.caller files.io) _ (theirs Call.GetStt Device.GetStt refl)
-      (λ found names. status found names (asker.caller.regs.b == SS_OPT) (asker.caller.regs.b == SS_READY) (asker.caller.regs.b == SS_SIZE) (asker.caller.regs.b == SS_POS) (asker.caller.regs.b == SS_EOF) (asker.caller.regs.b == SS_FD) refl refl refl refl refl refl)
+      (λ found names. status found names (asker.caller.regs.b == SS_OPT) (asker.caller.regs.b == SS_READY)
+      (asker.caller.regs.b == SS_SIZE) (asker.caller.regs.b == SS_POS) (asker.caller.regs.b == SS_EOF)
+      (asker.caller.regs.b == SS_FD) refl refl refl refl refl refl)
 
   -- ---- I$SetStt
 
   module _ (found : OpenFile) (names : Names (made Call.SetStt asker files terms) found) where
-    sets : (size attributes : Bool) → (asker.caller.regs.b == SS_SIZE) ≡ size → (asker.caller.regs.b == SS_ATTR) ≡ attributes → StepCaused (made Call.SetStt asker files terms) (if size then sets_size asker files found else (if attributes then sets_attributes_of asker files found else refused E_UNKSVC))
+    sets : (size attributes : Bool) → (asker.caller.regs.b == SS_SIZE) ≡ size → (asker.caller.regs.b == SS_ATTR) ≡
+        attributes → StepCaused (made Call.SetStt asker files terms) (if size then sets_size asker files found else
+        (if attributes then sets_attributes_of asker files found else refused E_UNKSVC))
     sets true attributes a b =
-        caused-refuses (made Call.SetStt asker files terms) (not (can_write found.opened.desc.mode)) E_BMODE (changes_file files found (sizes found.place.number (long_of asker.caller.regs)) (long_of asker.caller.regs) asker.caller.regs files)
+        caused-refuses (made Call.SetStt asker files terms) (not (can_write found.opened.desc.mode)) E_BMODE
+        (changes_file files found (sizes found.place.number (long_of asker.caller.regs))
+        (long_of asker.caller.regs) asker.caller.regs files)
         (λ test. path_mode found refl names (eqb-true asker.caller.regs.b SS_SIZE a, not-is (can_write found.opened.desc.mode) test))
-        (grows (made Call.SetStt asker files terms) found names (sizes found.place.number (long_of asker.caller.regs)) (long_of asker.caller.regs) (eqb-true asker.caller.regs.b SS_SIZE a, refl) asker.caller.regs files)
+        (grows (made Call.SetStt asker files terms) found names (sizes found.place.number (long_of asker.caller.regs))
+        (long_of asker.caller.regs) (eqb-true asker.caller.regs.b SS_SIZE a, refl) asker.caller.regs files)
     sets false true a b =
-        caused-refuses (made Call.SetStt asker files terms) (not (owns_file found.file asker.user)) E_FNA (comes (changes (record { drive = found.place.drive; change = sets_attributes found.place.number (asker.caller.regs.x % 256); effect = λ n. leaves (answers asker.caller.regs) files })))
+        caused-refuses (made Call.SetStt asker files terms) (not (owns_file found.file asker.user)) E_FNA
+        (comes (changes (record {
+          drive = found.place.drive;
+          change = sets_attributes found.place.number
+              (asker.caller.regs.x % 256);
+          effect = λ n. leaves (answers asker.caller.regs) files;
+        })))
         (λ test. not_owned found refl refl (eqb-true asker.caller.regs.b SS_ATTR b) names (not-is (owns_file found.file asker.user) test))
         (λ n. (asker.caller.regs, refl))
     sets false false a b =

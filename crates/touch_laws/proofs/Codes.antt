@@ -14,11 +14,16 @@ abbrev EachCode : {C : Type 0} → (ℕ → C → Type 0) → List (ℕ × C) �
 EachCode fact [] = Unit {0}
 EachCode fact (coded ∷ rest) = fact coded.0 coded.1 × EachCode fact rest
 
-found-code : {C : Type 0} (fact : ℕ → C → Type 0) (codes : List (ℕ × C)) (code : ℕ) (call : C) → EachCode fact codes → option_map (λ (coded : ℕ × C). coded.1) (find (λ (coded : ℕ × C). coded.0 == code) codes) ≡ Some call → fact code call
+found-code : {C : Type 0} (fact : ℕ → C → Type 0) (codes : List (ℕ × C)) (code : ℕ) (call : C) → EachCode fact codes
+    → option_map (λ (coded : ℕ × C). coded.1) (find (λ (coded : ℕ × C). coded.0 == code) codes) ≡ Some call
+    → fact code call
 found-code fact [] code call each is = absurd (none-some call is)
 found-code {C} fact (coded ∷ rest) code call each is = by_test (coded.0 == code) refl (found-code fact rest code call each.1) is
   where
-    by_test : (test : Bool) → (coded.0 == code) ≡ test → (option_map (λ (coded : ℕ × C). coded.1) (find (λ (coded : ℕ × C). coded.0 == code) rest) ≡ Some call → fact code call) → option_map (λ (coded : ℕ × C). coded.1) (if test then Some coded else find (λ (coded : ℕ × C). coded.0 == code) rest) ≡ Some call → fact code call
+    by_test : (test : Bool) → (coded.0 == code) ≡ test
+        → (option_map (λ (coded : ℕ × C). coded.1) (find (λ (coded : ℕ × C). coded.0 == code) rest) ≡ Some call
+        → fact code call) → option_map (λ (coded : ℕ × C). coded.1) (if test then Some coded else find
+        (λ (coded : ℕ × C). coded.0 == code) rest) ≡ Some call → fact code call
     by_test true at later is =
         subst (λ (n : ℕ). fact n call) (eqb-true coded.0 code at) (subst (fact coded.0) (same_Some coded.1 call is) each.0)
     by_test false at later is = later is

@@ -139,7 +139,9 @@ module _ (p : ℕ) (paths : PathTable) (s at : ℕ) (desc : Desc) (place : FileP
         ];
     no_device_new = λ t other is device.
         elim (cases_eq t s) [
-          | inl same ↦ absurd (not-both other.target place (ap (λ (d : Desc). place_of_target d.target) (sym (same_Some (record desc { at = at }) other (sym moved-at ∙ sym (ap (desc_of moved) same) ∙ is))) ∙ on) device)
+          | inl same ↦ absurd (not-both other.target place (ap (λ (d : Desc). place_of_target d.target)
+              (sym (same_Some (record desc { at = at }) other (sym moved-at ∙ sym (ap (desc_of moved) same) ∙ is))) ∙
+              on) device)
           | inr differ ↦ sym (moved-other t differ) ∙ is
         ];
   }
@@ -153,14 +155,21 @@ pub file-named : (files : Files) (p n : ℕ) (found : OpenFile) → open_file fi
 file-named files p n found is =
     option_and_then_some (λ (path : OpenPath). option_and_then (open_file_at files path) (place_of_target path.desc.target)) (open_path files.io p n) found is (λ path named at.
     option_and_then_some (open_file_at files path) (place_of_target path.desc.target) found at (λ place on here.
-    option_and_then_some (λ (v : DiskVolume). option_map (λ (file : DiskFile). record { opened = path; place = place; volume = v; file = file }) (v.files place.number)) (volume_at files place.drive) found here (λ v mounted mapped.
+    option_and_then_some (λ (v : DiskVolume). option_map (λ (file : DiskFile). record {
+      opened = path;
+      place = place;
+      volume = v;
+      file = file;
+    }) (v.files place.number)) (volume_at files place.drive) found here
+    (λ v mounted mapped.
     map-some (λ (file : DiskFile). record { opened = path; place = place; volume = v; file = file }) (v.files place.number) found mapped (λ file there same.
     subst (IsNamed files p n) same (record { desc = (opened-is files.io p n path named).desc; place = on })))))
 
 pub stay-position : (call : PathCall) (asker : Asker) (files : Files) (paths : PathTable) → MovesPosition call asker files paths → PathsStay asker.caller.process.0 files.io.paths paths
 stay-position call asker files paths it =
     let named = file-named files asker.caller.process.0 (number_in call asker) it.found it.named in
-    subst (PathsStay asker.caller.process.0 files.io.paths) (sym it.is) (stay-moved asker.caller.process.0 files.io.paths it.found.opened.path.0 it.at it.found.opened.desc it.found.place named.desc named.place)
+    subst (PathsStay asker.caller.process.0 files.io.paths) (sym it.is) (stay-moved asker.caller.process.0
+    files.io.paths it.found.opened.path.0 it.at it.found.opened.desc it.found.place named.desc named.place)
 
 -- ---- a new path
 
@@ -201,7 +210,9 @@ module _ (p : ℕ) (paths : PathTable) (target : Target) (mode : ℕ) (place : F
     begun-own : (m : ℕ) (t : SysPath) → slot_of paths p m ≡ Some t → slot_of begun p m ≡ Some t
     begun-own m t is =
         elim (cases_lt p (length paths.own)) [
-          | inl within ↦ ap (λ (numbers : List (Option SysPath)). slice_index_or numbers m None) (get_or-set_same paths.own p (slice_set (numbers_of paths p) n (Some (record { 0 = s }))) [] within) ∙ get_or-set_other (numbers_of paths p) n m (Some (record { 0 = s })) None apart ∙ is
+          | inl within ↦ ap (λ (numbers : List (Option SysPath)). slice_index_or numbers m None)
+              (get_or-set_same paths.own p (slice_set (numbers_of paths p) n (Some (record { 0 = s }))) [] within) ∙
+              get_or-set_other (numbers_of paths p) n m (Some (record { 0 = s })) None apart ∙ is
           | inr past ↦ absurd (none-some t (sym (ap (λ (numbers : List (Option SysPath)). slice_index_or numbers m None) (get_or_past paths.own p [] past)) ∙ is))
         ]
       where
@@ -219,7 +230,10 @@ module _ (p : ℕ) (paths : PathTable) (target : Target) (mode : ℕ) (place : F
     begun-new : (t : ℕ) (desc : Desc) → desc_of begun t ≡ Some desc → IsDevice desc.target → t ≢ s
     begun-new t desc is device same =
         elim (cases_lt s (length paths.descs)) [
-          | inl within ↦ not-both desc.target place (ap (λ (d : Desc). place_of_target d.target) (sym (same_Some (new_desc target mode) desc (sym (get_or-set_same paths.descs s (Some (new_desc target mode)) None within) ∙ sym (ap (desc_of begun) same) ∙ is))) ∙ on) device
+          | inl within ↦ not-both desc.target place (ap (λ (d : Desc). place_of_target d.target)
+              (sym (same_Some (new_desc target mode) desc
+              (sym (get_or-set_same paths.descs s (Some (new_desc target mode)) None within) ∙ sym
+              (ap (desc_of begun) same) ∙ is))) ∙ on) device
           | inr past ↦ none-some desc (sym (get_or_past begun.descs s None (rw length-set past)) ∙ sym (ap (desc_of begun) same) ∙ is)
         ]
 
@@ -235,7 +249,8 @@ module _ (p : ℕ) (paths : PathTable) (target : Target) (mode : ℕ) (place : F
   stay-begun : PathsStay p paths (paths_after_begin paths p (new_desc target mode))
   stay-begun = by_places (free_number paths p) (free_path paths) refl refl
     where
-      by_places : (number path : Option ℕ) → free_number paths p ≡ number → free_path paths ≡ path → PathsStay p paths (option_map_or (λ n. option_map_or (with_path paths p (new_desc target mode) n) path paths) number paths)
+      by_places : (number path : Option ℕ) → free_number paths p ≡ number → free_path paths ≡ path → PathsStay p paths
+          (option_map_or (λ n. option_map_or (with_path paths p (new_desc target mode) n) path paths) number paths)
       by_places None path number_is path_is = stay-same p paths
       by_places (Some n) None number_is path_is = stay-same p paths
       by_places (Some n) (Some s) number_is path_is = stay-new n s number_is path_is
@@ -252,7 +267,9 @@ stays call asker files paths (inl same) =
 stays call asker files paths (inr (inl moves)) = stay-position call asker files paths moves
 stays call asker files paths (inr (inr begins)) = stay-path call asker files paths begins
 
-pub io-kept : {call : PathCall} {now : TimePacket} (inner : Inner) (files : Files) (p : ℕ) (result : CallResult) (new : Files) (before after : List TerminalState) → LeavesDevices call inner files now p result new before after → KeepsIo p files.io new.io
+pub io-kept : {call : PathCall} {now : TimePacket} (inner : Inner) (files : Files) (p : ℕ) (result : CallResult)
+    (new : Files) (before after : List TerminalState) → LeavesDevices call inner files now p result new before after
+    → KeepsIo p files.io new.io
 io-kept {call} {now} inner files p result new before after it = subst (KeepsIo p files.io) (sym it.rest) (record {
   paths = paths-kept p files.io new.io.paths (stays call (asker_of inner p now) files new.io.paths it.paths);
   calls = calls-kept files.io new.io.paths p;

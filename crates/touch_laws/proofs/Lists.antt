@@ -16,7 +16,10 @@ use Rattle.touch_laws.proofs.Bare.{Agrees}
 
 module _ (asker : Asker) (files : Files) (whole : IoStep) (lead : PathList → Lead) (next : PathList → FileStep) where
   -- the list that was read leads to a device; the mode is tested before
-  read-agrees : (allowed : Bool) (list : PathList) → next list ≡ comes (as_io whole) → (read : Result PathList NameFault) → read ≡ Ok list → reads_device_list read allowed (λ list. opens_lead asker.caller files.io list (lead list)) ≡ whole → Agrees (reads_list read (tests_mode allowed) next) whole
+  read-agrees : (allowed : Bool) (list : PathList) → next list ≡ comes (as_io whole)
+      → (read : Result PathList NameFault) → read ≡ Ok list → reads_device_list read allowed
+      (λ list. opens_lead asker.caller files.io list (lead list)) ≡ whole
+      → Agrees (reads_list read (tests_mode allowed) next) whole
   read-agrees true list there read is whole_is =
       inl (ap (λ (read : Result PathList NameFault). reads_list read (tests_mode true) next) is ∙ there)
   read-agrees false list there read is whole_is = inr (
@@ -26,12 +29,19 @@ module _ (asker : Asker) (files : Files) (whole : IoStep) (lead : PathList → L
   )
 
 module _ (asker : Asker) (files : Files) (terms : ℕ) (list : PathList) (is : list_of asker ≡ Ok list) where
-  pub open-agrees : way_of asker files terms (is_for_execution asker.caller.regs.a) list ≡ to_device → Agrees (i_open asker files terms) (opens_device asker.caller files.io (length files.drives) terms)
+  pub open-agrees : way_of asker files terms (is_for_execution asker.caller.regs.a) list ≡ to_device
+      → Agrees (i_open asker files terms) (opens_device asker.caller files.io (length files.drives) terms)
   open-agrees way =
-      read-agrees asker files (opens_device asker.caller files.io (length files.drives) terms) (lead_of what_is_there (length files.drives) terms) (λ list. opens_on_way asker files terms list (way_of asker files terms (is_for_execution asker.caller.regs.a) list)) (is_mode asker.caller.regs.a) list
+      read-agrees asker files (opens_device asker.caller files.io (length files.drives) terms)
+      (lead_of what_is_there (length files.drives) terms) (λ list. opens_on_way asker files terms list
+      (way_of asker files terms (is_for_execution asker.caller.regs.a) list)) (is_mode asker.caller.regs.a) list
       (ap (opens_on_way asker files terms list) way) (list_of asker) is refl
 
-  pub create-agrees : way_to_new asker files terms (is_for_execution asker.caller.regs.a) list ≡ to_device → Agrees (i_create asker files terms) (creates_device asker.caller files.io (length files.drives) terms)
+  pub create-agrees : way_to_new asker files terms (is_for_execution asker.caller.regs.a) list ≡ to_device
+      → Agrees (i_create asker files terms) (creates_device asker.caller files.io (length files.drives) terms)
   create-agrees way =
-      read-agrees asker files (creates_device asker.caller files.io (length files.drives) terms) (lead_of a_new_place (length files.drives) terms) (λ list. creates_on_way asker files terms list (way_to_new asker files terms (is_for_execution asker.caller.regs.a) list)) (can_write asker.caller.regs.a) list
+      read-agrees asker files (creates_device asker.caller files.io (length files.drives) terms)
+      (lead_of a_new_place (length files.drives) terms) (λ list. creates_on_way asker files terms list
+      (way_to_new asker files terms (is_for_execution asker.caller.regs.a) list)) (can_write asker.caller.regs.a)
+      list
       (ap (creates_on_way asker files terms list) way) (list_of asker) is refl

@@ -30,7 +30,9 @@ module _ (s : Inner) (step : Step ProgramFile) (next : ProgramFile → Loaded �
     drives = by_outcome it.outcome;
   })
     where
-      by_outcome : ((reading ≡ reading_of step) × NoneFailed old.drives it.drives) ⊎ ReadingIsBroken step reading old.drives it.drives → NoneFailed old.drives it.drives ⊎ FaultAnswers (drive_of step) old result (with_drives old it.drives)
+      by_outcome : ((reading ≡ reading_of step) × NoneFailed old.drives it.drives) ⊎ ReadingIsBroken step reading
+          old.drives it.drives → NoneFailed old.drives it.drives ⊎ FaultAnswers (drive_of step) old result
+          (with_drives old it.drives)
       by_outcome (inl (is, none)) = inl none
       by_outcome (inr broken) =
           inr (record { drive = broken.drive; reaches = broken.reached; number = broken.number; failed = broken.failed; answer = goes-refused reading broken.number broken.is goes })
@@ -45,7 +47,9 @@ module _ (inner : Inner) (asker : Asker) (old : Files) (terms p : ℕ) (result :
   start_drive = drive_of (program_file asker old terms (tests_program inner p))
 
   -- a program of a file, or one that is entered
-  starts-leave : (start : Inner → ℕ → Program → CallResult) (named : CallResult) (entered : Option Entered) → MatchOption entered (StartsFile start inner asker old terms p result new) (λ entered. (result ≡ named) × (new ≡ old)) → LeavesFiles start_drive old result new
+  starts-leave : (start : Inner → ℕ → Program → CallResult) (named : CallResult) (entered : Option Entered)
+      → MatchOption entered (StartsFile start inner asker old terms p result new) (λ entered. (result ≡ named) ×
+      (new ≡ old)) → LeavesFiles start_drive old result new
   starts-leave start named None it =
       reads-leave inner (program_file asker old terms (tests_program inner p)) (starts_first start inner p) old result it.reading new it.reads it.comes
   starts-leave start named (Some entered) (is, same) =

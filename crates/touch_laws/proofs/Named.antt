@@ -40,7 +40,9 @@ module _ (asker : Asker) (files : Files) (terms : ℕ) where
   -- a call is the one on terminals and pipes, where its number names no file
   abbrev IsTheirs : PathCall → IoCall → Type 0
   IsTheirs call device =
-      takes_number device ≡ true → open_file files asker.caller.process.0 (path_number device asker.caller.regs) ≡ None → file_step call asker files terms ≡ comes (as_io (io_step device asker.caller files.io (length files.drives) terms))
+      takes_number device ≡ true → open_file files asker.caller.process.0 (path_number device asker.caller.regs) ≡
+      None → file_step call asker files terms ≡ comes
+      (as_io (io_step device asker.caller files.io (length files.drives) terms))
 
   theirs : (call : PathCall) → MatchOption (device_call call) (Unit {0}) (IsTheirs call)
   theirs Call.Dup = λ takes none. refl
@@ -93,21 +95,31 @@ module _ (asker : Asker) (files : Files) (terms : ℕ) where
 
 -- an attempt of a step that is one of terminals and pipes
 module _ (call : PathCall) (device : IoCall) (is : device_call call ≡ Some device) (inner : Inner) (files : Files) (now : TimePacket) (p : ℕ) (old new : List TerminalState) where
-  pub device-does : (effect : FileEffect) → FileDoes (comes (as_io (io_step device (asker_of inner p now).caller files.io (length files.drives) (length old)))) (asker_of inner p now) files effect old new → IsOnDevice call inner files p (result_of inner p (io_effect effect)) (files_after p effect) old new
+  pub device-does : (effect : FileEffect)
+      → FileDoes (comes (as_io (io_step device (asker_of inner p now).caller files.io (length files.drives)
+      (length old)))) (asker_of inner p now) files effect old new → IsOnDevice call inner files p
+      (result_of inner p (io_effect effect)) (files_after p effect) old new
   device-does effect (inl well) =
       let (it, does, left) = well.does in
       subst (λ (effect : FileEffect). IsOnDevice call inner files p (result_of inner p (io_effect effect)) (files_after p effect) old new)
       (sym (well.effect_is ∙ ap (λ (it : FileEffect). with_drives_after it well.drives) left))
-      (on-device call inner files now p old new (io_step device (asker_of inner p now).caller files.io (length files.drives) (length old)) it well.drives well.none_failed (record { device = device; device_is = is; is = refl }) does)
+      (on-device call inner files now p old new (io_step device (asker_of inner p now).caller files.io
+      (length files.drives) (length old)) it well.drives well.none_failed
+      (record { device = device; device_is = is; is = refl }) does)
   device-does effect (inr (broken, same)) = absurd (none-some broken.drive broken.reached)
 
-  pub step-on-device : (result : CallResult) (left : Files) → FileAttempts call inner files now p result left old new → file_step call (asker_of inner p now) files (length old) ≡ comes (as_io (io_step device (asker_of inner p now).caller files.io (length files.drives) (length old))) → IsOnDevice call inner files p result left old new
+  pub step-on-device : (result : CallResult) (left : Files) → FileAttempts call inner files now p result left old new
+      → file_step call (asker_of inner p now) files (length old) ≡ comes
+      (as_io (io_step device (asker_of inner p now).caller files.io (length files.drives) (length old)))
+      → IsOnDevice call inner files p result left old new
   step-on-device result left it step_is =
       subst (λ (result : CallResult). IsOnDevice call inner files p result left old new) (sym it.result_is)
       (subst (λ (left : Files). IsOnDevice call inner files p (result_of inner p (io_effect it.effect)) left old new) (sym it.state)
       (device-does it.effect (subst (λ (step : FileStep). FileDoes step (asker_of inner p now) files it.effect old new) step_is it.does)))
 
-  pub number-on-device : (result : CallResult) (left : Files) → FileAttempts call inner files now p result left old new → takes_number device ≡ true → open_file files p (path_number device (regs_at inner p)) ≡ None → IsOnDevice call inner files p result left old new
+  pub number-on-device : (result : CallResult) (left : Files) → FileAttempts call inner files now p result left old
+      new → takes_number device ≡ true → open_file files p (path_number device (regs_at inner p)) ≡ None
+      → IsOnDevice call inner files p result left old new
   number-on-device result left it takes none =
       step-on-device result left it (is-theirs (asker_of inner p now) files (length old) call device is takes none)
 
@@ -154,7 +166,9 @@ module _ (asker : Asker) (files : Files) (terms : ℕ) (execute : Bool) (list : 
   pub create-leads : way_to_new asker files terms execute list ≡ to_device → LeadsToDevice (lead_of a_new_place (length files.drives) terms list)
   create-leads is = by_dots (ends_in_dots list) (is_root files terms list) is
     where
-      by_dots : (dots root : Bool) → (if dots || root then nowhere E_BPNAM else way_of asker files terms execute list) ≡ to_device → LeadsToDevice (if dots then leads_nowhere E_BPNAM else lead_by_device a_new_place (length files.drives) terms list list.device)
+      by_dots : (dots root : Bool) → (if dots || root then nowhere E_BPNAM else way_of asker files terms execute list)
+          ≡ to_device → LeadsToDevice (if dots then leads_nowhere E_BPNAM else lead_by_device a_new_place
+          (length files.drives) terms list list.device)
       by_dots true root is = absurd (nowhere-device E_BPNAM is)
       by_dots false true is = absurd (nowhere-device E_BPNAM is)
       by_dots false false is = way-leads a_new_place list.device is

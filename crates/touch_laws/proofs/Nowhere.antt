@@ -25,7 +25,8 @@ module _ (m : Made) (list : PathList) (number : ℕ) where
   abbrev Why : Type 0
   Why = LeadsNowhere m list number
 
-  by-slash : (device : Dev) → device_in m list ≡ Some device → IsNoDrive device → (behind : Bool) → has_slash_behind_device list ≡ behind → (if behind then nowhere E_BPNAM else to_device) ≡ nowhere number → Why
+  by-slash : (device : Dev) → device_in m list ≡ Some device → IsNoDrive device → (behind : Bool)
+      → has_slash_behind_device list ≡ behind → (if behind then nowhere E_BPNAM else to_device) ≡ nowhere number → Why
   by-slash device at none true behind is = slash device (same-nowhere E_BPNAM number is) at none behind
   by-slash device at none false behind is = absurd (device-nowhere number is)
 
@@ -39,7 +40,8 @@ module _ (m : Made) (list : PathList) (number : ℕ) where
   by-device some (Some (Term terminal)) at is = by-slash (Term terminal) at tt (has_slash_behind_device list) refl is
   by-device some (Some Pipe) at is = by-slash Pipe at tt (has_slash_behind_device list) refl is
 
-  by-directory : list.device ≡ None → (place : Option FilePlace) → directory_of m.files m.asker.caller.process.0 (executes m.call m.asker.caller.regs.a) ≡ place → way_from place list.names ≡ nowhere number → Why
+  by-directory : list.device ≡ None → (place : Option FilePlace) → directory_of m.files m.asker.caller.process.0
+      (executes m.call m.asker.caller.regs.a) ≡ place → way_from place list.names ≡ nowhere number → Why
   by-directory none None at is = no_directory (same-nowhere E_PNNF number is) none at
   by-directory none (Some place) at is = absurd (along-nowhere place list.names number is)
 
@@ -50,12 +52,16 @@ module _ (m : Made) (list : PathList) (number : ℕ) where
       by-device (ap (λ (o : Option (List ℕ)). is_some o) named) (device_of (length m.files.drives) m.terms device)
       (ap (option_and_then (device_of (length m.files.drives) m.terms)) named) is
 
-  by-new : makes_new m.call ≡ true → (in_dots at_root : Bool) → ends_in_dots list ≡ in_dots → is_root m.files m.terms list ≡ at_root → (if in_dots || at_root then nowhere E_BPNAM else way_of m.asker m.files m.terms (executes m.call m.asker.caller.regs.a) list) ≡ nowhere number → Why
+  by-new : makes_new m.call ≡ true → (in_dots at_root : Bool) → ends_in_dots list ≡ in_dots → is_root m.files m.terms
+      list ≡ at_root → (if in_dots || at_root then nowhere E_BPNAM else way_of m.asker m.files m.terms
+      (executes m.call m.asker.caller.regs.a) list) ≡ nowhere number → Why
   by-new makes true at_root a b is = dots (same-nowhere E_BPNAM number is) makes a
   by-new makes false true a b is = root (same-nowhere E_BPNAM number is) makes b
   by-new makes false false a b is = by-name list.device refl is
 
-  by-call : (makes : Bool) → makes_new m.call ≡ makes → (if makes then way_to_new m.asker m.files m.terms (executes m.call m.asker.caller.regs.a) list else way_of m.asker m.files m.terms (executes m.call m.asker.caller.regs.a) list) ≡ nowhere number → Why
+  by-call : (makes : Bool) → makes_new m.call ≡ makes → (if makes then way_to_new m.asker m.files m.terms
+      (executes m.call m.asker.caller.regs.a) list else way_of m.asker m.files m.terms
+      (executes m.call m.asker.caller.regs.a) list) ≡ nowhere number → Why
   by-call true makes is = by-new makes (ends_in_dots list) (is_root m.files m.terms list) refl refl is
   by-call false makes is = by-name list.device refl is
 

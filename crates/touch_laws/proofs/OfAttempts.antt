@@ -56,9 +56,18 @@ module _ (it : Attempt) where
     pub open-of : it.call ≡ Call.Open → way_to_open it list ≡ to_device → OnDevice it
     open-of same way =
         subst (λ (call : PathCall). FileAttempts call it.inner it.files it.now it.process it.result it.new it.before it.after → Theirs call) (sym same)
-        (λ attempted. (agreed-attempt Call.Open Device.Open it.inner it.files it.now it.process it.result refl it.new it.before it.after (open-agrees (asker_in it) it.files (length it.before) list read way) attempted, (list, read, way))) it.attempted
+        (λ attempted. (
+          agreed-attempt Call.Open Device.Open it.inner it.files it.now it.process it.result refl it.new
+              it.before it.after (open-agrees (asker_in it) it.files (length it.before) list read way) attempted,
+          (list, read, way),
+        )) it.attempted
 
     pub create-of : it.call ≡ Call.Create → way_to_create it list ≡ to_device → OnDevice it
     create-of same way =
         subst (λ (call : PathCall). FileAttempts call it.inner it.files it.now it.process it.result it.new it.before it.after → Theirs call) (sym same)
-        (λ attempted. (agreed-attempt Call.Create Device.Create it.inner it.files it.now it.process it.result refl it.new it.before it.after (create-agrees (asker_in it) it.files (length it.before) list read way) attempted, (list, read, way))) it.attempted
+        (λ attempted. (
+          agreed-attempt Call.Create Device.Create it.inner it.files it.now it.process it.result refl
+              it.new it.before it.after (create-agrees (asker_in it) it.files (length it.before) list read way)
+              attempted,
+          (list, read, way),
+        )) it.attempted

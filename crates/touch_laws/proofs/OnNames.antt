@@ -48,7 +48,11 @@ module _ (call : PathCall) (asker : Asker) (files : Files) (terms : ℕ) where
       refuses-by (StepSplits call asker files terms) (none-splits call asker files terms) (not allowed) E_BMODE step holds
 
   -- a path begins
-  begun : begins_path call ≡ true → (number : ℕ) → new_number files.io.paths asker.caller.process.0 ≡ Some number → (target : Target) (place : FilePlace) → place_of_target target ≡ Some place → (list : PathList) → Leaves call asker files (leaves (answers (opened_regs asker.caller.regs list number)) (with_path_table files (paths_after_begin files.io.paths asker.caller.process.0 (new_desc target asker.caller.regs.a))))
+  begun : begins_path call ≡ true → (number : ℕ) → new_number files.io.paths asker.caller.process.0 ≡ Some number
+      → (target : Target) (place : FilePlace) → place_of_target target ≡ Some place → (list : PathList)
+      → Leaves call asker files (leaves (answers (opened_regs asker.caller.regs list number))
+      (with_path_table files (paths_after_begin files.io.paths asker.caller.process.0
+      (new_desc target asker.caller.regs.a))))
   begun begins number free target place on list =
       answered call asker files (with_path_table files (paths_after_begin files.io.paths asker.caller.process.0 (new_desc target asker.caller.regs.a))) 0 [] (opened_regs asker.caller.regs list number)
       (inr (inr (record { begins = begins; number = number; free = free; target = target; place = place; on = on; is = refl }))) refl refl refl
@@ -67,24 +71,44 @@ module _ (call : PathCall) (asker : Asker) (files : Files) (terms : ℕ) where
     opens-split begins =
         refuses-by S no (not (may_open found.file asker.user asker.caller.regs.a)) E_FNA (refuses (is_not_shared files found asker.caller.regs.a) E_SHARE (begins_on asker files list found))
         (refuses-by S no (is_not_shared files found asker.caller.regs.a) E_SHARE (begins_on asker files list found)
-        (needs-by S no (new_number files.io.paths asker.caller.process.0) E_PTHFUL (λ number. done (opened_regs asker.caller.regs list number) (with_path_table files (paths_after_begin files.io.paths asker.caller.process.0 (new_desc (target_on found.file found.place) asker.caller.regs.a))))
+        (needs-by S no (new_number files.io.paths asker.caller.process.0) E_PTHFUL
+        (λ number. done (opened_regs asker.caller.regs list number)
+        (with_path_table files (paths_after_begin files.io.paths asker.caller.process.0
+        (new_desc (target_on found.file found.place) asker.caller.regs.a))))
         (λ number free. begun begins number free (target_on found.file found.place) found.place (target-place found.file found.place) list)))
 
     -- ---- I$Create, I$MakDir and I$Delete
 
     room-splits : (size : ℕ) (next : FileStep) → S next → S (has_room_for found size next)
     room-splits size next holds =
-        refuses-by S no (nat_lt (free_total found.volume) (clusters_for found size)) E_FULL (refuses (nat_lt 0 (entry_clusters (cluster_size found.volume) found.file) && (length found.file.segments == 48)) E_SLF next)
+        refuses-by S no (nat_lt (free_total found.volume) (clusters_for found size)) E_FULL
+        (refuses (nat_lt 0 (entry_clusters (cluster_size found.volume) found.file) && (length found.file.segments
+        == 48)) E_SLF next)
         (refuses-by S no (nat_lt 0 (entry_clusters (cluster_size found.volume) found.file) && (length found.file.segments == 48)) E_SLF next holds)
 
     module _ (may : may_change_volume call ≡ true) (name : List ℕ) where
       creates-split : begins_path call ≡ true → S (creates_in asker files list name found)
       creates-split begins =
-          refuses-by S no (not (may_change found.file asker.user (is_for_execution asker.caller.regs.a))) E_FNA (refuses (says_directory asker.caller.regs.b) E_FNA (refuses (is_some (look_up found.file.contents name)) E_CEF (creates_with_path asker files list name found)))
+          refuses-by S no (not (may_change found.file asker.user (is_for_execution asker.caller.regs.a))) E_FNA
+          (refuses (says_directory asker.caller.regs.b) E_FNA
+          (refuses (is_some (look_up found.file.contents name)) E_CEF (creates_with_path asker files list name
+          found)))
           (refuses-by S no (says_directory asker.caller.regs.b) E_FNA (refuses (is_some (look_up found.file.contents name)) E_CEF (creates_with_path asker files list name found))
           (refuses-by S no (is_some (look_up found.file.contents name)) E_CEF (creates_with_path asker files list name found)
-          (needs-by S no (new_number files.io.paths asker.caller.process.0) E_PTHFUL (λ number. has_room_for found 0 (comes (changes (record { drive = found.place.drive; change = creates found.place.number name asker.caller.regs.b; effect = opens_new asker files list found.place.drive number }))))
-          (λ number free. room-splits 0 (comes (changes (record { drive = found.place.drive; change = creates found.place.number name asker.caller.regs.b; effect = opens_new asker files list found.place.drive number })))
+          (needs-by S no (new_number files.io.paths asker.caller.process.0) E_PTHFUL (λ number. has_room_for found 0
+          (comes (changes (record {
+            drive = found.place.drive;
+            change = creates found.place.number name
+                asker.caller.regs.b;
+            effect = opens_new asker files list found.place.drive number;
+          }))))
+          (λ number free. room-splits 0
+          (comes (changes (record {
+            drive = found.place.drive;
+            change = creates found.place.number name
+                asker.caller.regs.b;
+            effect = opens_new asker files list found.place.drive number;
+          })))
           (record {
             reaches = refl;
             may = may;
@@ -96,9 +120,28 @@ module _ (call : PathCall) (asker : Asker) (files : Files) (terms : ℕ) where
 
       makes-split : S (makes_in asker files list name found)
       makes-split =
-          refuses-by S no (not (may_change found.file asker.user false)) E_FNA (refuses (is_some (look_up found.file.contents name)) E_CEF (has_room_for found new_directory_size (comes (changes (record { drive = found.place.drive; change = makes_directory found.place.number name asker.caller.regs.b; effect = λ n. leaves (answers (past_list asker.caller.regs list)) files })))))
-          (refuses-by S no (is_some (look_up found.file.contents name)) E_CEF (has_room_for found new_directory_size (comes (changes (record { drive = found.place.drive; change = makes_directory found.place.number name asker.caller.regs.b; effect = λ n. leaves (answers (past_list asker.caller.regs list)) files }))))
-          (room-splits new_directory_size (comes (changes (record { drive = found.place.drive; change = makes_directory found.place.number name asker.caller.regs.b; effect = λ n. leaves (answers (past_list asker.caller.regs list)) files })))
+          refuses-by S no (not (may_change found.file asker.user false)) E_FNA
+          (refuses (is_some (look_up found.file.contents name)) E_CEF (has_room_for found new_directory_size
+          (comes (changes (record {
+            drive = found.place.drive;
+            change = makes_directory found.place.number name
+                asker.caller.regs.b;
+            effect = λ n. leaves (answers (past_list asker.caller.regs list)) files;
+          })))))
+          (refuses-by S no (is_some (look_up found.file.contents name)) E_CEF (has_room_for found new_directory_size
+          (comes (changes (record {
+            drive = found.place.drive;
+            change = makes_directory found.place.number name
+                asker.caller.regs.b;
+            effect = λ n. leaves (answers (past_list asker.caller.regs list)) files;
+          }))))
+          (room-splits new_directory_size
+          (comes (changes (record {
+            drive = found.place.drive;
+            change = makes_directory found.place.number name
+                asker.caller.regs.b;
+            effect = λ n. leaves (answers (past_list asker.caller.regs list)) files;
+          })))
           (record {
             reaches = refl;
             may = may;
@@ -114,8 +157,19 @@ module _ (call : PathCall) (asker : Asker) (files : Files) (terms : ℕ) where
         where
           goes : (n : ℕ) → S (deletes_file asker files list name found n)
           goes n =
-              refuses-by S no (not (may_delete (found.volume.files n) asker.user)) E_FNA (refuses (is_open files (record { drive = found.place.drive; number = n })) E_SHARE (comes (changes (record { drive = found.place.drive; change = deletes found.place.number n name; effect = λ new. leaves (answers (past_list asker.caller.regs list)) files }))))
-              (refuses-by S no (is_open files (record { drive = found.place.drive; number = n })) E_SHARE (comes (changes (record { drive = found.place.drive; change = deletes found.place.number n name; effect = λ new. leaves (answers (past_list asker.caller.regs list)) files })))
+              refuses-by S no (not (may_delete (found.volume.files n) asker.user)) E_FNA
+              (refuses (is_open files (record { drive = found.place.drive; number = n })) E_SHARE
+              (comes (changes (record {
+                drive = found.place.drive;
+                change = deletes found.place.number n name;
+                effect = λ new. leaves (answers (past_list asker.caller.regs list)) files;
+              }))))
+              (refuses-by S no (is_open files (record { drive = found.place.drive; number = n })) E_SHARE
+              (comes (changes (record {
+                drive = found.place.drive;
+                change = deletes found.place.number n name;
+                effect = λ new. leaves (answers (past_list asker.caller.regs list)) files;
+              })))
               (record {
                 reaches = refl;
                 may = may;
@@ -127,7 +181,9 @@ module _ (call : PathCall) (asker : Asker) (files : Files) (terms : ℕ) where
 -- ---- the calls
 
 module _ (asker : Asker) (files : Files) (terms : ℕ) where
-  open-way : (list : PathList) → list_of asker ≡ Ok list → (way : Way) → way_of asker files terms (is_for_execution asker.caller.regs.a) list ≡ way → StepSplits Call.Open asker files terms (opens_on_way asker files terms list way)
+  open-way : (list : PathList) → list_of asker ≡ Ok list → (way : Way) → way_of asker files terms
+      (is_for_execution asker.caller.regs.a) list ≡ way → StepSplits Call.Open asker files terms
+      (opens_on_way asker files terms list way)
   open-way list read (along from names) is =
       walks-split Call.Open asker files terms (is_for_execution asker.caller.regs.a) from names (opens_found asker files list) (λ found. opens-split Call.Open asker files terms list found refl)
   open-way list read to_device is = device-splits Call.Open asker files terms Device.Open refl (list, read, is)
@@ -135,33 +191,45 @@ module _ (asker : Asker) (files : Files) (terms : ℕ) where
 
   pub open-split : StepSplits Call.Open asker files terms (i_open asker files terms)
   open-split =
-      list-by (StepSplits Call.Open asker files terms) (none-splits Call.Open asker files terms) (list_of asker) (tests_mode (is_mode asker.caller.regs.a)) (λ list. opens_on_way asker files terms list (way_of asker files terms (is_for_execution asker.caller.regs.a) list))
+      list-by (StepSplits Call.Open asker files terms) (none-splits Call.Open asker files terms) (list_of asker)
+      (tests_mode (is_mode asker.caller.regs.a)) (λ list. opens_on_way asker files terms list
+      (way_of asker files terms (is_for_execution asker.caller.regs.a) list))
       (mode-splits Call.Open asker files terms (is_mode asker.caller.regs.a))
       (λ list read. open-way list read (way_of asker files terms (is_for_execution asker.caller.regs.a) list) refl)
 
-  create-way : (list : PathList) → list_of asker ≡ Ok list → (way : Way) → way_to_new asker files terms (is_for_execution asker.caller.regs.a) list ≡ way → StepSplits Call.Create asker files terms (creates_on_way asker files terms list way)
+  create-way : (list : PathList) → list_of asker ≡ Ok list → (way : Way) → way_to_new asker files terms
+      (is_for_execution asker.caller.regs.a) list ≡ way → StepSplits Call.Create asker files terms
+      (creates_on_way asker files terms list way)
   create-way list read (along from names) is =
-      needs-by (StepSplits Call.Create asker files terms) (none-splits Call.Create asker files terms) (last_of names) E_BPNAM (λ name. walks asker files (is_for_execution asker.caller.regs.a) from (before_last names) (creates_in asker files list name))
-      (λ name last. walks-split Call.Create asker files terms (is_for_execution asker.caller.regs.a) from (before_last names) (creates_in asker files list name) (λ found. creates-split Call.Create asker files terms list found refl name refl))
+      needs-by (StepSplits Call.Create asker files terms) (none-splits Call.Create asker files terms) (last_of names)
+      E_BPNAM (λ name. walks asker files (is_for_execution asker.caller.regs.a) from (before_last names)
+      (creates_in asker files list name))
+      (λ name last. walks-split Call.Create asker files terms (is_for_execution asker.caller.regs.a) from
+      (before_last names) (creates_in asker files list name) (λ found. creates-split Call.Create asker files terms
+      list found refl name refl))
   create-way list read to_device is = device-splits Call.Create asker files terms Device.Create refl (list, read, is)
   create-way list read (nowhere number) is = none-splits Call.Create asker files terms number
 
   pub create-split : StepSplits Call.Create asker files terms (i_create asker files terms)
   create-split =
-      list-by (StepSplits Call.Create asker files terms) (none-splits Call.Create asker files terms) (list_of asker) (tests_mode (can_write asker.caller.regs.a)) (λ list. creates_on_way asker files terms list (way_to_new asker files terms (is_for_execution asker.caller.regs.a) list))
+      list-by (StepSplits Call.Create asker files terms) (none-splits Call.Create asker files terms) (list_of asker)
+      (tests_mode (can_write asker.caller.regs.a)) (λ list. creates_on_way asker files terms list
+      (way_to_new asker files terms (is_for_execution asker.caller.regs.a) list))
       (mode-splits Call.Create asker files terms (can_write asker.caller.regs.a))
       (λ list read. create-way list read (way_to_new asker files terms (is_for_execution asker.caller.regs.a) list) refl)
 
   make-way : (list : PathList) (way : Way) → StepSplits Call.MakDir asker files terms (makes_on_way asker files list way)
   make-way list (along from names) =
-      needs-by (StepSplits Call.MakDir asker files terms) (none-splits Call.MakDir asker files terms) (last_of names) E_BPNAM (λ name. walks asker files false from (before_last names) (makes_in asker files list name))
+      needs-by (StepSplits Call.MakDir asker files terms) (none-splits Call.MakDir asker files terms) (last_of names)
+      E_BPNAM (λ name. walks asker files false from (before_last names) (makes_in asker files list name))
       (λ name is. walks-split Call.MakDir asker files terms false from (before_last names) (makes_in asker files list name) (λ found. makes-split Call.MakDir asker files terms list found refl name))
   make-way list to_device = none-splits Call.MakDir asker files terms E_FNA
   make-way list (nowhere number) = none-splits Call.MakDir asker files terms number
 
   pub makdir-split : StepSplits Call.MakDir asker files terms (i_makdir asker files terms)
   makdir-split =
-      list-by (StepSplits Call.MakDir asker files terms) (none-splits Call.MakDir asker files terms) (list_of asker) (λ step. step) (λ list. makes_on_way asker files list (way_to_new asker files terms false list))
+      list-by (StepSplits Call.MakDir asker files terms) (none-splits Call.MakDir asker files terms) (list_of asker)
+      (λ step. step) (λ list. makes_on_way asker files list (way_to_new asker files terms false list))
       (λ step holds. holds)
       (λ list read. make-way list (way_to_new asker files terms false list))
 
@@ -177,7 +245,9 @@ module _ (asker : Asker) (files : Files) (terms : ℕ) where
     paths = inl refl;
     rest = refl;
     directories =
-        λ q differ. get_or-set_other files.directories asker.caller.process.0 q (with_directory (directories_at files asker.caller.process.0) (is_for_execution asker.caller.regs.a) found.place) no_directories differ;
+        λ q differ. get_or-set_other files.directories asker.caller.process.0 q
+        (with_directory (directories_at files asker.caller.process.0) (is_for_execution asker.caller.regs.a)
+        found.place) no_directories differ;
     own = λ differ. absurd (differ refl);
     volumes = refl;
     refusal = λ number is. absurd (not-refused (past_list asker.caller.regs list) number is);
@@ -185,7 +255,9 @@ module _ (asker : Asker) (files : Files) (terms : ℕ) where
 
   goes-split : (list : PathList) (found : Found) → SplitsOn Call.ChgDir asker files terms found.place.drive (goes_to asker files list found)
   goes-split list found =
-      refuses-by (SplitsOn Call.ChgDir asker files terms found.place.drive) (none-on Call.ChgDir asker files terms found.place.drive) (not (may_go_to found.file asker.user asker.caller.regs.a)) E_FNA (done (past_list asker.caller.regs list) (goes_there found))
+      refuses-by (SplitsOn Call.ChgDir asker files terms found.place.drive) (none-on Call.ChgDir asker files terms
+      found.place.drive) (not (may_go_to found.file asker.user asker.caller.regs.a)) E_FNA
+      (done (past_list asker.caller.regs list) (goes_there found))
       (gone list found)
 
   go-way : (list : PathList) (way : Way) → StepSplits Call.ChgDir asker files terms (goes_on_way asker files list way)
@@ -196,7 +268,9 @@ module _ (asker : Asker) (files : Files) (terms : ℕ) where
 
   pub chgdir-split : StepSplits Call.ChgDir asker files terms (i_chgdir asker files terms)
   chgdir-split =
-      list-by (StepSplits Call.ChgDir asker files terms) (none-splits Call.ChgDir asker files terms) (list_of asker) (tests_mode (is_mode asker.caller.regs.a)) (λ list. goes_on_way asker files list (way_of asker files terms (is_for_execution asker.caller.regs.a) list))
+      list-by (StepSplits Call.ChgDir asker files terms) (none-splits Call.ChgDir asker files terms) (list_of asker)
+      (tests_mode (is_mode asker.caller.regs.a)) (λ list. goes_on_way asker files list
+      (way_of asker files terms (is_for_execution asker.caller.regs.a) list))
       (mode-splits Call.ChgDir asker files terms (is_mode asker.caller.regs.a))
       (λ list read. go-way list (way_of asker files terms (is_for_execution asker.caller.regs.a) list))
 
@@ -209,9 +283,13 @@ module _ (asker : Asker) (files : Files) (terms : ℕ) where
     delete-way execute list to_device last = none-splits call asker files terms E_FNA
     delete-way execute list (nowhere number) last = none-splits call asker files terms number
 
-    delete-by : (execute : Bool) (test : FileStep → FileStep) → ((step : FileStep) → StepSplits call asker files terms step → StepSplits call asker files terms (test step)) → StepSplits call asker files terms (deletes_by asker files terms execute test)
+    delete-by : (execute : Bool) (test : FileStep → FileStep) → ((step : FileStep) → StepSplits call asker files terms
+        step → StepSplits call asker files terms (test step)) → StepSplits call asker files terms
+        (deletes_by asker files terms execute test)
     delete-by execute test tests =
-        list-by (StepSplits call asker files terms) (none-splits call asker files terms) (list_of asker) test (λ list. deletes_named asker files execute list (way_of asker files terms execute list) (last_of list.names))
+        list-by (StepSplits call asker files terms) (none-splits call asker files terms) (list_of asker) test
+        (λ list. deletes_named asker files execute list (way_of asker files terms execute list)
+        (last_of list.names))
         tests (λ list read. delete-way execute list (way_of asker files terms execute list) (last_of list.names))
 
   pub delete-split : StepSplits Call.Delete asker files terms (i_delete asker files terms)

@@ -71,19 +71,31 @@ module _ (call : PathCall) (asker : Asker) (files : Files) (terms : ℕ) where
     read-splits : moves_position call ≡ true → (part : List ℕ → List ℕ) → S (reads_file asker files part found)
     read-splits moves part =
         refuses-by On not-on (nat_le (length found.file.contents) found.opened.desc.at) E_EOF (comes (leaves_so (answers_bytes asker files found (part (bytes_here asker found)))))
-        (answered-at call asker files moves found named (found.opened.desc.at + length (part (bytes_here asker found))) asker.caller.regs.x (part (bytes_here asker found)) (count_regs asker.caller (length (part (bytes_here asker found)))))
+        (answered-at call asker files moves found named (found.opened.desc.at + length
+        (part (bytes_here asker found))) asker.caller.regs.x (part (bytes_here asker found))
+        (count_regs asker.caller (length (part (bytes_here asker found)))))
 
     -- ---- changes of the file
 
-    change-splits : may_change_volume call ≡ true → (change : Change) (size : ℕ) (regs : Regs) (new : Files) → Leaves call asker files (leaves (answers regs) new) → S (changes_file files found change size regs new)
+    change-splits : may_change_volume call ≡ true → (change : Change) (size : ℕ) (regs : Regs) (new : Files)
+        → Leaves call asker files (leaves (answers regs) new) → S (changes_file files found change size regs new)
     change-splits may change size regs new left =
-        refuses-by On not-on (nat_lt (free_total found.volume) (clusters_needed (cluster_size found.volume) found.file.segments size)) E_FULL (comes (changes (record { drive = found.place.drive; change = change; effect = λ n. leaves (answers regs) new })))
+        refuses-by On not-on (nat_lt (free_total found.volume) (clusters_needed (cluster_size found.volume)
+        found.file.segments size)) E_FULL
+        (comes (changes (record {
+          drive = found.place.drive;
+          change = change;
+          effect = λ n. leaves (answers regs)
+              new;
+        })))
         (record { reaches = refl; may = may; left = λ n. left; answer = λ n. (regs, refl); fixed = inr (λ m n. refl) })
 
     module _ (moves : moves_position call ≡ true) (may : may_change_volume call ≡ true) where
       write-splits : (bytes : List ℕ) (regs : Regs) → S (writes_bytes files found bytes regs)
       write-splits bytes regs =
-          change-splits may (writes found.place.number found.opened.desc.at bytes) (length (written found.file.contents found.opened.desc.at bytes)) regs (with_position files found.opened (found.opened.desc.at + length bytes))
+          change-splits may (writes found.place.number found.opened.desc.at bytes)
+          (length (written found.file.contents found.opened.desc.at bytes)) regs (with_position files found.opened
+          (found.opened.desc.at + length bytes))
           (answered-at call asker files moves found named (found.opened.desc.at + length bytes) 0 [] regs)
 
       send-splits : (bytes : List ℕ) → S (sends_bytes asker files found bytes)
@@ -99,7 +111,10 @@ module _ (call : PathCall) (asker : Asker) (files : Files) (terms : ℕ) where
 
     descriptor-splits : S (gets_descriptor asker files found)
     descriptor-splits =
-        refuses-by S no (is_none (user_bytes asker.caller.cells asker.caller.regs.x (asked_bytes asker))) E_BPADDR (reaches found.place.drive (comes (leaves_so (stores asker.caller.regs.x (take (asked_bytes asker) (descriptor_front found.file)) asker.caller.regs files))))
+        refuses-by S no (is_none (user_bytes asker.caller.cells asker.caller.regs.x (asked_bytes asker))) E_BPADDR
+        (reaches found.place.drive
+        (comes (leaves_so (stores asker.caller.regs.x (take (asked_bytes asker) (descriptor_front found.file))
+        asker.caller.regs files))))
         (answered-same call asker files asker.caller.regs.x (take (asked_bytes asker) (descriptor_front found.file)) asker.caller.regs)
 
     end-splits : S (gets_end asker files found)
@@ -107,7 +122,11 @@ module _ (call : PathCall) (asker : Asker) (files : Files) (terms : ℕ) where
         refuses-by On not-on (nat_le (length found.file.contents) found.opened.desc.at) E_EOF (done (record asker.caller.regs { b = 0 }) files)
         (same (record asker.caller.regs { b = 0 }))
 
-    status-by : (opt ready size pos end fd : Bool) → S (if opt then gets_bytes asker files OPTION_BYTES (λ step. step) (options found.opened.desc.target) else (if ready then done (record asker.caller.regs { b = 0 }) files else (if size then gets_size asker files found else (if pos then done (long_regs asker.caller.regs found.opened.desc.at) files else (if end then gets_end asker files found else (if fd then gets_descriptor asker files found else refused E_UNKSVC))))))
+    status-by : (opt ready size pos end fd : Bool) → S (if opt then gets_bytes asker files OPTION_BYTES (λ step. step)
+        (options found.opened.desc.target) else (if ready then done (record asker.caller.regs { b = 0 }) files else
+        (if size then gets_size asker files found else
+        (if pos then done (long_regs asker.caller.regs found.opened.desc.at) files else (if end then gets_end asker
+        files found else (if fd then gets_descriptor asker files found else refused E_UNKSVC))))))
     status-by true ready size pos end fd = bytes-split OPTION_BYTES (options found.opened.desc.target)
     status-by false true size pos end fd = same (record asker.caller.regs { b = 0 })
     status-by false false true pos end fd = same (long_regs asker.caller.regs (length found.file.contents))
@@ -124,12 +143,20 @@ module _ (call : PathCall) (asker : Asker) (files : Files) (terms : ℕ) where
     module _ (may : may_change_volume call ≡ true) where
       size-splits : S (sets_size asker files found)
       size-splits =
-          refuses-by S no (not (can_write found.opened.desc.mode)) E_BMODE (changes_file files found (sizes found.place.number (long_of asker.caller.regs)) (long_of asker.caller.regs) asker.caller.regs files)
+          refuses-by S no (not (can_write found.opened.desc.mode)) E_BMODE
+          (changes_file files found (sizes found.place.number (long_of asker.caller.regs))
+          (long_of asker.caller.regs) asker.caller.regs files)
           (change-splits may (sizes found.place.number (long_of asker.caller.regs)) (long_of asker.caller.regs) asker.caller.regs files (answered-same call asker files 0 [] asker.caller.regs))
 
       attributes-split : S (sets_attributes_of asker files found)
       attributes-split =
-          refuses-by On not-on (not (owns_file found.file asker.user)) E_FNA (comes (changes (record { drive = found.place.drive; change = sets_attributes found.place.number (asker.caller.regs.x % 256); effect = λ n. leaves (answers asker.caller.regs) files })))
+          refuses-by On not-on (not (owns_file found.file asker.user)) E_FNA
+          (comes (changes (record {
+            drive = found.place.drive;
+            change = sets_attributes found.place.number
+                (asker.caller.regs.x % 256);
+            effect = λ n. leaves (answers asker.caller.regs) files;
+          })))
           (record {
             reaches = refl;
             may = may;
@@ -145,14 +172,22 @@ module _ (call : PathCall) (asker : Asker) (files : Files) (terms : ℕ) where
 
   -- ---- the calls
 
-  reads-split : number_in call asker ≡ asker.caller.regs.a → moves_position call ≡ true → (otherwise : IoStep) → (open_file files asker.caller.process.0 asker.caller.regs.a ≡ None → IsDeviceStep call asker files terms otherwise × IsOnNoFile call asker files terms) → (part : List ℕ → List ℕ) → S (reads_on asker files otherwise part)
+  reads-split : number_in call asker ≡ asker.caller.regs.a → moves_position call ≡ true → (otherwise : IoStep)
+      → (open_file files asker.caller.process.0 asker.caller.regs.a ≡ None → IsDeviceStep call asker files terms
+      otherwise × IsOnNoFile call asker files terms) → (part : List ℕ → List ℕ)
+      → S (reads_on asker files otherwise part)
   reads-split number_is moves otherwise on part =
-      number-splits call asker files terms asker.caller.regs.a otherwise (λ found. refuses (is_none (user_bytes asker.caller.cells asker.caller.regs.x asker.caller.regs.y)) E_BPADDR (moves_bytes asker files found can_read (reads_file asker files part found))) (λ none. inl (on none))
-      (λ found named. refuses-by S no (is_none (user_bytes asker.caller.cells asker.caller.regs.x asker.caller.regs.y)) E_BPADDR (moves_bytes asker files found can_read (reads_file asker files part found))
+      number-splits call asker files terms asker.caller.regs.a otherwise
+      (λ found. refuses (is_none (user_bytes asker.caller.cells asker.caller.regs.x asker.caller.regs.y)) E_BPADDR
+      (moves_bytes asker files found can_read (reads_file asker files part found))) (λ none. inl (on none))
+      (λ found named. refuses-by S no (is_none (user_bytes asker.caller.cells asker.caller.regs.x
+      asker.caller.regs.y)) E_BPADDR (moves_bytes asker files found can_read (reads_file asker files part found))
       (moves-split found can_read (reads_file asker files part found) (read-splits found (ap (open_file files asker.caller.process.0) number_is ∙ named) moves part)))
 
 -- a call on no file is the one on terminals and pipes
-abbrev on : (call : PathCall) (device : IoCall) (asker : Asker) (files : Files) (terms : ℕ) → device_call call ≡ Some device → IsOnNoFile call asker files terms → IsDeviceStep call asker files terms (io_step device asker.caller files.io (length files.drives) terms) × IsOnNoFile call asker files terms
+abbrev on : (call : PathCall) (device : IoCall) (asker : Asker) (files : Files) (terms : ℕ) → device_call call ≡ Some
+    device → IsOnNoFile call asker files terms → IsDeviceStep call asker files terms (io_step device asker.caller
+    files.io (length files.drives) terms) × IsOnNoFile call asker files terms
 on call device asker files terms is none = (record { device = device; device_is = is; is = refl }, none)
 
 module _ (asker : Asker) (files : Files) (terms : ℕ) where
@@ -166,34 +201,53 @@ module _ (asker : Asker) (files : Files) (terms : ℕ) where
 
   pub write-split : StepSplits Call.Write asker files terms (i_write asker files)
   write-split =
-      number-splits Call.Write asker files terms asker.caller.regs.a (writes_device asker.caller files.io) (λ found. needs (user_bytes asker.caller.cells asker.caller.regs.x asker.caller.regs.y) E_BPADDR (sends_bytes asker files found)) (λ none. inl (on Call.Write Device.Write asker files terms refl none))
-      (λ found named. needs-by (StepSplits Call.Write asker files terms) (none-splits Call.Write asker files terms) (user_bytes asker.caller.cells asker.caller.regs.x asker.caller.regs.y) E_BPADDR (sends_bytes asker files found)
+      number-splits Call.Write asker files terms asker.caller.regs.a (writes_device asker.caller files.io)
+      (λ found. needs (user_bytes asker.caller.cells asker.caller.regs.x asker.caller.regs.y) E_BPADDR
+      (sends_bytes asker files found)) (λ none. inl (on Call.Write Device.Write asker files terms refl none))
+      (λ found named. needs-by (StepSplits Call.Write asker files terms) (none-splits Call.Write asker files terms)
+      (user_bytes asker.caller.cells asker.caller.regs.x asker.caller.regs.y) E_BPADDR
+      (sends_bytes asker files found)
       (λ bytes is. send-splits Call.Write asker files terms found named refl refl bytes))
 
   pub writln-split : StepSplits Call.WritLn asker files terms (i_writln asker files)
   writln-split =
-      number-splits Call.WritLn asker files terms asker.caller.regs.a (writes_device_line asker.caller files.io) (λ found. needs (line_at asker.caller.cells asker.caller.regs.x asker.caller.regs.y) E_BPADDR (sends_bytes asker files found)) (λ none. inl (on Call.WritLn Device.WritLn asker files terms refl none))
-      (λ found named. needs-by (StepSplits Call.WritLn asker files terms) (none-splits Call.WritLn asker files terms) (line_at asker.caller.cells asker.caller.regs.x asker.caller.regs.y) E_BPADDR (sends_bytes asker files found)
+      number-splits Call.WritLn asker files terms asker.caller.regs.a (writes_device_line asker.caller files.io)
+      (λ found. needs (line_at asker.caller.cells asker.caller.regs.x asker.caller.regs.y) E_BPADDR
+      (sends_bytes asker files found)) (λ none. inl (on Call.WritLn Device.WritLn asker files terms refl none))
+      (λ found named. needs-by (StepSplits Call.WritLn asker files terms) (none-splits Call.WritLn asker files terms)
+      (line_at asker.caller.cells asker.caller.regs.x asker.caller.regs.y) E_BPADDR
+      (sends_bytes asker files found)
       (λ bytes is. send-splits Call.WritLn asker files terms found named refl refl bytes))
 
   pub perr-split : StepSplits Call.PErr asker files terms (f_perr asker files)
   perr-split =
-      number-splits Call.PErr asker files terms STANDARD_ERROR (tells_device asker.caller files.io) (λ found. refuses (not (can_write found.opened.desc.mode)) E_BMODE (writes_bytes files found (error_line asker.caller.regs.b) asker.caller.regs)) (λ none. inl (on Call.PErr Device.PErr asker files terms refl none))
-      (λ found named. refuses-by (StepSplits Call.PErr asker files terms) (none-splits Call.PErr asker files terms) (not (can_write found.opened.desc.mode)) E_BMODE (writes_bytes files found (error_line asker.caller.regs.b) asker.caller.regs)
+      number-splits Call.PErr asker files terms STANDARD_ERROR (tells_device asker.caller files.io)
+      (λ found. refuses (not (can_write found.opened.desc.mode)) E_BMODE
+      (writes_bytes files found (error_line asker.caller.regs.b) asker.caller.regs))
+      (λ none. inl (on Call.PErr Device.PErr asker files terms refl none))
+      (λ found named. refuses-by (StepSplits Call.PErr asker files terms) (none-splits Call.PErr asker files terms)
+      (not (can_write found.opened.desc.mode)) E_BMODE (writes_bytes files found (error_line asker.caller.regs.b)
+      asker.caller.regs)
       (write-splits Call.PErr asker files terms found named refl refl (error_line asker.caller.regs.b) asker.caller.regs))
 
   pub getstt-split : StepSplits Call.GetStt asker files terms (i_getstt asker files)
   getstt-split =
-      number-splits Call.GetStt asker files terms asker.caller.regs.a (gets_of_device asker.caller files.io) (λ found. gets_status asker files found asker.caller.regs.b) (λ none. inl (on Call.GetStt Device.GetStt asker files terms refl none))
+      number-splits Call.GetStt asker files terms asker.caller.regs.a (gets_of_device asker.caller files.io)
+      (λ found. gets_status asker files found asker.caller.regs.b)
+      (λ none. inl (on Call.GetStt Device.GetStt asker files terms refl none))
       (λ found named. status-splits Call.GetStt asker files terms found named asker.caller.regs.b)
 
   pub setstt-split : StepSplits Call.SetStt asker files terms (i_setstt asker files)
   setstt-split =
-      number-splits Call.SetStt asker files terms asker.caller.regs.a (sets_of_device asker.caller files.io) (λ found. sets_status asker files found asker.caller.regs.b) (λ none. inl (on Call.SetStt Device.SetStt asker files terms refl none))
+      number-splits Call.SetStt asker files terms asker.caller.regs.a (sets_of_device asker.caller files.io)
+      (λ found. sets_status asker files found asker.caller.regs.b)
+      (λ none. inl (on Call.SetStt Device.SetStt asker files terms refl none))
       (λ found named. set-by Call.SetStt asker files terms found named refl (asker.caller.regs.b == SS_SIZE) (asker.caller.regs.b == SS_ATTR))
 
   -- I$Seek does nothing on a terminal or a pipe
-  seek-still : (opened : Option OpenPath) (it : IoEffect) (old new : List TerminalState) → Does (io_needs opened E_BPNUM (λ opened. io_done asker.caller.regs files.io)) asker.caller files.io it old new → DoesNothing Call.Seek asker files terms it old new
+  seek-still : (opened : Option OpenPath) (it : IoEffect) (old new : List TerminalState)
+      → Does (io_needs opened E_BPNUM (λ opened. io_done asker.caller.regs files.io)) asker.caller files.io it old new
+      → DoesNothing Call.Seek asker files terms it old new
   seek-still None it old new (is, same) = record {
     over = ap (λ (it : IoEffect). kept_in it.end) is;
     io = ap (λ (it : IoEffect). it.io) is;
@@ -207,6 +261,7 @@ module _ (asker : Asker) (files : Files) (terms : ℕ) where
 
   pub seek-split : StepSplits Call.Seek asker files terms (i_seek asker files)
   seek-split =
-      number-splits Call.Seek asker files terms asker.caller.regs.a (seeks_nothing asker.caller files.io) (λ found. done asker.caller.regs (with_position files found.opened (long_of asker.caller.regs)))
+      number-splits Call.Seek asker files terms asker.caller.regs.a (seeks_nothing asker.caller files.io)
+      (λ found. done asker.caller.regs (with_position files found.opened (long_of asker.caller.regs)))
       (λ none. inr (seek-still (open_path files.io asker.caller.process.0 asker.caller.regs.a)))
       (λ found named. answered-at Call.Seek asker files refl found named (long_of asker.caller.regs) 0 [] asker.caller.regs)

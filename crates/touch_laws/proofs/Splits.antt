@@ -36,7 +36,9 @@ module _ {E : Type 0} (P : Step E → Type 0) (none : (number : ℕ) → P (refu
   refuses-by true number next holds = none number
   refuses-by false number next holds = holds
 
-  pub list-by : (list : Result PathList NameFault) (test : Step E → Step E) (next : PathList → Step E) → ((step : Step E) → P step → P (test step)) → ((l : PathList) → list ≡ Ok l → P (next l)) → P (reads_list list test next)
+  pub list-by : (list : Result PathList NameFault) (test : Step E → Step E) (next : PathList → Step E)
+      → ((step : Step E) → P step → P (test step)) → ((l : PathList) → list ≡ Ok l → P (next l))
+      → P (reads_list list test next)
   list-by (Ok list) test next tests holds = tests (next list) (holds list refl)
   list-by (Err Unreadable) test next tests holds = none E_BPADDR
   list-by (Err NoName) test next tests holds = tests (refused E_BPNAM) (none E_BPNAM)
@@ -67,7 +69,9 @@ CreatesFile (deletes d n name) = ⊥
 
 module _ (call : PathCall) (asker : Asker) (files : Files) where
   -- it is done, and these are the files then
-  pub answered : (new : Files) (at : ℕ) (bytes : List ℕ) (regs : Regs) → PathsMove call asker files new.io.paths → new.io ≡ with_paths files.io new.io.paths → new.directories ≡ files.directories → new.volumes ≡ files.volumes → Leaves call asker files (record { end = answers regs; at = at; bytes = bytes; files = new })
+  pub answered : (new : Files) (at : ℕ) (bytes : List ℕ) (regs : Regs) → PathsMove call asker files new.io.paths
+      → new.io ≡ with_paths files.io new.io.paths → new.directories ≡ files.directories → new.volumes ≡ files.volumes
+      → Leaves call asker files (record { end = answers regs; at = at; bytes = bytes; files = new })
   answered new at bytes regs paths rest directories volumes = record {
     over = refl;
     paths = paths;
@@ -83,7 +87,9 @@ module _ (call : PathCall) (asker : Asker) (files : Files) where
   answered-same at bytes regs = answered files at bytes regs (inl refl) refl refl refl
 
   -- a position moves
-  pub answered-at : moves_position call ≡ true → (found : OpenFile) → open_file files asker.caller.process.0 (number_in call asker) ≡ Some found → (place at : ℕ) (bytes : List ℕ) (regs : Regs) → Leaves call asker files (record { end = answers regs; at = at; bytes = bytes; files = with_position files found.opened place })
+  pub answered-at : moves_position call ≡ true → (found : OpenFile) → open_file files asker.caller.process.0
+      (number_in call asker) ≡ Some found → (place at : ℕ) (bytes : List ℕ) (regs : Regs) → Leaves call asker files
+      (record { end = answers regs; at = at; bytes = bytes; files = with_position files found.opened place })
   answered-at moves found named place at bytes regs =
       answered (with_position files found.opened place) at bytes regs
       (inr (inl (record { moves = moves; found = found; named = named; at = place; is = refl }))) refl refl refl
@@ -140,11 +146,14 @@ module _ (call : PathCall) (asker : Asker) (files : Files) (terms : ℕ) where
   pub done-splits : (regs : Regs) → StepSplits (done regs files)
   done-splits regs = answered-same call asker files 0 [] regs
 
-  pub device-splits : (device : IoCall) → device_call call ≡ Some device → IsOnNoFile call asker files terms → StepSplits (comes (as_io (io_step device asker.caller files.io (length files.drives) terms)))
+  pub device-splits : (device : IoCall) → device_call call ≡ Some device → IsOnNoFile call asker files terms
+      → StepSplits (comes (as_io (io_step device asker.caller files.io (length files.drives) terms)))
   device-splits device is none = inl (record { device = device; device_is = is; is = refl }, none)
 
   -- a walk, and what is done where it ends
-  pub walks-split : (execute : Bool) (from : FilePlace) (names : List (List ℕ)) (next : Found → FileStep) → ((found : Found) → SplitsOn found.place.drive (next found)) → StepSplits (walks asker files execute from names next)
+  pub walks-split : (execute : Bool) (from : FilePlace) (names : List (List ℕ)) (next : Found → FileStep)
+      → ((found : Found) → SplitsOn found.place.drive (next found)) → StepSplits (walks asker files execute from names
+      next)
   walks-split execute from names next holds =
       needs-by StepSplits none-splits (volume_at files from.drive) E_MNF (λ v. reaches from.drive (walk_ends from.drive v (walk v.files asker.user execute from.number names) next))
       (λ v is. by_end v (walk v.files asker.user execute from.number names))
@@ -157,10 +166,15 @@ module _ (call : PathCall) (asker : Asker) (files : Files) (terms : ℕ) where
       by_end v not_found = none-on from.drive E_PNNF
 
   -- a call on a number: on a file, or the other call
-  pub number-splits : (number : ℕ) (otherwise : IoStep) (next : OpenFile → FileStep) → (open_file files asker.caller.process.0 number ≡ None → IsDeviceStep otherwise × IsOnNoFile call asker files terms ⊎ IsStill otherwise) → ((found : OpenFile) → open_file files asker.caller.process.0 number ≡ Some found → StepSplits (next found)) → StepSplits (on_file asker files number otherwise next)
+  pub number-splits : (number : ℕ) (otherwise : IoStep) (next : OpenFile → FileStep)
+      → (open_file files asker.caller.process.0 number ≡ None → IsDeviceStep otherwise × IsOnNoFile call asker files
+      terms ⊎ IsStill otherwise) → ((found : OpenFile) → open_file files asker.caller.process.0 number ≡ Some found
+      → StepSplits (next found)) → StepSplits (on_file asker files number otherwise next)
   number-splits number otherwise next other holds =
       by_file (open_file files asker.caller.process.0 number) other holds
     where
-      by_file : (o : Option OpenFile) → (o ≡ None → IsDeviceStep otherwise × IsOnNoFile call asker files terms ⊎ IsStill otherwise) → ((found : OpenFile) → o ≡ Some found → StepSplits (next found)) → StepSplits (by_kind o otherwise next)
+      by_file : (o : Option OpenFile) → (o ≡ None → IsDeviceStep otherwise × IsOnNoFile call asker files terms ⊎
+          IsStill otherwise) → ((found : OpenFile) → o ≡ Some found → StepSplits (next found))
+          → StepSplits (by_kind o otherwise next)
       by_file None other holds = other refl
       by_file (Some found) other holds = holds found refl

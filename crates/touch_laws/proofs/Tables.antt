@@ -97,7 +97,8 @@ module _ (paths : PathTable) (s : ℕ) (old new : Desc) (there : desc_of paths s
 
 -- ---- a new path
 
-module _ (p : ℕ) (paths : PathTable) (target : Target) (mode : ℕ) (place : FilePlace) (on : place_of_target target ≡ Some place) (n s : ℕ) (number : free_number paths p ≡ Some n) (path : free_path paths ≡ Some s) where
+module _ (p : ℕ) (paths : PathTable) (target : Target) (mode : ℕ) (place : FilePlace) (on : place_of_target target ≡
+    Some place) (n s : ℕ) (number : free_number paths p ≡ Some n) (path : free_path paths ≡ Some s) where
   abbrev after : PathTable
   after = begun p paths target mode place on n s number path
 
@@ -161,22 +162,31 @@ module _ (p : ℕ) (paths : PathTable) (target : Target) (mode : ℕ) (place : F
       numbers_are : (q : ℕ) → q < 33 → length (numbers_of after q) ≡ 16
       numbers_are q within =
           elim (cases_eq q p) [
-            | inl same ↦ ap (λ (q : ℕ). length (numbers_of after q)) same ∙ ap (length {A = Option SysPath}) own-numbers ∙ length-set (numbers_of paths p) n (Some (record { 0 = s })) ∙ ap (λ (q : ℕ). length (numbers_of paths q)) (sym same) ∙ are.numbers q within
+            | inl same ↦ ap (λ (q : ℕ). length (numbers_of after q)) same ∙ ap (length {A = Option SysPath})
+                own-numbers ∙ length-set (numbers_of paths p) n (Some (record { 0 = s })) ∙ ap
+                (λ (q : ℕ). length (numbers_of paths q)) (sym same) ∙ are.numbers q within
             | inr differ ↦ ap (length {A = Option SysPath}) (begun-numbers p paths target mode place on n s number path q differ) ∙ are.numbers q within
           ]
 
       own_there : (m : ℕ) (t : SysPath) → slot_of after p m ≡ Some t → IsSome (desc_of after t.0)
       own_there m t is =
           elim (cases_eq m n) [
-            | inl same ↦ subst (λ (t : SysPath). IsSome (desc_of after t.0)) (same_Some (record { 0 = s }) t (sym own-slot ∙ ap (slot_of after p) (sym same) ∙ is)) (some-desc after s (new_desc target mode) new-desc)
-            | inr differ ↦ still-there-too t.0 (are.there p m t (sym (get_or-set_other (numbers_of paths p) n m (Some (record { 0 = s })) None differ) ∙ ap (λ (numbers : List (Option SysPath)). slice_index_or numbers m None) (sym own-numbers) ∙ is))
+            | inl same ↦ subst (λ (t : SysPath). IsSome (desc_of after t.0)) (same_Some (record { 0 = s }) t
+                (sym own-slot ∙ ap (slot_of after p) (sym same) ∙ is)) (some-desc after s (new_desc target mode)
+                new-desc)
+            | inr differ ↦ still-there-too t.0
+                (are.there p m t (sym (get_or-set_other (numbers_of paths p) n m (Some (record { 0 = s })) None
+                differ) ∙ ap (λ (numbers : List (Option SysPath)). slice_index_or numbers m None) (sym own-numbers) ∙
+                is))
           ]
 
       there_is : (q m : ℕ) (t : SysPath) → slot_of after q m ≡ Some t → IsSome (desc_of after t.0)
       there_is q m t is =
           elim (cases_eq q p) [
             | inl same ↦ own_there m t (ap (λ (q : ℕ). slot_of after q m) (sym same) ∙ is)
-            | inr differ ↦ still-there-too t.0 (are.there q m t (ap (λ (numbers : List (Option SysPath)). slice_index_or numbers m None) (sym (begun-numbers p paths target mode place on n s number path q differ)) ∙ is))
+            | inr differ ↦ still-there-too t.0
+                (are.there q m t (ap (λ (numbers : List (Option SysPath)). slice_index_or numbers m None)
+                (sym (begun-numbers p paths target mode place on n s number path q differ)) ∙ is))
           ]
 
   -- what was held is held
@@ -214,7 +224,9 @@ module _ (p : ℕ) (paths : PathTable) (target : Target) (mode : ℕ) (place : F
 table-path : (p : ℕ) (paths : PathTable) (target : Target) (mode : ℕ) (place : FilePlace) → place_of_target target ≡ Some place → KeepsTable paths (paths_after_begin paths p (new_desc target mode))
 table-path p paths target mode place on = by_places (free_number paths p) (free_path paths) refl refl
   where
-    by_places : (number path : Option ℕ) → free_number paths p ≡ number → free_path paths ≡ path → KeepsTable paths (option_map_or (λ n. option_map_or (with_path paths p (new_desc target mode) n) path paths) number paths)
+    by_places : (number path : Option ℕ) → free_number paths p ≡ number → free_path paths ≡ path
+        → KeepsTable paths (option_map_or (λ n. option_map_or (with_path paths p (new_desc target mode) n) path paths)
+        number paths)
     by_places None path number_is path_is = table-same paths
     by_places (Some n) None number_is path_is = table-same paths
     by_places (Some n) (Some s) number_is path_is = table-begun p paths target mode place on n s number_is path_is
@@ -222,10 +234,14 @@ table-path p paths target mode place on = by_places (free_number paths p) (free_
 table-kept : (call : PathCall) (asker : Asker) (files : Files) (paths : PathTable) → PathsMove call asker files paths → KeepsTable files.io.paths paths
 table-kept call asker files paths (inl same) = subst (KeepsTable files.io.paths) (sym same) (table-same files.io.paths)
 table-kept call asker files paths (inr (inl it)) =
-    subst (KeepsTable files.io.paths) (sym it.is) (table-moved files.io.paths it.found.opened.path.0 it.found.opened.desc (record it.found.opened.desc { at = it.at }) (file-named files asker.caller.process.0 (number_in call asker) it.found it.named).desc)
+    subst (KeepsTable files.io.paths) (sym it.is) (table-moved files.io.paths it.found.opened.path.0
+    it.found.opened.desc (record it.found.opened.desc { at = it.at }) (file-named files asker.caller.process.0
+    (number_in call asker) it.found it.named).desc)
 table-kept call asker files paths (inr (inr it)) =
     subst (KeepsTable files.io.paths) (sym it.is) (table-path asker.caller.process.0 files.io.paths it.target asker.caller.regs.a it.place it.on)
 
-pub paths-kept : {call : PathCall} {now : TimePacket} (inner : Inner) (files : Files) (p : ℕ) (result : CallResult) (new : Files) (old_terms new_terms : List TerminalState) → LeavesDevices call inner files now p result new old_terms new_terms → KeepsTable files.io.paths new.io.paths
+pub paths-kept : {call : PathCall} {now : TimePacket} (inner : Inner) (files : Files) (p : ℕ) (result : CallResult)
+    (new : Files) (old_terms new_terms : List TerminalState) → LeavesDevices call inner files now p result new
+    old_terms new_terms → KeepsTable files.io.paths new.io.paths
 paths-kept {call} {now} inner files p result new old_terms new_terms it =
     table-kept call (asker_of inner p now) files new.io.paths it.paths

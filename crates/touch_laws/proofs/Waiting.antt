@@ -99,7 +99,9 @@ module _ (device : IoCall) (number : ℕ) (caller : Caller) (io : Io) where
 
   -- ---- reads and writes
 
-  wait-path : (is_allowed : ℕ → Bool) (next : OpenPath → IoStep) → ((opened : OpenPath) → open_path io caller.process.0 number ≡ Some opened → StepWaits (next opened)) → StepWaits (on_path caller io number is_allowed next)
+  wait-path : (is_allowed : ℕ → Bool) (next : OpenPath → IoStep)
+      → ((opened : OpenPath) → open_path io caller.process.0 number ≡ Some opened → StepWaits (next opened))
+      → StepWaits (on_path caller io number is_allowed next)
   wait-path is_allowed next holds =
       wait-needs (open_path io caller.process.0 number) E_BPNUM (λ opened. refuses (not (is_allowed opened.desc.mode)) E_BMODE (next opened))
       (λ opened is. wait-refuses (not (is_allowed opened.desc.mode)) E_BMODE (next opened) (holds opened is))
@@ -113,14 +115,17 @@ module _ (device : IoCall) (number : ℕ) (caller : Caller) (io : Io) where
     names opened is target same on =
         record { takes = takes; opened = opened; is = is; on = subst IsDevice (sym same) on }
 
-    wait-read : (kind : ReadKind) (now : Kept) (opened : OpenPath) → open_path io caller.process.0 number ≡ Some opened → (target : Target) → opened.desc.target ≡ target → StepWaits (reads_target kind caller io now target)
+    wait-read : (kind : ReadKind) (now : Kept) (opened : OpenPath) → open_path io caller.process.0 number ≡ Some
+        opened → (target : Target) → opened.desc.target ≡ target → StepWaits (reads_target kind caller io now target)
     wait-read kind now opened is (File drive sector) same = tt
     wait-read kind now opened is (Folder drive sector) same = tt
     wait-read kind now opened is (Term terminal) same = names opened is (Term terminal) same refl
     wait-read Bytes now opened is (Pipe pipe) same = inr (names opened is (Pipe pipe) same refl, refl)
     wait-read WholeLine now opened is (Pipe pipe) same = inr (names opened is (Pipe pipe) same refl, refl)
 
-    wait-write : (sending : Sending) (now : Kept) (opened : OpenPath) → open_path io caller.process.0 number ≡ Some opened → (target : Target) → opened.desc.target ≡ target → StepWaits (writes_target sending caller io now target)
+    wait-write : (sending : Sending) (now : Kept) (opened : OpenPath) → open_path io caller.process.0 number ≡ Some
+        opened → (target : Target) → opened.desc.target ≡ target → StepWaits (writes_target sending caller io now
+        target)
     wait-write sending now opened is (File drive sector) same = tt
     wait-write sending now opened is (Folder drive sector) same = tt
     wait-write sending now opened is (Term terminal) same = tt
@@ -136,7 +141,8 @@ module _ (device : IoCall) (number : ℕ) (caller : Caller) (io : Io) where
   wait-ready target true = tt
   wait-ready target false = inl refl
 
-  wait-status : (target : Target) (opt ready end : Bool) → StepWaits (if opt then gets_options caller io target else (if ready then gets_ready caller io target else (if end then gets_end caller io target else refused E_UNKSVC)))
+  wait-status : (target : Target) (opt ready end : Bool) → StepWaits (if opt then gets_options caller io target else
+      (if ready then gets_ready caller io target else (if end then gets_end caller io target else refused E_UNKSVC)))
   wait-status target true ready end = wait-options target (is_none (user_bytes caller.cells caller.regs.x OPTION_BYTES))
   wait-status target false true end = wait-ready target (ready_count io target == 0)
   wait-status target false false true = inl refl
@@ -148,12 +154,19 @@ module _ (caller : Caller) (io : Io) where
   wait-reads : (device : IoCall) → takes_number device ≡ true → (kind : ReadKind) (code : ℕ) → StepWaits device caller.regs.a caller io (reads_path kind code caller io)
   wait-reads device takes kind code =
       wait-refuses device caller.regs.a caller io (is_none (user_bytes caller.cells caller.regs.x caller.regs.y)) E_BPADDR _
-      (wait-path device caller.regs.a caller io can_read _ (λ opened is. wait-nothing device caller.regs.a caller io (caller.regs.y == 0) _ (wait-read device caller.regs.a caller io takes kind (call_now caller io code opened caller.regs.y) opened is opened.desc.target refl)))
+      (wait-path device caller.regs.a caller io can_read _ (λ opened is. wait-nothing device caller.regs.a caller io
+      (caller.regs.y == 0) _ (wait-read device caller.regs.a caller io takes kind (call_now caller io code opened
+      caller.regs.y) opened is opened.desc.target refl)))
 
-  wait-sends : (device : IoCall) → takes_number device ≡ true → (sending : List ℕ → Sending) (code : ℕ) (bytes : Option (List ℕ)) → StepWaits device caller.regs.a caller io (needs bytes E_BPADDR (λ bytes. on_path caller io caller.regs.a can_write (λ opened. unless_nothing caller io (sends_on (sending bytes) code caller io opened))))
+  wait-sends : (device : IoCall) → takes_number device ≡ true → (sending : List ℕ → Sending) (code : ℕ)
+      (bytes : Option (List ℕ)) → StepWaits device caller.regs.a caller io
+      (needs bytes E_BPADDR (λ bytes. on_path caller io caller.regs.a can_write (λ opened. unless_nothing caller io
+      (sends_on (sending bytes) code caller io opened))))
   wait-sends device takes sending code bytes =
       wait-needs device caller.regs.a caller io bytes E_BPADDR _ (λ bytes is.
-      wait-path device caller.regs.a caller io can_write _ (λ opened is. wait-nothing device caller.regs.a caller io (caller.regs.y == 0) _ (wait-write device caller.regs.a caller io takes (sending bytes) (call_now caller io code opened (length (sending bytes).bytes)) opened is opened.desc.target refl)))
+      wait-path device caller.regs.a caller io can_write _ (λ opened is. wait-nothing device caller.regs.a caller io
+      (caller.regs.y == 0) _ (wait-write device caller.regs.a caller io takes (sending bytes)
+      (call_now caller io code opened (length (sending bytes).bytes)) opened is opened.desc.target refl)))
 
   step-waits : (device : IoCall) (drives terms : ℕ) → StepWaits device (path_number device caller.regs) caller io (io_step device caller io drives terms)
   step-waits Call.Dup drives terms =
@@ -205,7 +218,9 @@ kept-put io p put kept is none =
       | inr past ↦ none-some kept (sym (get_or_past (with_call io p put).calls p None (rw length-set past)) ∙ is)
     ]
 
-device-waits : (call : PathCall) (device : IoCall) → device_call call ≡ Some device → (inner : Inner) (io new : Io) (drives p : ℕ) (result : CallResult) (before after : List TerminalState) → IoAttempts device inner io drives p result new before after → (kept : Kept) → kept_at new p ≡ Some kept → WaitsOnDevice call inner io p new
+device-waits : (call : PathCall) (device : IoCall) → device_call call ≡ Some device → (inner : Inner) (io new : Io)
+    (drives p : ℕ) (result : CallResult) (before after : List TerminalState) → IoAttempts device inner io drives p
+    result new before after → (kept : Kept) → kept_at new p ≡ Some kept → WaitsOnDevice call inner io p new
 device-waits call device device_is inner io new drives p result before after it kept is =
     by_effect (does-waits device (path_number device (regs_at inner p)) (caller_of inner p) io before after _ it.effect (step-waits (caller_of inner p) io device drives (length before)) it.does)
   where
@@ -223,7 +238,9 @@ device-waits call device device_is inner io new drives p result before after it 
     }
 
 -- a call on files that waits
-pub file-waits : (call : PathCall) (inner : Inner) (files : Files) (now : TimePacket) (p : ℕ) (result : CallResult) (new : Files) (before after : List TerminalState) → FileAttempts call inner files now p result new before after → (kept : Kept) → kept_at new.io p ≡ Some kept → WaitsOnDevice call inner files.io p new.io
+pub file-waits : (call : PathCall) (inner : Inner) (files : Files) (now : TimePacket) (p : ℕ) (result : CallResult)
+    (new : Files) (before after : List TerminalState) → FileAttempts call inner files now p result new before after
+    → (kept : Kept) → kept_at new.io p ≡ Some kept → WaitsOnDevice call inner files.io p new.io
 file-waits call inner files now p result new before after it kept is =
     by_case (attempt-comes call inner files now p result new before after it)
   where

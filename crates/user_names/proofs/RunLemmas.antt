@@ -13,7 +13,9 @@ IsReadTo cells at most count into =
 run_bytes-unnamed : (cells : ℕ → Option ℕ) (at most : ℕ) → user_cell cells at ≡ None → run_bytes cells at (suc most) ≡ None
 run_bytes-unnamed cells at most is = rw is refl
 
-run_bytes-named : (cells : ℕ → Option ℕ) (at most byte : ℕ) → user_cell cells at ≡ Some byte → run_bytes cells at (suc most) ≡ (if goes_on byte then option_map (λ run. byte ∷ run) (run_bytes cells (at + 1) most) else Some (byte ∷ []))
+run_bytes-named : (cells : ℕ → Option ℕ) (at most byte : ℕ) → user_cell cells at ≡ Some byte → run_bytes cells at
+    (suc most) ≡ (if goes_on byte then option_map (λ run. byte ∷ run) (run_bytes cells (at + 1) most) else Some
+    (byte ∷ []))
 run_bytes-named cells at most byte is = rw is refl
 
 longer : (front : List ℕ) (byte : ℕ) (rest : Option (List ℕ)) → option_map (λ run. front ++ run) (option_map (λ run. byte ∷ run) rest) ≡ option_map (λ run. (front ++ byte ∷ []) ++ run) rest
@@ -60,5 +62,6 @@ module _ (cells : ℕ → Option ℕ) (at most count : ℕ) (into : List ℕ) (l
     run-more test =
         let further : at + count + 1 ≡ at + (count + 1) = omega arith in
         let rest = run_bytes cells (at + (count + 1)) (most - (count + 1)) in
-        let here : run_bytes cells (at + count) (suc (most - (count + 1))) ≡ option_map (λ run. byte ∷ run) rest = run_bytes-named cells (at + count) (most - (count + 1)) byte is ∙ rw (test, further) refl in
+        let here : run_bytes cells (at + count) (suc (most - (count + 1))) ≡ option_map (λ run. byte ∷ run) rest =
+        run_bytes-named cells (at + count) (most - (count + 1)) byte is ∙ rw (test, further) refl in
         next ∙ ap (option_map (λ rest. take count into ++ rest)) here ∙ longer (take count into) byte rest ∙ ap (λ front. option_map (λ run. front ++ run) rest) (sym written)

@@ -136,7 +136,9 @@ module _ (vol : VolWords) (world : World) (format : vol.verb ≡ Format) where
 
   pub formatted : (result : Result Made End) → FormatsDisk vol result → MakesCall vol result world world
   formatted (Ok made) is = record {
-    makes = of-any world.files (λ files. MakesBy (vol_tool files vol) vol (file_contents files vol.image) made.answer.items made.image.items) (λ files. subst (λ tool. MakesBy tool vol (file_contents files vol.image) made.answer.items made.image.items) (sym (no-tool (file_contents files (file_of vol)))) is);
+    makes = of-any world.files (λ files. MakesBy (vol_tool files vol) vol (file_contents files vol.image)
+        made.answer.items made.image.items) (λ files. subst (λ tool. MakesBy tool vol (file_contents files vol.image)
+        made.answer.items made.image.items) (sym (no-tool (file_contents files (file_of vol)))) is);
     out = refl;
     files = refl;
     no_fault = (refl, refl, refl);
@@ -151,9 +153,13 @@ module _ (vol : VolWords) (read : VolFiles) (before : World) (devices : Outside)
   after = record before { devices = devices }
 
   -- what holds of the tool and of the image that were read holds of those of the files
-  of-read : (fact : Option Tool → List ℕ → Type 0) → fact (tool_of vol.verb (path_of vol) read.file.items) read.image.items → IfSome before.files (λ files. fact (vol_tool files vol) (file_contents files vol.image))
+  of-read : (fact : Option Tool → List ℕ → Type 0) → fact (tool_of vol.verb (path_of vol) read.file.items)
+      read.image.items → IfSome before.files (λ files. fact (vol_tool files vol) (file_contents files vol.image))
   of-read fact holds =
-      of-each before.files (λ files. HasVolFiles files vol read) (λ files. fact (vol_tool files vol) (file_contents files vol.image)) (λ files has. subst (λ tool. fact tool (file_contents files vol.image)) (tool-same vol.verb (path_of vol) read.file.items (file_contents files (file_of vol)) has.file) (subst (λ image. fact (tool_of vol.verb (path_of vol) read.file.items) image) has.image holds)) has
+      of-each before.files (λ files. HasVolFiles files vol read) (λ files. fact (vol_tool files vol)
+      (file_contents files vol.image)) (λ files has. subst (λ tool. fact tool (file_contents files vol.image))
+      (tool-same vol.verb (path_of vol) read.file.items (file_contents files (file_of vol)) has.file)
+      (subst (λ image. fact (tool_of vol.verb (path_of vol) read.file.items) image) has.image holds)) has
 
   quiet : NoneFailed (drive_states before.devices.drives) (drive_states devices.drives) → media_of devices.drives ≡ media_of before.devices.drives → LeavesQuiet before after
   quiet counts media = record { terminals = terms; none_failed = counts; media_kept = media }
@@ -229,7 +235,9 @@ module _ (vol : VolWords) (made : Made) (before mid after : World) (quiet : Make
       }
 
   -- the lines were printed, and the write began in this world
-  module _ (printed : World) (output : printed.out ≡ stream_with mid.out out) (sure : HasNoFault mid printed) (kept : printed.files ≡ mid.files) (same : printed.devices ≡ mid.devices) (last_out : after.out ≡ printed.out) (last_devices : after.devices ≡ printed.devices) where
+  module _ (printed : World) (output : printed.out ≡ stream_with mid.out out) (sure : HasNoFault mid printed)
+      (kept : printed.files ≡ mid.files) (same : printed.devices ≡ mid.devices) (last_out : after.out ≡ printed.out)
+      (last_devices : after.devices ≡ printed.devices) where
     whole : after.out ≡ stream_with before.out out
     whole = last_out ∙ output ∙ ap (λ stream. stream_with stream out) quiet.out
 
@@ -274,7 +282,9 @@ module _ (vol : VolWords) (made : Made) (before mid after : World) (quiet : Make
       files = changes-part part.part;
     }
     written-then NoMemory (done, part) = record {
-      comes = of-each before.files (λ files. MakesThen files vol (PrintsAndStops (vol_outputs vol) before after)) (λ files. VolComesTo files vol before after NoMemory) (λ files makes. inr (inr makes)) (comes-then (PrintsAndStops (vol_outputs vol) before after) (stops part.part));
+      comes = of-each before.files (λ files. MakesThen files vol (PrintsAndStops (vol_outputs vol) before after))
+          (λ files. VolComesTo files vol before after NoMemory) (λ files makes. inr (inr makes))
+          (comes-then (PrintsAndStops (vol_outputs vol) before after) (stops part.part));
       may = tt;
       devices = leaves;
       host = no-fault-then before printed after first done;
@@ -304,7 +314,9 @@ module _ (vol : VolWords) (made : Made) (before mid after : World) (quiet : Make
     files = ends.files ∙ quiet.files;
   }
   print-ended NoMemory ends = record {
-    comes = of-each before.files (λ files. MakesThen files vol (PrintsFirst before after)) (λ files. VolComesTo files vol before after NoMemory) (λ files makes. inr (inl makes)) (comes-then (PrintsFirst before after) (prints-first ends.prefix ends.some ends.files));
+    comes = of-each before.files (λ files. MakesThen files vol (PrintsFirst before after))
+        (λ files. VolComesTo files vol before after NoMemory) (λ files makes. inr (inl makes))
+        (comes-then (PrintsFirst before after) (prints-first ends.prefix ends.some ends.files));
     may = tt;
     devices = begun-lines ends.prefix ends.files ends.devices;
     host = no-fault-then before mid after quiet.no_fault ends.stopped;

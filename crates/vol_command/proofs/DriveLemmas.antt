@@ -80,7 +80,9 @@ left-behind drives mid empty same =
     (media-without drives mid empty same, record { as_many = length-map mid without_media ∙ same; empty = empty-without mid })
 
 -- the tool was done
-pub drives-done : {A : Type 0} (use_ : Use) (bytes : A → List ℕ) (a : A) (image : List ℕ) (drives mid : List DriveView) (made : Made) → HaveRoom 1 drives → ChangesOneDrive (UsesDrive use_ bytes (Ok a)) 0 (holding (image ∷ []) drives) mid → DrivesAfter (Ok made) drives (map without_media mid)
+pub drives-done : {A : Type 0} (use_ : Use) (bytes : A → List ℕ) (a : A) (image : List ℕ)
+    (drives mid : List DriveView) (made : Made) → HaveRoom 1 drives → ChangesOneDrive (UsesDrive use_ bytes (Ok a)) 0
+    (holding (image ∷ []) drives) mid → DrivesAfter (Ok made) drives (map without_media mid)
 drives-done use_ bytes a image [] mid made room changes = absurd (omega (arith, room.enough))
 drives-done use_ bytes a image (d ∷ ds) mid made room changes =
     let it = used-at use_ bytes (Ok a) image d ds mid changes in
@@ -88,13 +90,17 @@ drives-done use_ bytes a image (d ∷ ds) mid made room changes =
     record { fails = quiet use_ bytes (Ok a) image d ds mid it it.uses.counts; media_kept = left.0; empty = left.1 }
 
 -- or ended
-ended-fails : {A : Type 0} (use_ : Use) (bytes : A → List ℕ) (fault : ToolFault) (image : List ℕ) (d : DriveView) (ds mid : List DriveView) → UsedAt use_ bytes (Err fault) image d ds mid → DrivesFail {A = Made} (Err (fault_end fault)) (d ∷ ds) (map without_media mid)
+ended-fails : {A : Type 0} (use_ : Use) (bytes : A → List ℕ) (fault : ToolFault) (image : List ℕ) (d : DriveView)
+    (ds mid : List DriveView) → UsedAt use_ bytes (Err fault) image d ds mid → DrivesFail {A = Made}
+    (Err (fault_end fault)) (d ∷ ds) (map without_media mid)
 ended-fails use_ bytes (Number n) image d ds mid it = quiet use_ bytes (Err (Number n)) image d ds mid it it.uses.counts
 ended-fails use_ bytes OutOfMemory image d ds mid it = quiet use_ bytes (Err OutOfMemory) image d ds mid it it.uses.counts
 ended-fails use_ bytes (Device n) image d ds mid it =
     subst (λ states. OneFailed 0 n (drive_states (d ∷ ds)) states) (sym (counts-without mid ∙ ap drive_states it.is)) (has-failed d it.new ds n it.uses.counts)
 
-pub drives-ended : {A : Type 0} (use_ : Use) (bytes : A → List ℕ) (fault : ToolFault) (image : List ℕ) (drives mid : List DriveView) → HaveRoom 1 drives → ChangesOneDrive (UsesDrive use_ bytes (Err fault)) 0 (holding (image ∷ []) drives) mid → DrivesAfter {A = Made} (Err (fault_end fault)) drives (map without_media mid)
+pub drives-ended : {A : Type 0} (use_ : Use) (bytes : A → List ℕ) (fault : ToolFault) (image : List ℕ)
+    (drives mid : List DriveView) → HaveRoom 1 drives → ChangesOneDrive (UsesDrive use_ bytes (Err fault)) 0
+    (holding (image ∷ []) drives) mid → DrivesAfter {A = Made} (Err (fault_end fault)) drives (map without_media mid)
 drives-ended use_ bytes fault image [] mid room changes = absurd (omega (arith, room.enough))
 drives-ended use_ bytes fault image (d ∷ ds) mid room changes =
     let it = used-at use_ bytes (Err fault) image d ds mid changes in
@@ -112,7 +118,10 @@ module _ {A : Type 0} (tool : Tool) (vol : VolWords) (bytes : A → List ℕ) (i
   use-of = record { tool = tool; now = vol.start }
 
   -- the image was taken out again
-  taken : (v : DiskVolume) (a : A) (new : DriveView) (ds mid after : List DriveView) (images : List (List ℕ)) (left : List ℕ) → Vol image v → mid ≡ new ∷ ds → GivesOn use-of v (bytes a) new.media → OnMedia (KeepsTailBy tool) (Some image) new.media → OnMedia (KeepsOthersBy tool) (Some image) new.media → TakesImages images mid after → slice_get images 0 ≡ Some left → IsUsed tool vol image (bytes a) left
+  taken : (v : DiskVolume) (a : A) (new : DriveView) (ds mid after : List DriveView) (images : List (List ℕ))
+      (left : List ℕ) → Vol image v → mid ≡ new ∷ ds → GivesOn use-of v (bytes a) new.media
+      → OnMedia (KeepsTailBy tool) (Some image) new.media → OnMedia (KeepsOthersBy tool) (Some image) new.media
+      → TakesImages images mid after → slice_get images 0 ≡ Some left → IsUsed tool vol image (bytes a) left
   taken v a new ds mid after images left was is gives tail others takes at =
       let there : media_at mid 0 ≡ Some gives.on.image = ap (λ (drives : List DriveView). media_at drives 0) is ∙ gives.on.is in
       record {
@@ -125,13 +134,17 @@ module _ {A : Type 0} (tool : Tool) (vol : VolWords) (bytes : A → List ℕ) (i
         others = subst (KeepsOthersBy tool image) (sym (takes.each 0 left gives.on.image at there)) (others image gives.on.image refl gives.on.is);
       }
 
-  pub image-used : (a : A) (drives mid after : List DriveView) (images : List (List ℕ)) (left : List ℕ) → HaveRoom 1 drives → ChangesOneDrive (UsesDrive use-of bytes (Ok a)) 0 (holding (image ∷ []) drives) mid → TakesImages images mid after → slice_get images 0 ≡ Some left → IsUsed tool vol image (bytes a) left
+  pub image-used : (a : A) (drives mid after : List DriveView) (images : List (List ℕ)) (left : List ℕ)
+      → HaveRoom 1 drives → ChangesOneDrive (UsesDrive use-of bytes (Ok a)) 0 (holding (image ∷ []) drives) mid
+      → TakesImages images mid after → slice_get images 0 ≡ Some left → IsUsed tool vol image (bytes a) left
   image-used a [] mid after images left room changes takes at = absurd (omega (arith, room.enough))
   image-used a (d ∷ ds) mid after images left room changes takes at =
       let it = used-at use-of bytes (Ok a) image d ds mid changes in
       taken volume.0 a it.new ds mid after images left volume.1 it.is (it.uses.answers volume.0 (record { image = image; is = refl; vol = volume.1 })) it.uses.tail it.uses.others takes at
 
-  pub tool-ended : (fault : ToolFault) (drives mid : List DriveView) → HaveRoom 1 drives → ChangesOneDrive (UsesDrive {A = A} use-of bytes (Err fault)) 0 (holding (image ∷ []) drives) mid → UsesImage tool vol image (Err (fault_end fault))
+  pub tool-ended : (fault : ToolFault) (drives mid : List DriveView) → HaveRoom 1 drives
+      → ChangesOneDrive (UsesDrive {A = A} use-of bytes (Err fault)) 0 (holding (image ∷ []) drives) mid
+      → UsesImage tool vol image (Err (fault_end fault))
   tool-ended fault [] mid room changes = absurd (omega (arith, room.enough))
   tool-ended (Device n) (d ∷ ds) mid room changes = refl
   tool-ended OutOfMemory (d ∷ ds) mid room changes = tt

@@ -54,18 +54,64 @@ module _ (vol : VolWords) (first mid : Notes) (read : HasRead (vol_inputs vol) f
   notes-made image bytes (Err (BadImage number fault)) is = record { read = vol_inputs vol; reads = refl; written = []; writes = refl; noted = none-behind (vol_inputs vol) first mid read }
   notes-made image bytes (Err (Refused number)) is = record { read = vol_inputs vol; reads = refl; written = []; writes = refl; noted = none-behind (vol_inputs vol) first mid read }
   notes-made image bytes (Err (DriveFailed drive number)) is = record { read = vol_inputs vol; reads = refl; written = []; writes = refl; noted = none-behind (vol_inputs vol) first mid read }
-  notes-made image bytes (Err NoMemory) is = record { read = vol_inputs vol; reads = ([], sym (append-nil (vol_inputs vol))); written = []; writes = (vol_outputs vol, refl); noted = none-behind (vol_inputs vol) first mid read }
+  notes-made image bytes (Err NoMemory) is = record {
+    read = vol_inputs vol;
+    reads =
+        ([], sym (append-nil (vol_inputs vol)));
+    written = [];
+    writes = (vol_outputs vol, refl);
+    noted = none-behind
+        (vol_inputs vol) first mid read;
+  }
   notes-made image bytes (Err end) is = absurd is
 
   -- or its file was written
   written-behind : (next : Notes) (outputs : List (List ℕ)) → HasWritten outputs mid next → next ≡ having_written outputs (having_read (vol_inputs vol) first)
   written-behind next outputs noted = noted.is ∙ ap (λ (notes : Notes). having_written outputs notes) read.is
 
-  pub notes-finished : (end : End) (answer image : List ℕ) (before after : World) (next : Notes) → Finishes vol answer image end before after → NotesOutputs vol end mid next → NotesVol vol end first next
-  notes-finished Ended answer image before after next done outputs = record { read = vol_inputs vol; reads = refl; written = outputs.written; writes = outputs.writes; noted = written-behind next outputs.written outputs.noted }
-  notes-finished CannotWrite answer image before after next done outputs = record { read = vol_inputs vol; reads = refl; written = outputs.written; writes = outputs.writes; noted = written-behind next outputs.written outputs.noted }
-  notes-finished (CannotWriteImage number) answer image before after next done outputs = record { read = vol_inputs vol; reads = refl; written = outputs.written; writes = outputs.writes; noted = written-behind next outputs.written outputs.noted }
-  notes-finished CannotWriteFile answer image before after next done outputs = record { read = vol_inputs vol; reads = refl; written = outputs.written; writes = outputs.writes; noted = written-behind next outputs.written outputs.noted }
-  notes-finished NoMemory answer image before after next done outputs = record { read = vol_inputs vol; reads = ([], sym (append-nil (vol_inputs vol))); written = outputs.written; writes = outputs.writes; noted = written-behind next outputs.written outputs.noted }
+  pub notes-finished : (end : End) (answer image : List ℕ) (before after : World) (next : Notes) → Finishes vol answer
+      image end before after → NotesOutputs vol end mid next → NotesVol vol end first next
+  notes-finished Ended answer image before after next done outputs = record {
+    read = vol_inputs vol;
+    reads = refl;
+    written = outputs.written;
+    writes = outputs.writes;
+    noted = written-behind next outputs.written outputs.noted;
+  }
+  notes-finished CannotWrite answer image before after next done outputs = record {
+    read = vol_inputs vol;
+    reads =
+        refl;
+    written = outputs.written;
+    writes = outputs.writes;
+    noted = written-behind next outputs.written
+        outputs.noted;
+  }
+  notes-finished (CannotWriteImage number) answer image before after next done outputs = record {
+    read = vol_inputs vol;
+    reads = refl;
+    written = outputs.written;
+    writes = outputs.writes;
+    noted =
+        written-behind next outputs.written outputs.noted;
+  }
+  notes-finished CannotWriteFile answer image before after next done outputs = record {
+    read = vol_inputs vol;
+    reads =
+        refl;
+    written = outputs.written;
+    writes = outputs.writes;
+    noted = written-behind next outputs.written
+        outputs.noted;
+  }
+  notes-finished NoMemory answer image before after next done outputs = record {
+    read = vol_inputs vol;
+    reads =
+        ([], sym (append-nil (vol_inputs vol)));
+    written = outputs.written;
+    writes = outputs.writes;
+    noted =
+        written-behind next outputs.written outputs.noted;
+  }
   notes-finished end answer image before after next (inl then_) outputs = absurd then_.writes.ends
   notes-finished end answer image before after next (inr ends) outputs = absurd ends.stopped

@@ -62,11 +62,15 @@ get-outputs vol name is get =
 -- ---- a file that is written
 
 -- names and bytes that are those of one file
-all-of : (names written : List (List ℕ)) (name bytes : List ℕ) (before after : Option Files) → names ≡ name ∷ [] → written ≡ bytes ∷ [] → IfObserved (WritesAll (name ∷ []) (bytes ∷ [])) before after → IfObserved (WritesAll names written) before after
+all-of : (names written : List (List ℕ)) (name bytes : List ℕ) (before after : Option Files) → names ≡ name ∷ []
+    → written ≡ bytes ∷ [] → IfObserved (WritesAll (name ∷ []) (bytes ∷ [])) before after
+    → IfObserved (WritesAll names written) before after
 all-of names written name bytes before after is are wrote =
     subst (λ names. IfObserved (WritesAll names written) before after) (sym is) (subst (λ written. IfObserved (WritesAll (name ∷ []) written) before after) (sym are) wrote)
 
-part-of : (names written : List (List ℕ)) (name bytes : List ℕ) (before after : Option Files) → names ≡ name ∷ [] → written ≡ bytes ∷ [] → IfObserved (WritesUpTo 0 (name ∷ []) (bytes ∷ [])) before after → IfObserved (WritesUpTo 0 names written) before after
+part-of : (names written : List (List ℕ)) (name bytes : List ℕ) (before after : Option Files) → names ≡ name ∷ []
+    → written ≡ bytes ∷ [] → IfObserved (WritesUpTo 0 (name ∷ []) (bytes ∷ [])) before after
+    → IfObserved (WritesUpTo 0 names written) before after
 part-of names written name bytes before after is are wrote =
     subst (λ names. IfObserved (WritesUpTo 0 names written) before after) (sym is) (subst (λ written. IfObserved (WritesUpTo 0 (name ∷ []) written) before after) (sym are) wrote)
 
@@ -84,7 +88,14 @@ module _ (vol : VolWords) (name answer image : List ℕ) (before after : World) 
 
   pub answer-failed : WritesOutput {Value = Unit {0}} name answer (Err Failed) before after → WritesMade vol answer image CannotWriteFile before after
   answer-failed wrote = record {
-    ends = (get, (name, named, wrote.failed), record { part = part-of (vol_outputs vol) (written_of vol.verb answer image) name answer before.files after.files (get-outputs vol name named get) answer-is wrote.part });
+    ends = (
+      get,
+      (name, named, wrote.failed),
+      record {
+        part = part-of (vol_outputs vol) (written_of vol.verb answer
+            image) name answer before.files after.files (get-outputs vol name named get) answer-is wrote.part;
+      },
+    );
     out = wrote.out;
     devices = wrote.devices;
   }
@@ -100,21 +111,41 @@ module _ (vol : VolWords) (name answer image : List ℕ) (before after : World) 
 module _ (vol : VolWords) (answer image : List ℕ) (before after : World) (writes : WritesImage vol.verb) where
   pub image-wrote : (value : Unit {0}) → WritesOutput {Value = Unit {0}} vol.image image (Ok value) before after → WritesMade vol answer image Ended before after
   image-wrote value wrote = record {
-    ends = (wrote.no_fault, all-of (vol_outputs vol) (written_of vol.verb answer image) vol.image image before.files after.files (image-outputs vol.verb vol writes) (image-written vol.verb answer image writes) wrote.written);
+    ends = (
+      wrote.no_fault,
+      all-of (vol_outputs vol) (written_of vol.verb answer image) vol.image image before.files
+          after.files (image-outputs vol.verb vol writes) (image-written vol.verb answer image writes) wrote.written,
+    );
     out = wrote.out;
     devices = wrote.devices;
   }
 
   pub image-failed : WritesOutput {Value = Unit {0}} vol.image image (Err Failed) before after → WritesMade vol answer image (CannotWriteImage 0) before after
   image-failed wrote = record {
-    ends = (refl, writes, wrote.failed, record { part = part-of (vol_outputs vol) (written_of vol.verb answer image) vol.image image before.files after.files (image-outputs vol.verb vol writes) (image-written vol.verb answer image writes) wrote.part });
+    ends = (
+      refl,
+      writes,
+      wrote.failed,
+      record {
+        part = part-of (vol_outputs vol) (written_of vol.verb answer image)
+            vol.image image before.files after.files (image-outputs vol.verb vol writes) (image-written vol.verb answer
+            image writes) wrote.part;
+      },
+    );
     out = wrote.out;
     devices = wrote.devices;
   }
 
   pub image-wanting : WritesOutput {Value = Unit {0}} vol.image image (Err OutOfMemory) before after → WritesMade vol answer image NoMemory before after
   image-wanting wrote = record {
-    ends = (wrote.no_fault, record { part = part-of (vol_outputs vol) (written_of vol.verb answer image) vol.image image before.files after.files (image-outputs vol.verb vol writes) (image-written vol.verb answer image writes) wrote.part });
+    ends = (
+      wrote.no_fault,
+      record {
+        part = part-of (vol_outputs vol) (written_of vol.verb answer image) vol.image
+            image before.files after.files (image-outputs vol.verb vol writes) (image-written vol.verb answer image
+            writes) wrote.part;
+      },
+    );
     out = wrote.out;
     devices = wrote.devices;
   }
@@ -164,7 +195,9 @@ outputs-image vol writes = image-outputs vol.verb vol writes
 -- ---- the whole
 
 -- the lines were printed, and then its file was written
-pub prints-then : (vol : VolWords) (bytes answer image : List ℕ) (end : End) (before mid after : World) (value : Unit {0}) → bytes ≡ printed_of vol.verb answer → Prints {Value = Unit {0}} bytes (Ok value) before mid → WritesMade vol answer image end mid after → Finishes vol answer image end before after
+pub prints-then : (vol : VolWords) (bytes answer image : List ℕ) (end : End) (before mid after : World)
+    (value : Unit {0}) → bytes ≡ printed_of vol.verb answer → Prints {Value = Unit {0}} bytes (Ok value) before mid
+    → WritesMade vol answer image end mid after → Finishes vol answer image end before after
 prints-then vol bytes answer image end before mid after value is printed writes = inl (record {
   mid = mid;
   output = subst (λ bytes. mid.out ≡ stream_with before.out bytes) is printed.whole;
@@ -175,7 +208,9 @@ prints-then vol bytes answer image end before mid after value is printed writes 
 })
 
 -- or the print ended it
-pub print-ends : (vol : VolWords) (bytes answer image : List ℕ) (end : End) (before after : World) → bytes ≡ printed_of vol.verb answer → Prints {Value = Unit {0}} bytes (Err end) before after → Finishes vol answer image end before after
+pub print-ends : (vol : VolWords) (bytes answer image : List ℕ) (end : End) (before after : World)
+    → bytes ≡ printed_of vol.verb answer → Prints {Value = Unit {0}} bytes (Err end) before after
+    → Finishes vol answer image end before after
 print-ends vol bytes answer image end before after is printed = inr (record {
   prefix = subst (λ bytes. GainsPrefix before.out bytes after.out) is printed.prefix;
   some = subst (λ bytes. bytes ≢ []) is printed.some;

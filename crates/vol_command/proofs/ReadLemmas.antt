@@ -51,7 +51,10 @@ image-stops name verb before after (CannotRead input) apart (other, named, could
 image-stops name verb before after NoMemory apart stops = tt
 image-stops name verb before after end apart stops = absurd stops
 
-pub image-may : {Value : Type 0} (answer : Result Value End) (name : List ℕ) (verb : Verb) (before after : Outside → World) → verb ≢ Format → IfErr answer (λ end. (devices : Outside) (name_of : Input → Option (List ℕ)) → name_of (Image 0) ≡ Some name → StopsAtRead name_of (before devices) (after devices) end) → IfErr answer (VolMayEnd verb)
+pub image-may : {Value : Type 0} (answer : Result Value End) (name : List ℕ) (verb : Verb) (before after : Outside
+    → World) → verb ≢ Format → IfErr answer (λ end. (devices : Outside) (name_of : Input → Option (List ℕ))
+    → name_of (Image 0) ≡ Some name → StopsAtRead name_of (before devices) (after devices) end)
+    → IfErr answer (VolMayEnd verb)
 image-may (Ok value) name verb before after apart ended = tt
 image-may (Err end) name verb before after apart ended =
     let none : Outside = record { drives = []; terms = [] } in
@@ -63,7 +66,10 @@ file-stops name before after (CannotRead input) (other, named, could) = file-onl
 file-stops name before after NoMemory stops = tt
 file-stops name before after end stops = absurd stops
 
-pub file-may : {Value : Type 0} (answer : Result Value End) (name : List ℕ) (verb : Verb) (before after : Outside → World) → verb ≡ Put → IfErr answer (λ end. (devices : Outside) (name_of : Input → Option (List ℕ)) → name_of File ≡ Some name → StopsAtRead name_of (before devices) (after devices) end) → IfErr answer (VolMayEnd verb)
+pub file-may : {Value : Type 0} (answer : Result Value End) (name : List ℕ) (verb : Verb) (before after : Outside
+    → World) → verb ≡ Put → IfErr answer (λ end. (devices : Outside) (name_of : Input → Option (List ℕ))
+    → name_of File ≡ Some name → StopsAtRead name_of (before devices) (after devices) end)
+    → IfErr answer (VolMayEnd verb)
 file-may (Ok value) name verb before after put ended = tt
 file-may (Err end) name verb before after put ended =
     let none : Outside = record { drives = []; terms = [] } in
@@ -106,7 +112,9 @@ inputs-are Repair vol other = refl
 
 -- ---- both were read
 
-pub has-both : (vol : VolWords) (read : VolFiles) (told : Option Files) → IfSome told (λ files. read.image.items ≡ file_contents files vol.image) → IfSome told (λ files. vol.verb ≡ Put → read.file.items ≡ file_contents files (file_of vol)) → IfSome told (λ files. HasVolFiles files vol read)
+pub has-both : (vol : VolWords) (read : VolFiles) (told : Option Files)
+    → IfSome told (λ files. read.image.items ≡ file_contents files vol.image) → IfSome told (λ files. vol.verb ≡ Put
+    → read.file.items ≡ file_contents files (file_of vol)) → IfSome told (λ files. HasVolFiles files vol read)
 has-both vol read None image file = tt
 has-both vol read (Some files) image file = record { image = image; file = file }
 
@@ -124,7 +132,10 @@ module _ {Value : Type 0} (names : List (List ℕ)) (name : List ℕ) (only : na
       subst (λ names. NotesStop name_of names end first next) (sym only) (stopped name_of named)
 
 -- FILE of `put` was read
-pub put-contents : (vol : VolWords) (name : List ℕ) → slice_get vol.rest 1 ≡ Some name → (told : Option Files) (answer : Result (Vec ℕ Global) End) → IfOk answer (λ bytes. IfSome told (λ files. bytes.items ≡ file_contents files name)) → IfOk answer (λ bytes. IfSome told (λ files. vol.verb ≡ Put → bytes.items ≡ file_contents files (file_of vol)))
+pub put-contents : (vol : VolWords) (name : List ℕ) → slice_get vol.rest 1 ≡ Some name → (told : Option Files)
+    (answer : Result (Vec ℕ Global) End)
+    → IfOk answer (λ bytes. IfSome told (λ files. bytes.items ≡ file_contents files name))
+    → IfOk answer (λ bytes. IfSome told (λ files. vol.verb ≡ Put → bytes.items ≡ file_contents files (file_of vol)))
 put-contents vol name is told (Err end) contents = tt
 put-contents vol name is None (Ok bytes) contents = tt
 put-contents vol name is (Some files) (Ok bytes) contents = λ put. contents ∙ ap (λ name. file_contents files name) (sym (file-is vol name is))

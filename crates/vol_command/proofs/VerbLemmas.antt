@@ -105,7 +105,13 @@ module _ (vol : VolWords) (image bytes : List ℕ) (no_disk : vol.verb ≢ Forma
 -- the lost clusters were freed
 pub repaired-of : (vol : VolWords) (image bytes : List ℕ) → vol.verb ≡ Repair → (result : Result Made End) → RepairsImage image result → MakesOf vol image bytes result
 repaired-of vol image bytes verb (Ok made) is =
-    subst (λ tool. MakesBy tool vol image made.answer.items made.image.items) (sym (ap (λ verb. tool_of verb (path_of vol) bytes) verb)) (record { used = is.used vol; bits = subst (λ verb. ChangesBits verb image made.image.items) (sym verb) is.bits })
+    subst (λ tool. MakesBy tool vol image made.answer.items made.image.items)
+    (sym (ap (λ verb. tool_of verb (path_of vol) bytes) verb))
+    (record {
+      used = is.used vol;
+      bits = subst (λ verb. ChangesBits verb image made.image.items) (sym verb)
+          is.bits;
+    })
 repaired-of vol image bytes verb (Err (BadImage number fault)) is =
     record { reads = subst (λ verb. ReadsInput verb (Image number)) (sym verb) is.0; is = is.1 }
 repaired-of vol image bytes verb (Err NoMemory) is = tt

@@ -9,19 +9,25 @@ use Rattle.vol_tools.specs.declared.fault.ToolFault.{ToolFault}
 use Rattle.vol_tools.specs.declared.fault.ToolFault.TheVariants.{Number, Device, OutOfMemory}
 use Rattle.vol_tools.specs.Uses.{AnswersNoBytes}
 
-fault-so : (A B : Type 0) (bytes : B → List ℕ) (use_ : Use) (v : DiskVolume) (old new : Option (List ℕ)) (fault : ToolFault) → AnswersTool {A = A} use_ (λ _. []) v old new (Err fault) → AnswersTool {A = B} use_ bytes v old new (Err fault)
+fault-so : (A B : Type 0) (bytes : B → List ℕ) (use_ : Use) (v : DiskVolume) (old new : Option (List ℕ))
+    (fault : ToolFault) → AnswersTool {A = A} use_ (λ _. []) v old new (Err fault) → AnswersTool {A = B} use_ bytes v
+    old new (Err fault)
 fault-so A B bytes use_ v old new (Number n) answers = answers
 fault-so A B bytes use_ v old new (Device n) answers = answers
 fault-so A B bytes use_ v old new OutOfMemory answers = answers
 
-answers-so : (A B : Type 0) (bytes : B → List ℕ) (use_ : Use) (v : DiskVolume) (old new : Option (List ℕ)) (done : Result A ToolFault) (answer : Result B ToolFault) → AnswersNoBytes bytes done answer → AnswersTool use_ (λ _. []) v old new done → AnswersTool use_ bytes v old new answer
+answers-so : (A B : Type 0) (bytes : B → List ℕ) (use_ : Use) (v : DiskVolume) (old new : Option (List ℕ))
+    (done : Result A ToolFault) (answer : Result B ToolFault) → AnswersNoBytes bytes done answer
+    → AnswersTool use_ (λ _. []) v old new done → AnswersTool use_ bytes v old new answer
 answers-so A B bytes use_ v old new (Ok value) (Ok answer) same answers = subst (λ bytes. GivesOn use_ v bytes new) (sym same) answers
 answers-so A B bytes use_ v old new (Ok value) (Err fault) same answers = absurd same
 answers-so A B bytes use_ v old new (Err fault) (Ok answer) same answers = absurd same
 answers-so A B bytes use_ v old new (Err fault) (Err other) same answers =
     subst (λ fault. AnswersTool {A = B} use_ bytes v old new (Err fault)) (sym same) (fault-so A B bytes use_ v old new fault answers)
 
-pub on-volume-so : (A B : Type 0) (bytes : B → List ℕ) (use_ : Use) (old new : Option (List ℕ)) (done : Result A ToolFault) (answer : Result B ToolFault) → AnswersNoBytes bytes done answer → OnVolumeBefore use_ (λ _. []) old new done → OnVolumeBefore use_ bytes old new answer
+pub on-volume-so : (A B : Type 0) (bytes : B → List ℕ) (use_ : Use) (old new : Option (List ℕ))
+    (done : Result A ToolFault) (answer : Result B ToolFault) → AnswersNoBytes bytes done answer → OnVolumeBefore use_
+    (λ _. []) old new done → OnVolumeBefore use_ bytes old new answer
 on-volume-so A B bytes use_ old new done answer same answers = λ v on. answers-so A B bytes use_ v old new done answer same (answers v on)
 
 -- what holds if it is done
@@ -44,7 +50,9 @@ same-fault A B (Number n) = refl
 same-fault A B (Device n) = refl
 same-fault A B OutOfMemory = refl
 
-pub faults-so : (A B : Type 0) (bytes : B → List ℕ) (done : Result A ToolFault) (answer : Result B ToolFault) → AnswersNoBytes bytes done answer → (s t : DriveCounts) → MovesFaults (tool_fault done) s t → MovesFaults (tool_fault answer) s t
+pub faults-so : (A B : Type 0) (bytes : B → List ℕ) (done : Result A ToolFault) (answer : Result B ToolFault)
+    → AnswersNoBytes bytes done answer → (s t : DriveCounts) → MovesFaults (tool_fault done) s t
+    → MovesFaults (tool_fault answer) s t
 faults-so A B bytes (Ok value) (Ok answer) same s t moves = moves
 faults-so A B bytes (Ok value) (Err fault) same s t moves = absurd same
 faults-so A B bytes (Err fault) (Ok answer) same s t moves = absurd same

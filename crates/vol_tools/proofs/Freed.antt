@@ -41,7 +41,8 @@ lost_has image v vol c =
     (λ yes.
     let g = image_geometry image in
     let is = (vol.sound.mapped.lost_are c).0 yes in
-    let low : c < cluster_count (image_geometry image) = within_count c (image_geometry image).cluster (image_geometry image).total (cluster_positive (image_geometry image).cluster vol.sound.shape.header.clusters)
+    let low : c < cluster_count (image_geometry image) = within_count c (image_geometry image).cluster
+    (image_geometry image).total (cluster_positive (image_geometry image).cluster vol.sound.shape.header.clusters)
     (leb-true ((c + 1) * (image_geometry image).cluster) (image_geometry image).total is.whole) in
     yes ∙ sym (has_filter v.lost 0 (cluster_count (image_geometry image)) c yes (omega arith) (omega arith)))
     (λ no.

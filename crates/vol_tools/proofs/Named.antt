@@ -17,14 +17,16 @@ pub bad_part : (parts : List (Bor (List ℕ))) (i : ℕ) (d : Bor (List ℕ)) �
 bad_part parts i d low bad =
     sym (cond-false (list_all is_name_text (texts parts)) (Some (texts parts)) None (list_all-map is_name_text (λ (part : Bor (List ℕ)). part.now) parts ∙ list_all_at named parts i d low bad))
 
-pub names_more : (parts : List (Bor (List ℕ))) (i : ℕ) (d : Bor (List ℕ)) (names : List (List ℕ)) (name : List ℕ) → i < length parts → names ≡ texts (take i parts) → IsNameOf (get_or parts i d).now name
+pub names_more : (parts : List (Bor (List ℕ))) (i : ℕ) (d : Bor (List ℕ)) (names : List (List ℕ)) (name : List ℕ)
+    → i < length parts → names ≡ texts (take i parts) → IsNameOf (get_or parts i d).now name
     → names ++ name ∷ [] ≡ texts (take (i + 1) parts)
 names_more parts i d names name low are is =
     ap (λ ns. ns ++ name ∷ []) are ∙ ap (λ n. texts (take i parts) ++ n ∷ []) is.is
     ∙ sym (map-append (λ (part : Bor (List ℕ)). part.now) (take i parts) (get_or parts i d ∷ []))
     ∙ sym (ap texts (take_more parts i d low))
 
-pub named_more : (parts : List (Bor (List ℕ))) (i : ℕ) (d : Bor (List ℕ)) (name : List ℕ) → i < length parts → list_all is_name_text (texts (take i parts)) ≡ true → IsNameOf (get_or parts i d).now name
+pub named_more : (parts : List (Bor (List ℕ))) (i : ℕ) (d : Bor (List ℕ)) (name : List ℕ) → i < length parts
+    → list_all is_name_text (texts (take i parts)) ≡ true → IsNameOf (get_or parts i d).now name
     → list_all is_name_text (texts (take (i + 1) parts)) ≡ true
 named_more parts i d name low before is =
     list_all-map is_name_text (λ (part : Bor (List ℕ)). part.now) (take (i + 1) parts)

@@ -101,7 +101,8 @@ error_bytes A B are other (Device n) h = tt
 error_bytes A B are other OutOfMemory h = tt
 
 -- a tool that only reads is refused
-pub refused_reading : (use_ : Use) (v : DiskVolume) (old : Option (List ℕ)) → Represents old v → (new : Option (List ℕ)) (n : ℕ) → new ≡ old → refused_number v use_.tool ≡ Some n → RefusesOn use_ v n old new
+pub refused_reading : (use_ : Use) (v : DiskVolume) (old : Option (List ℕ)) → Represents old v
+    → (new : Option (List ℕ)) (n : ℕ) → new ≡ old → refused_number v use_.tool ≡ Some n → RefusesOn use_ v n old new
 refused_reading use_ v old on new n same h = record { volume = v; on = still old new v same on; refuses = inl (h, refl); kept = λ _. same }
 
 -- names that are the same open the same

@@ -138,7 +138,8 @@ module _ (path : List ℕ) (v : DiskVolume) (old new : Option (List ℕ)) (on : 
 
     directory_there : it.after.files e.directory ≡ Some both.new
     directory_there =
-        ap (λ (w : DiskVolume). w.files e.directory) it.enters.volume ∙ cond-false (e.directory == n) (Some both.file) (put_file v.files e.directory (Some both.new) e.directory) (ne_eqb e.directory n apart)
+        ap (λ (w : DiskVolume). w.files e.directory) it.enters.volume ∙ cond-false (e.directory == n) (Some both.file)
+        (put_file v.files e.directory (Some both.new) e.directory) (ne_eqb e.directory n apart)
         ∙ cond-true (e.directory == e.directory) (Some both.new) (v.files e.directory) (eq-eqb e.directory e.directory refl)
 
     abbrev place-then : ℕ
@@ -228,7 +229,8 @@ module _ (path : List ℕ) (v : DiskVolume) (old new : Option (List ℕ)) (on : 
 
     descriptor-same : sector deleted.now d ≡ sector deleted.image d
     descriptor-same =
-        deleted.writes.others d (not-placed (sectors_of dir.segments) (at / 8) d no-sector (λ zero. let low = past-map in absurd (omega arith))) (λ map. let low = past-map in let high = map.within in absurd (omega arith))
+        deleted.writes.others d (not-placed (sectors_of dir.segments) (at / 8) d no-sector (λ zero. let low = past-map
+        in absurd (omega arith))) (λ map. let low = past-map in let high = map.within in absurd (omega arith))
 
     pub deleted-others : OnMedia (KeepsOthers path) old new
     deleted-others =
@@ -245,7 +247,10 @@ module _ (path : List ℕ) (v : DiskVolume) (old new : Option (List ℕ)) (on : 
         })
 
 -- bytes that are written to the file that is new
-module _ (path : List ℕ) (write : Laying) (mid new : Option (List ℕ)) (image inner now : List ℕ) (between : mid ≡ Some inner) (is : new ≡ Some now) (first : KeepsOthers path image inner) (kept : sector inner 0 ≡ sector image 0) (gone : first.before.files write.number ≡ None) (file : DiskFile) (it : IsWritten first.after file write mid new) where
+module _ (path : List ℕ) (write : Laying) (mid new : Option (List ℕ)) (image inner now : List ℕ)
+    (between : mid ≡ Some inner) (is : new ≡ Some now) (first : KeepsOthers path image inner)
+    (kept : sector inner 0 ≡ sector image 0) (gone : first.before.files write.number ≡ None) (file : DiskFile)
+    (it : IsWritten first.after file write mid new) where
   abbrev n : ℕ
   n = write.number
 

@@ -8,7 +8,8 @@ use Rattle.vol_tools.specs.Clearing.{ClearsBits, IsCleared}
 use Rattle.vol_tools.specs.Repair.{IsRepaired}
 use Rattle.vol_tools.specs.declared.image.Repaired.{Repaired}
 
-pub repaired_of : (old seen lost passed : List ℕ) (outcome : Repaired) → seen ≡ old → IsLostOf seen lost → passed ≡ lost → IsCleared old passed outcome.image.items → outcome.freed ≡ length lost → IsRepaired old outcome
+pub repaired_of : (old seen lost passed : List ℕ) (outcome : Repaired) → seen ≡ old → IsLostOf seen lost
+    → passed ≡ lost → IsCleared old passed outcome.image.items → outcome.freed ≡ length lost → IsRepaired old outcome
 repaired_of old seen lost passed outcome same is also cleared many =
     let l = subst (λ i. IsLostOf i lost) same is in
     let shape = ap geometry l.represents.sound.shows.ident in

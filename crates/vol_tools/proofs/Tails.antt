@@ -130,7 +130,9 @@ module _ (image now : List ℕ) (v w : DiskVolume) (vol : Vol image v) (left : V
         }
 
     -- a mark that is cleared if the file had the cluster
-    unused_bit : (c : ℕ) → is_marked (sector now) c ≡ (is_marked (sector image) c && not (has_cluster (shape v) n f c)) → (is_marked (sector now) c ≡ is_marked (sector image) c) ⊎ IsGivenUp image now c
+    unused_bit : (c : ℕ) → is_marked (sector now) c ≡ (is_marked (sector image) c && not
+        (has_cluster (shape v) n f c)) → (is_marked (sector now) c ≡ is_marked (sector image) c) ⊎ IsGivenUp image now
+        c
     unused_bit c is =
         ⊎_elim
         (λ has. inr (given_up c has (is ∙ ap (λ b. is_marked (sector image) c && not b) has ∙ and_false (is_marked (sector image) c))))
@@ -192,7 +194,9 @@ module _ (v : DiskVolume) (old new : Option (List ℕ)) (on : Represents old v) 
   deleted-tail d name by =
       let it = by.is in
       tail_of KeepsTailUnused old new it.image it.now it.was it.is
-      (file_given it.image it.now v it.after (vol_of old v on it.image it.was) it.vol (ap (λ (w : DiskVolume). w.ident) it.deletes.drops.volume) by.number it.file it.there (has_gone v it.after d by.number name it.deletes) it.end)
+      (file_given it.image it.now v it.after (vol_of old v on it.image it.was) it.vol
+      (ap (λ (w : DiskVolume). w.ident) it.deletes.drops.volume) by.number it.file it.there
+      (has_gone v it.after d by.number name it.deletes) it.end)
 
   pub stopped-tail : (d : ℕ) (name : List ℕ) (user : ℕ) (execute : Bool) → DeletionStops v d name user execute old new → OnMedia KeepsTailUnused old new
   stopped-tail d name user execute (as_before same) = unused_kept old new same
@@ -200,4 +204,6 @@ module _ (v : DiskVolume) (old new : Option (List ℕ)) (on : Represents old v) 
       let h = it.half in
       tail_of KeepsTailUnused old new h.image h.now h.was h.is
       (file_may h.image h.now v h.left (vol_of old v on h.image h.was) h.vol
-      (ap (λ (w : DiskVolume). w.ident) h.lose.same ∙ ap (λ (w : DiskVolume). w.ident) h.deletes.drops.volume) n h.file h.there (ap (λ (w : DiskVolume). w.files n) h.lose.same ∙ has_gone v h.after d n name h.deletes) h.end)
+      (ap (λ (w : DiskVolume). w.ident) h.lose.same ∙ ap (λ (w : DiskVolume). w.ident) h.deletes.drops.volume) n
+      h.file h.there (ap (λ (w : DiskVolume). w.files n) h.lose.same ∙ has_gone v h.after d n name h.deletes)
+      h.end)

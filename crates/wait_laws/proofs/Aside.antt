@@ -85,7 +85,9 @@ pub record IoAside (records : List (Option Record)) (terms p : ℕ) (old new : I
   pub on : AreOnTerminals terms old.paths → AreOnTerminals terms new.paths
 
 -- by what an attempt leaves
-pub leaves-aside : (records : List (Option Record)) (terms p : ℕ) (old new : Io) → LeavesPaths p old new → length new.calls ≡ length old.calls → (AreOnTerminals terms old.paths → AreOnTerminals terms new.paths) → IoAside records terms p old new
+pub leaves-aside : (records : List (Option Record)) (terms p : ℕ) (old new : Io) → LeavesPaths p old new
+    → length new.calls ≡ length old.calls → (AreOnTerminals terms old.paths → AreOnTerminals terms new.paths)
+    → IoAside records terms p old new
 leaves-aside records terms p old new it places on = record {
   numbers = λ q differ lives. it.numbers q differ;
   paths = λ q n opened differ lives is. (opened, it.paths q n opened differ is, refl);
@@ -95,19 +97,28 @@ leaves-aside records terms p old new it places on = record {
 }
 
 -- a path that may be read may be read then
-mode-so : (old new : Io) (q n : ℕ) → ((opened : OpenPath) → open_path old q n ≡ Some opened → StaysNamed new q n opened) → IsSomeAnd (open_path old q n) (λ opened. can_read opened.desc.mode ≡ true) → IsSomeAnd (open_path new q n) (λ opened. can_read opened.desc.mode ≡ true)
+mode-so : (old new : Io) (q n : ℕ) → ((opened : OpenPath) → open_path old q n ≡ Some opened → StaysNamed new q n
+    opened) → IsSomeAnd (open_path old q n) (λ opened. can_read opened.desc.mode ≡ true)
+    → IsSomeAnd (open_path new q n) (λ opened. can_read opened.desc.mode ≡ true)
 mode-so old new q n stays may = by_path (open_path old q n) refl may
   where
-    by_now : (opened now : OpenPath) → open_path new q n ≡ Some now → now.desc.mode ≡ opened.desc.mode → can_read opened.desc.mode ≡ true → IsSomeAnd (open_path new q n) (λ opened. can_read opened.desc.mode ≡ true)
+    by_now : (opened now : OpenPath) → open_path new q n ≡ Some now → now.desc.mode ≡ opened.desc.mode
+        → can_read opened.desc.mode ≡ true → IsSomeAnd (open_path new q n) (λ opened. can_read opened.desc.mode ≡
+        true)
     by_now opened now is mode may =
         subst (λ (path : Option OpenPath). IsSomeAnd path (λ opened. can_read opened.desc.mode ≡ true)) (sym is) (ap can_read mode ∙ may)
 
-    by_path : (path : Option OpenPath) → open_path old q n ≡ path → IsSomeAnd path (λ opened. can_read opened.desc.mode ≡ true) → IsSomeAnd (open_path new q n) (λ opened. can_read opened.desc.mode ≡ true)
+    by_path : (path : Option OpenPath) → open_path old q n ≡ path
+        → IsSomeAnd path (λ opened. can_read opened.desc.mode ≡ true) → IsSomeAnd (open_path new q n)
+        (λ opened. can_read opened.desc.mode ≡ true)
     by_path None is may = absurd may
     by_path (Some opened) is may = (let (now, there, mode) = stays opened is in by_now opened now there mode may)
 
 -- a call stays allowed, where what is named stays so
-stays-so : (call : IoCall) (cells later : Cells) (regs now : Regs) (old new : Io) (q : ℕ) → now ≡ regs → ((at count : ℕ) → FitsIn cells at count → FitsIn later at count) → ((n : ℕ) (opened : OpenPath) → open_path old q n ≡ Some opened → StaysNamed new q n opened) → StaysAllowed call cells regs old q → StaysAllowed call later now new q
+stays-so : (call : IoCall) (cells later : Cells) (regs now : Regs) (old new : Io) (q : ℕ) → now ≡ regs
+    → ((at count : ℕ) → FitsIn cells at count → FitsIn later at count) → ((n : ℕ) (opened : OpenPath)
+    → open_path old q n ≡ Some opened → StaysNamed new q n opened) → StaysAllowed call cells regs old q
+    → StaysAllowed call later now new q
 stays-so call cells later regs now old new q same fits paths stays reads =
     let it = stays reads in
     subst (λ (regs : Regs). StaysRead later regs new q) (sym same) (record {
@@ -169,7 +180,8 @@ module _ (m n : Inner) (terms p : ℕ) (old new : Io) (aside : Aside m n p) (io_
           let here : record_at n.records q ≡ r = there-at n.records q r is in
           let runs : not (has_ended r.life) ≡ true = sym (ap (record_passes (λ r. not (has_ended r.life))) is) ∙ waiting.0 in
           let lived : IsLiving m.records q = ap (record_passes (λ r. not (has_ended r.life))) was ∙ ap (λ (life : Life). not (has_ended life)) (sym stays.life) ∙ runs in
-          let waited : is_waiting (record_at m.records q).life ≡ true = ap (λ (r : Record). is_waiting r.life) there ∙ ap is_waiting (sym stays.life) ∙ sym (ap (λ (r : Record). is_waiting r.life) here) ∙ waiting.1 in
+          let waited : is_waiting (record_at m.records q).life ≡ true = ap (λ (r : Record). is_waiting r.life) there ∙
+          ap is_waiting (sym stays.life) ∙ sym (ap (λ (r : Record). is_waiting r.life) here) ∙ waiting.1 in
           let it : WaitsInCall m old q = all q lived waited in
           record {
             code = it.code;

@@ -88,7 +88,9 @@ proc-no-io code call coded = by_other (io_call_of code) refl
 time-no-io : (code : ℕ) (call : TimeCall) → time_call_of code ≡ Some call → io_call_of code ≡ None
 time-no-io code call coded = by_tests (F_TIME == code) (F_STIME == code) refl refl coded
   where
-    by_tests : (one other : Bool) → (F_TIME == code) ≡ one → (F_STIME == code) ≡ other → option_map (λ (coded : ℕ × TimeCall). coded.1) (if one then Some (F_TIME, Time.Time) else (if other then Some (F_STIME, Time.STime) else None)) ≡ Some call → io_call_of code ≡ None
+    by_tests : (one other : Bool) → (F_TIME == code) ≡ one → (F_STIME == code) ≡ other
+        → option_map (λ (coded : ℕ × TimeCall). coded.1) (if one then Some (F_TIME, Time.Time) else
+        (if other then Some (F_STIME, Time.STime) else None)) ≡ Some call → io_call_of code ≡ None
     by_tests true other first second is = ap io_call_of (sym (eqb-true F_TIME code first))
     by_tests false true first second is = ap io_call_of (sym (eqb-true F_STIME code second))
     by_tests false false first second is = absurd (none-some call is)
@@ -196,7 +198,10 @@ path-tick m p effect (keeps kept) = refl
 -- ---- the next state
 
 -- the others go on, and this holds of the process itself
-pub next-running : (s : State) (p : ℕ) (t : State) → IsRunning s → Aside s.inner t.inner p → IoAside s.inner.records (length s.terms) p s.files.io t.files.io → ((kept : Kept) → kept_at t.files.io p ≡ Some kept → KeepsCall t.inner t.files.io p kept) → (IsWaiting t.inner.records p → WaitsInCall t.inner t.files.io p) → length t.terms ≡ length s.terms → AreKinds t.files → IsClock t.clock t.inner.tick → IsRunning t
+pub next-running : (s : State) (p : ℕ) (t : State) → IsRunning s → Aside s.inner t.inner p → IoAside s.inner.records
+    (length s.terms) p s.files.io t.files.io → ((kept : Kept) → kept_at t.files.io p ≡ Some kept → KeepsCall t.inner
+    t.files.io p kept) → (IsWaiting t.inner.records p → WaitsInCall t.inner t.files.io p) → length t.terms ≡ length
+    s.terms → AreKinds t.files → IsClock t.clock t.inner.tick → IsRunning t
 next-running s p t running aside io kept in_calls long kinds clock =
     running-then s t running
     (aside-kept s.inner t.inner (length s.terms) p s.files.io t.files.io aside io kept running.kept)
@@ -219,7 +224,9 @@ module _ (s : State) (p code : ℕ) (running : IsRunning s) (lives : IsLiving s.
 
   over-runs : (result : CallResult) (rest : Rest) → Over s.inner p result → BesideIo rest.files.io → rest.terms ≡ s.terms → AreKinds rest.files → IsClock rest.clock s.inner.tick → Runs result rest
   over-runs result rest over io terms kinds clock =
-      next-running s p (after result rest) running over.aside io.0 (λ kept is. absurd (none-some kept (sym io.1 ∙ is))) (λ waiting. absurd (over.runs waiting)) (ap (λ (terms : List TerminalState). length terms) terms) kinds
+      next-running s p (after result rest) running over.aside io.0
+      (λ kept is. absurd (none-some kept (sym io.1 ∙ is))) (λ waiting. absurd (over.runs waiting))
+      (ap (λ (terms : List TerminalState). length terms) terms) kinds
       (subst (IsClock rest.clock) (sym over.tick) clock)
 
   beside : (new : Io) → io_call_of code ≡ None → new ≡ s.files.io → BesideIo new
@@ -255,13 +262,17 @@ module _ (s : State) (p code : ℕ) (running : IsRunning s) (lives : IsLiving s.
     -- ---- paths
 
     -- a call on a terminal or a pipe
-    io-runs : (device : IoCall) → io_call_of code ≡ Some device → IoAttempts device s.inner s.files.io (length s.files.drives) p result rest.files.io s.terms rest.terms → AreKinds rest.files → IsClock rest.clock (after_attempt s.inner p result).tick → Runs result rest
+    io-runs : (device : IoCall) → io_call_of code ≡ Some device → IoAttempts device s.inner s.files.io
+        (length s.files.drives) p result rest.files.io s.terms rest.terms → AreKinds rest.files → IsClock rest.clock
+        (after_attempt s.inner p result).tick → Runs result rest
     io-runs device is it kinds clock =
         let drives = length s.files.drives in
         let many : length rest.files.io.calls ≡ length s.files.io.calls = many-attempt s.files.io p device s.inner drives result rest.files.io s.terms rest.terms it in
         next-running s p (after result rest) running
         (left-aside s.inner p (call_event_end result) (after_attempt s.inner p result) (subst (AttemptLeft s.inner p) (sym it.result_is) (by-end s.inner p it.effect it.effect.end)))
-        (leaves-aside s.inner.records (length s.terms) p s.files.io rest.files.io (attempt-leaves device s.inner s.files.io rest.files.io drives p result s.terms rest.terms it) many (on-attempt device s.inner s.files.io p drives result rest.files.io s.terms rest.terms it))
+        (leaves-aside s.inner.records (length s.terms) p s.files.io rest.files.io (attempt-leaves device s.inner
+        s.files.io rest.files.io drives p result s.terms rest.terms it) many (on-attempt device s.inner s.files.io
+        p drives result rest.files.io s.terms rest.terms it))
         (io-keeps s.inner s.files.io p running.kept lives code device drives result rest.files.io s.terms rest.terms next is it)
         (in-io s.inner s.files.io p running.in_calls lives running.places code device drives result rest.files.io s.terms rest.terms next many it)
         long kinds clock
@@ -303,10 +314,17 @@ module _ (s : State) (p code : ℕ) (running : IsRunning s) (lives : IsLiving s.
 
     -- ---- processes
 
-    fork-by : (files : Files) → files.io ≡ s.files.io → AreKinds files → call_of code ≡ Some Call.Fork → (result : CallResult) → IsOver (Child s.inner p) result → Runs result (with_files s (files_after_fork files p result))
+    fork-by : (files : Files) → files.io ≡ s.files.io → AreKinds files → call_of code ≡ Some Call.Fork
+        → (result : CallResult) → IsOver (Child s.inner p) result
+        → Runs result (with_files s (files_after_fork files p result))
     fork-by files io kinds coded (done t) child =
         over-runs (done t) (with_files s (files_started_by t)) (over-done s.inner p t child.aside child.tick)
-        (subst (λ (io : Io). BesideIo (io_started io p (regs_at t p).a)) (sym io) (io-begun s.inner.records (length s.terms) p s.files.io (regs_at t p).a (free-is s.inner.records (regs_at t p).a child.number).none, no-kept s.inner s.files.io p code next (proc-no-io code Call.Fork coded) running.kept))
+        (subst (λ (io : Io). BesideIo (io_started io p (regs_at t p).a)) (sym io) (
+          io-begun s.inner.records (length s.terms) p s.files.io (regs_at t p).a
+              (free-is s.inner.records (regs_at t p).a child.number).none,
+          no-kept s.inner s.files.io p code next
+              (proc-no-io code Call.Fork coded) running.kept,
+        ))
         refl (kinds-started files kinds p (regs_at t p).a) running.clock
       where
         files_started_by : Inner → Files
@@ -374,11 +392,15 @@ module _ (s : State) (p code : ℕ) (running : IsRunning s) (lives : IsLiving s.
     by-time None coded it = by-path (path_call_of code) refl it
     by-time (Some call) coded it = time-runs call coded it
 
-    by-process : (call : Option ProcCall) → call_of code ≡ call → Serves (option_map_or on_processes call (option_map_or on_time (time_call_of code) (option_map_or on_paths (path_call_of code) no_call))) s now p result rest → Runs result rest
+    by-process : (call : Option ProcCall) → call_of code ≡ call
+        → Serves (option_map_or on_processes call (option_map_or on_time (time_call_of code)
+        (option_map_or on_paths (path_call_of code) no_call))) s now p result rest → Runs result rest
     by-process None coded it = by-time (time_call_of code) refl it
     by-process (Some call) coded it = process-runs call coded it
 
-    by-load : (load : Bool) → (code == F_LOAD) ≡ load → Serves (if load then loads else option_map_or on_processes (call_of code) (option_map_or on_time (time_call_of code) (option_map_or on_paths (path_call_of code) no_call))) s now p result rest → Runs result rest
+    by-load : (load : Bool) → (code == F_LOAD) ≡ load → Serves (if load then loads else option_map_or on_processes
+        (call_of code) (option_map_or on_time (time_call_of code) (option_map_or on_paths (path_call_of code)
+        no_call))) s now p result rest → Runs result rest
     by-load true is it = load-runs is it
     by-load false is it = by-process (call_of code) refl it
 

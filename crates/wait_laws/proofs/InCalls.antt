@@ -68,8 +68,12 @@ on-waits m p regs waiting = going-waits (with_regs m.records p regs) p waiting
 -- a process that ends does not live
 exit-waits : (records : List (Option Record)) (p status : ℕ) → IsLiving (after_exit records p status) p → ⊥
 exit-waits records p status lives =
-    let within : p < length (map (orphaned p) records) = subst (λ (n : ℕ). p < n) (length-set (map (orphaned p) records) p (ended_record (record_at records p) status)) (living-within (after_exit records p status) p lives) in
-    by_parent ((record_at records p).parent.0 == 0) (sym (ap (record_passes (λ r. not (has_ended r.life))) (get_or-set_same (map (orphaned p) records) p (ended_record (record_at records p) status) None within)) ∙ lives)
+    let within : p < length (map (orphaned p) records) = subst (λ (n : ℕ). p < n)
+    (length-set (map (orphaned p) records) p (ended_record (record_at records p) status))
+    (living-within (after_exit records p status) p lives) in
+    by_parent ((record_at records p).parent.0 == 0)
+    (sym (ap (record_passes (λ r. not (has_ended r.life))) (get_or-set_same (map (orphaned p) records) p
+    (ended_record (record_at records p) status) None within)) ∙ lives)
   where
     by_parent : (none : Bool) → record_passes (λ r. not (has_ended r.life)) (if none then None else Some (record (record_at records p) { life = Ended status })) ≡ true → ⊥
     by_parent true is = false≢true is
@@ -122,7 +126,10 @@ module _ (m : Inner) (old : Io) (p : ℕ) (in_calls : AreInCalls m old) (lives :
     abbrev taken : Inner
     taken = record found { records = with_signal records p None }
 
-    frame-waits : (intercept : Intercept) (regs interrupted : Regs) (frame : ℕ) (held : Bool) → is_waiting (record_at records p).life ≡ held → IsWaiting (with_frame (if held then goes_on taken p interrupted else taken) p intercept signal regs frame).records p → ⊥
+    frame-waits : (intercept : Intercept) (regs interrupted : Regs) (frame : ℕ) (held : Bool)
+        → is_waiting (record_at records p).life ≡ held
+        → IsWaiting (with_frame (if held then goes_on taken p interrupted else taken) p intercept signal regs
+        frame).records p → ⊥
     frame-waits intercept regs interrupted frame true held waiting =
         let gone : List (Option Record) = with_regs taken.records p interrupted in
         let within : p < length (with_waiting gone p false) = put-within (with_waiting gone p false) p _ waiting.0 in
@@ -139,7 +146,10 @@ module _ (m : Inner) (old : Io) (p : ℕ) (in_calls : AreInCalls m old) (lives :
     routine-waits : (intercept : Intercept) → Quiet (routine_begun found p intercept signal)
     routine-waits intercept = by_room (has_no_room found p (stack_top (regs_at found p).s)) (is_waiting (record_at records p).life) refl
       where
-        by_room : (none held : Bool) → is_waiting (record_at records p).life ≡ held → Quiet (if none then Err E_PRCABT else Ok (with_frame (if held then goes_on taken p (interrupted_regs found p signal) else taken) p intercept signal (interrupted_regs found p signal) (stack_top (regs_at found p).s - 12)))
+        by_room : (none held : Bool) → is_waiting (record_at records p).life ≡ held
+            → Quiet (if none then Err E_PRCABT else Ok
+            (with_frame (if held then goes_on taken p (interrupted_regs found p signal) else taken) p intercept signal
+            (interrupted_regs found p signal) (stack_top (regs_at found p).s - 12)))
         by_room true held is waiting = ended-waits found p E_PRCABT waiting.0
         by_room false held is waiting =
             frame-waits intercept (interrupted_regs found p signal) (interrupted_regs found p signal) (stack_top (regs_at found p).s - 12) held is waiting
@@ -189,14 +199,18 @@ module _ (m : Inner) (old : Io) (p : ℕ) (in_calls : AreInCalls m old) (lives :
       let within : p < length before.calls = omega (arith, many, long, here, places) in
       ap is_some (ap (λ (io : Io). kept_at io p) is ∙ get_or-set_same before.calls p (Some kept) None within)
 
-  in-end : (code : ℕ) (effect : IoEffect) (end : IoEnd) (io : Io) → act_of m p ≡ attempts code → io ≡ with_call effect.io p (kept_in end) → length io.calls ≡ length old.calls → In (after_attempt m p (result_by end m p effect)) io
+  in-end : (code : ℕ) (effect : IoEffect) (end : IoEnd) (io : Io) → act_of m p ≡ attempts code
+      → io ≡ with_call effect.io p (kept_in end) → length io.calls ≡ length old.calls
+      → In (after_attempt m p (result_by end m p effect)) io
   in-end code effect (answers regs) io next is long waiting =
       absurd (on-waits (with_regs_of (with_stored m p effect) p regs) p _ waiting)
   in-end code effect (fails number) io next is long waiting = absurd (on-waits m p _ waiting)
   in-end code effect (keeps kept) io next is long waiting =
       record { code = code; made = attempts-code m p code next; kept = λ some. put-kept effect.io io kept is long }
 
-  pub in-io : (code : ℕ) (call : IoCall) (drives : ℕ) (result : CallResult) (io : Io) (before after : List TerminalState) → act_of m p ≡ attempts code → length io.calls ≡ length old.calls → IoAttempts call m old drives p result io before after → In (after_attempt m p result) io
+  pub in-io : (code : ℕ) (call : IoCall) (drives : ℕ) (result : CallResult) (io : Io)
+      (before after : List TerminalState) → act_of m p ≡ attempts code → length io.calls ≡ length old.calls
+      → IoAttempts call m old drives p result io before after → In (after_attempt m p result) io
   in-io code call drives result io before after next long attempt =
       subst (λ (result : CallResult). In (after_attempt m p result) io) (sym attempt.result_is)
       (in-end code attempt.effect attempt.effect.end io next attempt.state long)

@@ -61,7 +61,8 @@ open-slot io p n opened is = by_slot (slot_of io.paths p n) refl is
     by_desc s None named is = absurd (none-some opened is)
     by_desc s (Some d) named is = named ∙ ap (λ (o : OpenPath). Some o.path) (same_Some (record { path = s; desc = d }) opened is)
 
-    by_slot : (place : Option SysPath) → slot_of io.paths p n ≡ place → option_and_then (λ (s : SysPath). with_place s (desc_of io.paths s.0)) place ≡ Some opened → slot_of io.paths p n ≡ Some opened.path
+    by_slot : (place : Option SysPath) → slot_of io.paths p n ≡ place → option_and_then (λ (s : SysPath). with_place s
+        (desc_of io.paths s.0)) place ≡ Some opened → slot_of io.paths p n ≡ Some opened.path
     by_slot None named is = absurd (none-some opened is)
     by_slot (Some s) named is = by_desc s (desc_of io.paths s.0) named is
 
@@ -109,7 +110,8 @@ module _ (call : IoCall) (caller : Caller) (io : Io) (again : Again call caller 
   abbrev First : ℕ → Type 0
   First count = kept_at io caller.process.0 ≡ None → KeepsCount call caller.regs count × (0 < count)
 
-  found-now : (code count : ℕ) (opened : OpenPath) → io_call_of code ≡ Some call → slot_of io.paths caller.process.0 (path_number call caller.regs) ≡ Some opened.path → First count → Good (call_now caller io code opened count)
+  found-now : (code count : ℕ) (opened : OpenPath) → io_call_of code ≡ Some call → slot_of io.paths caller.process.0
+      (path_number call caller.regs) ≡ Some opened.path → First count → Good (call_now caller io code opened count)
   found-now code count opened coded named first = by_kept (kept_at io caller.process.0) refl
     where
       by_kept : (place : Option Kept) → kept_at io caller.process.0 ≡ place → Good (unwrap_or place (first_call code opened count))
@@ -150,7 +152,9 @@ module _ (call : IoCall) (caller : Caller) (io : Io) (again : Again call caller 
   line_answer empty alone now held =
       if empty then answer_unmoved alone Ans.End else Ans.Done (min (count_left now) (line_length held))
 
-  line-ends : (pipe : ℕ) (now : Kept) (held : List ℕ) (empty alone : Bool) → Good now → Stays → Ends (after_taking io pipe (line_answer empty alone now held)) (read_line_end caller alone now (bytes_moved (line_answer empty alone now held) (pipe_bytes io pipe)) (line_answer empty alone now held))
+  line-ends : (pipe : ℕ) (now : Kept) (held : List ℕ) (empty alone : Bool) → Good now → Stays
+      → Ends (after_taking io pipe (line_answer empty alone now held)) (read_line_end caller alone now
+      (bytes_moved (line_answer empty alone now held) (pipe_bytes io pipe)) (line_answer empty alone now held))
   line-ends pipe now held true true good stays = by_moved (now.moved == 0)
     where
       by_moved : (none : Bool) → Ends (after_taking io pipe Ans.End) (if none then fails E_EOF else answers (count_regs caller now.moved))
@@ -163,7 +167,12 @@ module _ (call : IoCall) (caller : Caller) (io : Io) (again : Again call caller 
       count : ℕ
       count = min (count_left now) (line_length held)
 
-      by_tests : (return complete single : Bool) → is_complete (moved_on now (min (count_left now) (line_length held))) ≡ complete → Ends (after_taking io pipe (Ans.Done (min (count_left now) (line_length held)))) (if return || (complete || single) then answers (count_regs caller (moved_on now (min (count_left now) (line_length held))).moved) else keeps (moved_on now (min (count_left now) (line_length held))))
+      by_tests : (return complete single : Bool)
+          → is_complete (moved_on now (min (count_left now) (line_length held))) ≡ complete
+          → Ends (after_taking io pipe (Ans.Done (min (count_left now) (line_length held))))
+          (if return || (complete || single) then answers
+          (count_regs caller (moved_on now (min (count_left now) (line_length held))).moved) else keeps
+          (moved_on now (min (count_left now) (line_length held))))
       by_tests true complete single is = tt
       by_tests false true single is = tt
       by_tests false false true is = tt
@@ -176,13 +185,18 @@ module _ (call : IoCall) (caller : Caller) (io : Io) (again : Again call caller 
   write_answered full alone held rest =
       if full then answer_unmoved alone Ans.NoReader else Ans.Done (min (length rest) (pipe_room held))
 
-  write-ends : (pipe : ℕ) (now : Kept) (held rest : List ℕ) (regs : Regs) (full alone : Bool) → Good now → Stays → length rest ≡ now.count - now.moved → Ends (after_adding io pipe (write_answered full alone held rest) rest) (write_end alone now regs (write_answered full alone held rest))
+  write-ends : (pipe : ℕ) (now : Kept) (held rest : List ℕ) (regs : Regs) (full alone : Bool) → Good now → Stays
+      → length rest ≡ now.count - now.moved → Ends (after_adding io pipe (write_answered full alone held rest) rest)
+      (write_end alone now regs (write_answered full alone held rest))
   write-ends pipe now held rest regs true true good stays left = tt
   write-ends pipe now held rest regs true false good stays left = (record { kept_is = good; stays = stays }, refl)
   write-ends pipe now held rest regs false alone good stays left =
       by_tests (is_complete (moved_on now (min (length rest) (pipe_room held)))) alone refl
     where
-      by_tests : (complete single : Bool) → is_complete (moved_on now (min (length rest) (pipe_room held))) ≡ complete → Ends (after_adding io pipe (Ans.Done (min (length rest) (pipe_room held))) rest) (if complete then answers regs else (if single then fails E_WRITE else keeps (moved_on now (min (length rest) (pipe_room held)))))
+      by_tests : (complete single : Bool) → is_complete (moved_on now (min (length rest) (pipe_room held))) ≡ complete
+          → Ends (after_adding io pipe (Ans.Done (min (length rest) (pipe_room held))) rest)
+          (if complete then answers regs else (if single then fails E_WRITE else keeps
+          (moved_on now (min (length rest) (pipe_room held)))))
       by_tests true single is = tt
       by_tests false true is = tt
       by_tests false false is =
@@ -209,10 +223,13 @@ module _ (call : IoCall) (caller : Caller) (io : Io) (again : Again call caller 
 
   -- ---- reads and writes
 
-  path-keeps : (number : ℕ) (is_allowed : ℕ → Bool) (next : OpenPath → IoStep) → ((opened : OpenPath) → open_path io caller.process.0 number ≡ Some opened → is_allowed opened.desc.mode ≡ true → Keeps (next opened)) → Keeps (on_path caller io number is_allowed next)
+  path-keeps : (number : ℕ) (is_allowed : ℕ → Bool) (next : OpenPath → IoStep)
+      → ((opened : OpenPath) → open_path io caller.process.0 number ≡ Some opened → is_allowed opened.desc.mode ≡ true
+      → Keeps (next opened)) → Keeps (on_path caller io number is_allowed next)
   path-keeps number is_allowed next good = by_path (open_path io caller.process.0 number) refl
     where
-      by_mode : (opened : OpenPath) → open_path io caller.process.0 number ≡ Some opened → (allowed : Bool) → is_allowed opened.desc.mode ≡ allowed → Keeps (refuses (not allowed) E_BMODE (next opened))
+      by_mode : (opened : OpenPath) → open_path io caller.process.0 number ≡ Some opened → (allowed : Bool)
+          → is_allowed opened.desc.mode ≡ allowed → Keeps (refuses (not allowed) E_BMODE (next opened))
       by_mode opened is true may = good opened is may
       by_mode opened is false may = tt
 
@@ -231,18 +248,27 @@ module _ (call : IoCall) (caller : Caller) (io : Io) (again : Again call caller 
       by_count false is = good (above caller.regs.y (eqb-false caller.regs.y 0 is))
 
   -- a read whose buffer is there, on a path that it may read
-  stays-read : (bytes : List ℕ) (opened : OpenPath) → user_bytes caller.cells caller.regs.x caller.regs.y ≡ Some bytes → 0 < caller.regs.y → open_path io caller.process.0 caller.regs.a ≡ Some opened → can_read opened.desc.mode ≡ true → Stays
+  stays-read : (bytes : List ℕ) (opened : OpenPath) → user_bytes caller.cells caller.regs.x caller.regs.y ≡ Some bytes
+      → 0 < caller.regs.y → open_path io caller.process.0 caller.regs.a ≡ Some opened → can_read opened.desc.mode ≡
+      true → Stays
   stays-read bytes opened there some is may way = record {
     named = user-fits caller.cells caller.regs.x caller.regs.y bytes some there;
     mode = subst (λ (opened : Option OpenPath). IsSomeAnd opened (λ opened. can_read opened.desc.mode ≡ true)) (sym is) may;
   }
 
-  read-keeps : (kind : ReadKind) (code : ℕ) → io_call_of code ≡ Some call → path_number call caller.regs ≡ caller.regs.a → KeepsCount call caller.regs caller.regs.y → (buffer : Option (List ℕ)) → user_bytes caller.cells caller.regs.x caller.regs.y ≡ buffer → Keeps (refuses (is_none buffer) E_BPADDR (on_path caller io caller.regs.a can_read (λ opened. unless_nothing caller io (reads_target kind caller io (call_now caller io code opened caller.regs.y) opened.desc.target))))
+  read-keeps : (kind : ReadKind) (code : ℕ) → io_call_of code ≡ Some call → path_number call caller.regs ≡
+      caller.regs.a → KeepsCount call caller.regs caller.regs.y → (buffer : Option (List ℕ)) → user_bytes caller.cells
+      caller.regs.x caller.regs.y ≡ buffer → Keeps (refuses (is_none buffer) E_BPADDR (on_path caller io caller.regs.a
+      can_read (λ opened. unless_nothing caller io (reads_target kind caller io (call_now caller io code opened
+      caller.regs.y) opened.desc.target))))
   read-keeps kind code coded at counts None there = tt
   read-keeps kind code coded at counts (Some bytes) there =
       path-keeps caller.regs.a can_read (λ opened. unless_nothing caller io (reads_target kind caller io (call_now caller io code opened caller.regs.y) opened.desc.target))
       (λ opened is may. nothing-keeps (reads_target kind caller io (call_now caller io code opened caller.regs.y) opened.desc.target)
-      (λ some. read-target kind (call_now caller io code opened caller.regs.y) opened.desc.target (found-now code caller.regs.y opened coded (ap (slot_of io.paths caller.process.0) at ∙ open-slot io caller.process.0 caller.regs.a opened is) (λ first. (counts, some))) (stays-read bytes opened there some is may)))
+      (λ some. read-target kind (call_now caller io code opened caller.regs.y) opened.desc.target
+      (found-now code caller.regs.y opened coded (ap (slot_of io.paths caller.process.0) at ∙ open-slot io
+      caller.process.0 caller.regs.a opened is) (λ first. (counts, some))) (stays-read bytes opened there some is
+      may)))
 
   -- a write is no read
   stays-write : direction_of_call call ≡ Some Writing → Stays
@@ -253,7 +279,11 @@ module _ (call : IoCall) (caller : Caller) (io : Io) (again : Again call caller 
     pub first : kept_at io caller.process.0 ≡ None → 0 < caller.regs.y → KeepsCount call caller.regs (length bytes) × (0 < length bytes)
     pub later : (kept : Kept) → kept_at io caller.process.0 ≡ Some kept → length bytes ≡ kept.count
 
-  send-keeps : (sending : List ℕ → Sending) (code : ℕ) → direction_of_call call ≡ Some Writing → io_call_of code ≡ Some call → path_number call caller.regs ≡ caller.regs.a → ((bytes : List ℕ) → (sending bytes).bytes ≡ bytes) → (bytes : Option (List ℕ)) → ((found : List ℕ) → bytes ≡ Some found → Sent found) → Keeps (needs bytes E_BPADDR (λ bytes. on_path caller io caller.regs.a can_write (λ opened. unless_nothing caller io (sends_on (sending bytes) code caller io opened))))
+  send-keeps : (sending : List ℕ → Sending) (code : ℕ) → direction_of_call call ≡ Some Writing → io_call_of code ≡
+      Some call → path_number call caller.regs ≡ caller.regs.a → ((bytes : List ℕ) → (sending bytes).bytes ≡ bytes)
+      → (bytes : Option (List ℕ)) → ((found : List ℕ) → bytes ≡ Some found → Sent found)
+      → Keeps (needs bytes E_BPADDR (λ bytes. on_path caller io caller.regs.a can_write
+      (λ opened. unless_nothing caller io (sends_on (sending bytes) code caller io opened))))
   send-keeps sending code way coded at same None sent = tt
   send-keeps sending code way coded at same (Some bytes) sent =
       path-keeps caller.regs.a can_write (λ opened. unless_nothing caller io (sends_on (sending bytes) code caller io opened))
@@ -264,17 +294,23 @@ module _ (call : IoCall) (caller : Caller) (io : Io) (again : Again call caller 
       (stays-write way)
       (found-count code (length (sending bytes).bytes) opened (λ kept there. ap (length {A = ℕ}) (same bytes) ∙ (sent bytes refl).later kept there))))
 
-  error-keeps : direction_of_call call ≡ Some Writing → path_number call caller.regs ≡ STANDARD_ERROR → io_call_of F_PERR ≡ Some call → ((kept : Kept) → kept_at io caller.process.0 ≡ Some kept → length (error_line caller.regs.b) ≡ kept.count) → KeepsCount call caller.regs (length (error_line caller.regs.b)) → Keeps (f_perr caller io)
+  error-keeps : direction_of_call call ≡ Some Writing → path_number call caller.regs ≡ STANDARD_ERROR
+      → io_call_of F_PERR ≡ Some call → ((kept : Kept) → kept_at io caller.process.0 ≡ Some kept
+      → length (error_line caller.regs.b) ≡ kept.count) → KeepsCount call caller.regs
+      (length (error_line caller.regs.b)) → Keeps (f_perr caller io)
   error-keeps way at coded later first =
       path-keeps STANDARD_ERROR can_write (λ opened. sends_on (sent_error caller) F_PERR caller io opened)
       (λ opened is may. write-target (sent_error caller) (call_now caller io F_PERR opened (length (sent_error caller).bytes)) opened.desc.target
-      (found-now F_PERR (length (sent_error caller).bytes) opened coded (ap (slot_of io.paths caller.process.0) at ∙ open-slot io caller.process.0 STANDARD_ERROR opened is) (λ none. (first, omega arith)))
+      (found-now F_PERR (length (sent_error caller).bytes) opened coded (ap (slot_of io.paths caller.process.0) at ∙
+      open-slot io caller.process.0 STANDARD_ERROR opened is) (λ none. (first, omega arith)))
       (stays-write way)
       (found-count F_PERR (length (sent_error caller).bytes) opened later))
 
   -- ---- calls that never wait
 
-  dup-keeps : (path : Option SysPath) (free : Option ℕ) → Keeps (needs path E_BPNUM (λ path. needs free E_PTHFUL (λ number. done (record caller.regs { a = number }) (with_paths io (paths_after_dup io.paths caller.process.0 caller.regs.a)))))
+  dup-keeps : (path : Option SysPath) (free : Option ℕ)
+      → Keeps (needs path E_BPNUM (λ path. needs free E_PTHFUL (λ number. done (record caller.regs { a = number })
+      (with_paths io (paths_after_dup io.paths caller.process.0 caller.regs.a)))))
   dup-keeps None free = tt
   dup-keeps (Some path) None = tt
   dup-keeps (Some path) (Some number) = tt
@@ -284,7 +320,9 @@ module _ (call : IoCall) (caller : Caller) (io : Io) (again : Again call caller 
   close-keeps (Some path) = tt
 
   module _ (list : PathList) where
-    begins-keeps : (before : Io) (desc : Desc) (number : Option ℕ) → Keeps (needs number E_PTHFUL (λ number. done (opened_regs caller.regs list number) (with_paths before (paths_after_begin before.paths caller.process.0 desc))))
+    begins-keeps : (before : Io) (desc : Desc) (number : Option ℕ)
+        → Keeps (needs number E_PTHFUL (λ number. done (opened_regs caller.regs list number)
+        (with_paths before (paths_after_begin before.paths caller.process.0 desc))))
     begins-keeps before desc None = tt
     begins-keeps before desc (Some number) = tt
 
@@ -314,7 +352,8 @@ module _ (call : IoCall) (caller : Caller) (io : Io) (again : Again call caller 
   ready-keeps target true = tt
   ready-keeps target false = tt
 
-  status-by : (target : Target) (opt ready end : Bool) → Keeps (if opt then gets_options caller io target else (if ready then gets_ready caller io target else (if end then gets_end caller io target else refused E_UNKSVC)))
+  status-by : (target : Target) (opt ready end : Bool) → Keeps (if opt then gets_options caller io target else
+      (if ready then gets_ready caller io target else (if end then gets_end caller io target else refused E_UNKSVC)))
   status-by target true ready end = options-keeps target (is_none (user_bytes caller.cells caller.regs.x OPTION_BYTES))
   status-by target false true end = ready-keeps target (ready_count io target == 0)
   status-by target false false true = tt
@@ -330,7 +369,8 @@ module _ (call : IoCall) (caller : Caller) (io : Io) (again : Again call caller 
   set-keeps (Some opened) = tt
 
 -- the bytes of a write, and of a line write
-bytes-sent : (caller : Caller) (io : Io) (again : Again Call.Write caller io) (bytes : List ℕ) → user_bytes caller.cells caller.regs.x caller.regs.y ≡ Some bytes → Sent Call.Write caller io again bytes
+bytes-sent : (caller : Caller) (io : Io) (again : Again Call.Write caller io) (bytes : List ℕ)
+    → user_bytes caller.cells caller.regs.x caller.regs.y ≡ Some bytes → Sent Call.Write caller io again bytes
 bytes-sent caller io again bytes is =
     let all : length bytes ≡ caller.regs.y = user-length caller.cells caller.regs.x caller.regs.y bytes is in
     record { first = λ none some. (all, omega (arith, all, some)); later = λ kept there. all ∙ sym (again kept there).count }
@@ -376,7 +416,8 @@ module _ (call : IoCall) (caller : Caller) (io : Io) (before after : List Termin
   Kept_then effect kept = MayWait call caller io kept × (effect.io.paths ≡ io.paths)
 
   -- a read of a terminal
-  read-waits : (read : TerminalRead) (effect : IoEffect) (kept : Kept) → MayWait call caller io read.call → ReadsTerminal caller io read effect before after → effect.end ≡ keeps kept → Kept_then effect kept
+  read-waits : (read : TerminalRead) (effect : IoEffect) (kept : Kept) → MayWait call caller io read.call
+      → ReadsTerminal caller io read effect before after → effect.end ≡ keeps kept → Kept_then effect kept
   read-waits read effect kept good it waits =
       (by_answer it.answer it.ends, ap (λ (effect : IoEffect). effect.io.paths) it.effect_is)
     where

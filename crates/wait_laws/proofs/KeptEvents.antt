@@ -59,16 +59,23 @@ pub there-at : (records : List (Option Record)) (p : ℕ) (r : Record) → recor
 there-at records p r is = ap (λ place. unwrap_or place (new_record (record { 0 = 0 }) 0 0)) is
 
 -- a path that may be read stays
-mode-on : (io new : Io) (p number : ℕ) → ((opened : OpenPath) → open_path io p number ≡ Some opened → open_path new p number ≡ Some opened) → IsSomeAnd (open_path io p number) (λ opened. can_read opened.desc.mode ≡ true) → IsSomeAnd (open_path new p number) (λ opened. can_read opened.desc.mode ≡ true)
+mode-on : (io new : Io) (p number : ℕ) → ((opened : OpenPath) → open_path io p number ≡ Some opened
+    → open_path new p number ≡ Some opened) → IsSomeAnd (open_path io p number) (λ opened. can_read opened.desc.mode ≡
+    true) → IsSomeAnd (open_path new p number) (λ opened. can_read opened.desc.mode ≡ true)
 mode-on io new p number same may = by_path (open_path io p number) refl may
   where
-    by_path : (path : Option OpenPath) → open_path io p number ≡ path → IsSomeAnd path (λ opened. can_read opened.desc.mode ≡ true) → IsSomeAnd (open_path new p number) (λ opened. can_read opened.desc.mode ≡ true)
+    by_path : (path : Option OpenPath) → open_path io p number ≡ path
+        → IsSomeAnd path (λ opened. can_read opened.desc.mode ≡ true) → IsSomeAnd (open_path new p number)
+        (λ opened. can_read opened.desc.mode ≡ true)
     by_path None is may = absurd may
     by_path (Some opened) is may =
         subst (λ (path : Option OpenPath). IsSomeAnd path (λ opened. can_read opened.desc.mode ≡ true)) (sym (same opened is)) may
 
 -- a call stays allowed, where what is named and the paths do
-pub stays-on : (call : IoCall) (cells later : Cells) (regs now : Regs) (io new : Io) (p : ℕ) → now ≡ regs → ((at count : ℕ) → FitsIn cells at count → FitsIn later at count) → ((number : ℕ) (opened : OpenPath) → open_path io p number ≡ Some opened → open_path new p number ≡ Some opened) → StaysAllowed call cells regs io p → StaysAllowed call later now new p
+pub stays-on : (call : IoCall) (cells later : Cells) (regs now : Regs) (io new : Io) (p : ℕ) → now ≡ regs
+    → ((at count : ℕ) → FitsIn cells at count → FitsIn later at count) → ((number : ℕ) (opened : OpenPath)
+    → open_path io p number ≡ Some opened → open_path new p number ≡ Some opened) → StaysAllowed call cells regs io p
+    → StaysAllowed call later now new p
 stays-on call cells later regs now io new p same fits paths stays reads =
     let it = stays reads in
     subst (λ (regs : Regs). StaysRead later regs new p) (sym same) (record {
@@ -77,7 +84,11 @@ stays-on call cells later regs now io new p same fits paths stays reads =
     })
 
 -- what is kept of a call stays, where its process, what is named and its paths do
-pub keeps-on : (m n : Inner) (io new : Io) (p : ℕ) (kept : Kept) → IsLiving n.records p → (record_at n.records p).life ≡ (record_at m.records p).life → regs_at n p ≡ regs_at m p → (own_at n p).call ≡ (own_at m p).call → numbers_of new.paths p ≡ numbers_of io.paths p → ((at count : ℕ) → FitsIn (cells_at m p) at count → FitsIn (cells_at n p) at count) → ((number : ℕ) (opened : OpenPath) → open_path io p number ≡ Some opened → open_path new p number ≡ Some opened) → KeepsCall m io p kept → KeepsCall n new p kept
+pub keeps-on : (m n : Inner) (io new : Io) (p : ℕ) (kept : Kept) → IsLiving n.records p → (record_at n.records p).life
+    ≡ (record_at m.records p).life → regs_at n p ≡ regs_at m p → (own_at n p).call ≡ (own_at m p).call
+    → numbers_of new.paths p ≡ numbers_of io.paths p → ((at count : ℕ) → FitsIn (cells_at m p) at count
+    → FitsIn (cells_at n p) at count) → ((number : ℕ) (opened : OpenPath) → open_path io p number ≡ Some opened
+    → open_path new p number ≡ Some opened) → KeepsCall m io p kept → KeepsCall n new p kept
 keeps-on m n io new p kept lives life regs own numbers fits paths it = record {
   lives = lives;
   waits = ap is_waiting life ∙ it.waits;
@@ -143,7 +154,9 @@ module _ (m : Inner) (old : Io) (p : ℕ) (kept_all : AreKept m old) (lives : Is
 
   -- ---- a call on paths
 
-  module _ (code : ℕ) (call : IoCall) (drives : ℕ) (result : CallResult) (io : Io) (before after : List TerminalState) (next : act_of m p ≡ attempts code) (coded : io_call_of code ≡ Some call) (attempt : IoAttempts call m old drives p result io before after) where
+  module _ (code : ℕ) (call : IoCall) (drives : ℕ) (result : CallResult) (io : Io) (before after : List TerminalState)
+      (next : act_of m p ≡ attempts code) (coded : io_call_of code ≡ Some call) (attempt : IoAttempts call m old
+      drives p result io before after) where
     again : Again call (caller_of m p) old
     again kept is =
         let it = kept_all p kept is in
@@ -160,7 +173,11 @@ module _ (m : Inner) (old : Io) (p : ℕ) (kept_all : AreKept m old) (lives : Is
     waiting-record : Record
     waiting-record = record (record_at m.records p) { life = Waiting }
 
-    waits-then : (kept : Kept) → attempt.effect.end ≡ keeps kept → after_attempt m p result ≡ record (with_stored m p attempt.effect) { records = with_record m.records p (record (record_at m.records p) { life = Waiting }) }
+    waits-then : (kept : Kept) → attempt.effect.end ≡ keeps kept → after_attempt m p result ≡ record
+        (with_stored m p attempt.effect) {
+          records = with_record m.records p (record (record_at m.records p)
+              { life = Waiting });
+        }
     waits-then kept is =
         ap (after_attempt m p) (attempt.result_is ∙ ap (λ (end : IoEnd). result_by end m p attempt.effect) is)
 
@@ -168,15 +185,22 @@ module _ (m : Inner) (old : Io) (p : ℕ) (kept_all : AreKept m old) (lives : Is
     io-keeps kept is =
         let put : kept_in attempt.effect.end ≡ Some kept = call-put attempt.effect.io p (kept_in attempt.effect.end) kept (sym (ap (λ (io : Io). kept_at io p) attempt.state) ∙ is) in
         let waits_so : attempt.effect.end ≡ keeps kept = kept-end attempt.effect.end kept put in
-        let good = does-keep call (caller_of m p) old before after (step_of call m p old drives before) attempt.effect kept (step-keeps call (caller_of m p) old drives (length before) again) attempt.does waits_so in
+        let good = does-keep call (caller_of m p) old before after (step_of call m p old drives before) attempt.effect
+        kept (step-keeps call (caller_of m p) old drives (length before) again) attempt.does waits_so in
         subst (λ (n : Inner). KeepsCall n io p kept) (sym (waits-then kept waits_so)) (by_record good.0 good.1)
       where
         written-sizes : KeepsSizes m.memory (with_stored m p attempt.effect).memory
         written-sizes = (kept-written {Given = λ byte. Unit {0}} m.memory p (writes_from attempt.effect.at attempt.effect.bytes)).sizes
 
-        by_record : MayWait call (caller_of m p) old kept → attempt.effect.io.paths ≡ old.paths → KeepsCall (record (with_stored m p attempt.effect) { records = with_record m.records p (record (record_at m.records p) { life = Waiting }) }) io p kept
+        by_record : MayWait call (caller_of m p) old kept → attempt.effect.io.paths ≡ old.paths
+            → KeepsCall (record (with_stored m p attempt.effect) {
+              records = with_record m.records p
+                  (record (record_at m.records p) { life = Waiting });
+            }) io p kept
         by_record good paths =
-            let at : record_of (with_record m.records p (record (record_at m.records p) { life = Waiting })) p ≡ Some (record (record_at m.records p) { life = Waiting }) = get_or-set_same m.records p (Some (record (record_at m.records p) { life = Waiting })) None within in
+            let at : record_of (with_record m.records p (record (record_at m.records p) { life = Waiting })) p ≡ Some
+            (record (record_at m.records p) { life = Waiting }) = get_or-set_same m.records p
+            (Some (record (record_at m.records p) { life = Waiting })) None within in
             let here = there-at (with_record m.records p (record (record_at m.records p) { life = Waiting })) p (record (record_at m.records p) { life = Waiting }) at in
             let same : code ≡ kept.code = code-is code call coded ∙ sym (code-is kept.code call good.kept_is.code) in
             record {

@@ -39,7 +39,8 @@ user-fits cells at (suc count) bytes some is = by_byte (user-fits cells (at + 1)
         let there : at + k ≡ at = omega (arith, here) in
         ap is_some (ap cells there ∙ (user-named cells at byte first).1)
 
-    by_count : (byte : ℕ) → user_cell cells at ≡ Some byte → (rest : List ℕ) (count : ℕ) → user_bytes cells (at + 1) count ≡ Some rest → (0 < count → FitsIn cells (at + 1) count) → FitsIn cells at (suc count)
+    by_count : (byte : ℕ) → user_cell cells at ≡ Some byte → (rest : List ℕ) (count : ℕ) → user_bytes cells (at + 1)
+        count ≡ Some rest → (0 < count → FitsIn cells (at + 1) count) → FitsIn cells at (suc count)
     by_count byte first rest zero later fits =
         let within : at < 65536 = (user-named cells at byte first).0 in
         (omega (arith, within), λ k below. named-at byte first k (omega (arith, below)))
@@ -54,7 +55,9 @@ user-fits cells at (suc count) bytes some is = by_byte (user-fits cells (at + 1)
             let next : at + suc k ≡ at + 1 + k = omega arith in
             ap is_some (ap cells next) ∙ there.1 k (omega (arith, below))
 
-    by_byte : ((bytes : List ℕ) → 0 < count → user_bytes cells (at + 1) count ≡ Some bytes → FitsIn cells (at + 1) count) → (byte : Option ℕ) → user_cell cells at ≡ byte → (rest : Option (List ℕ)) → user_bytes cells (at + 1) count ≡ rest → byte_before byte rest ≡ Some bytes → FitsIn cells at (suc count)
+    by_byte : ((bytes : List ℕ) → 0 < count → user_bytes cells (at + 1) count ≡ Some bytes → FitsIn cells (at + 1)
+        count) → (byte : Option ℕ) → user_cell cells at ≡ byte → (rest : Option (List ℕ)) → user_bytes cells (at + 1)
+        count ≡ rest → byte_before byte rest ≡ Some bytes → FitsIn cells at (suc count)
     by_byte fits None first rest later is = absurd (none-some bytes is)
     by_byte fits (Some byte) first None later is = absurd (none-some bytes is)
     by_byte fits (Some byte) first (Some rest) later is =
@@ -76,15 +79,19 @@ line-length cells at (suc most) line is = by_byte (line-length cells (at + 1) mo
         let all : length (byte ∷ rest) ≡ length line = ap (length {A = ℕ}) is in
         record { few = omega (arith, all, few); some = λ more. omega (arith, all) }
 
-    by_rest : (byte : ℕ) (rest : Option (List ℕ)) → ((line : List ℕ) → rest ≡ Some line → LineLength most line) → option_map (λ (line : List ℕ). byte ∷ line) rest ≡ Some line → LineLength (suc most) line
+    by_rest : (byte : ℕ) (rest : Option (List ℕ)) → ((line : List ℕ) → rest ≡ Some line → LineLength most line)
+        → option_map (λ (line : List ℕ). byte ∷ line) rest ≡ Some line → LineLength (suc most) line
     by_rest byte None there is = absurd (none-some line is)
     by_rest byte (Some rest) there is =
         longer byte rest (there rest refl).few (same_Some (byte ∷ rest) line is)
 
-    by_return : ((line : List ℕ) → line_at cells (at + 1) most ≡ Some line → LineLength most line) → (byte : ℕ) (return : Bool) → (if return then Some (byte ∷ []) else option_map (λ (line : List ℕ). byte ∷ line) (line_at cells (at + 1) most)) ≡ Some line → LineLength (suc most) line
+    by_return : ((line : List ℕ) → line_at cells (at + 1) most ≡ Some line → LineLength most line)
+        → (byte : ℕ) (return : Bool) → (if return then Some (byte ∷ []) else option_map
+        (λ (line : List ℕ). byte ∷ line) (line_at cells (at + 1) most)) ≡ Some line → LineLength (suc most) line
     by_return later byte true is = longer byte [] (omega arith) (same_Some (byte ∷ []) line is)
     by_return later byte false is = by_rest byte (line_at cells (at + 1) most) later is
 
-    by_byte : ((line : List ℕ) → line_at cells (at + 1) most ≡ Some line → LineLength most line) → (byte : Option ℕ) → line_with (λ next. line_at cells next most) at byte ≡ Some line → LineLength (suc most) line
+    by_byte : ((line : List ℕ) → line_at cells (at + 1) most ≡ Some line → LineLength most line) → (byte : Option ℕ)
+        → line_with (λ next. line_at cells next most) at byte ≡ Some line → LineLength (suc most) line
     by_byte later None is = absurd (none-some line is)
     by_byte later (Some byte) is = by_return later byte (byte == RETURN) is

@@ -52,7 +52,9 @@ unfolding memory_in
 loaded-enters m file (Err refusal) loaded is = cc
 loaded-enters m file (Ok entries) loaded is = by_tests (first_entered m entries) (wants_blocks m (file_blocks file)) is
   where
-    by_tests : (first : Option Entered) (wants : Bool) → Ok loaded ≡ option_map_or (λ (first : Entered). if wants then Err E_NORAM else Ok (let r : Loaded = record { first = first; memory = with_file_entered m file entries } in r)) first (Err E_BMID) → Enters m file loaded
+    by_tests : (first : Option Entered) (wants : Bool) → Ok loaded ≡ option_map_or (λ (first : Entered). if wants then
+        Err E_NORAM else Ok (let r : Loaded = record { first = first; memory = with_file_entered m file entries } in
+        r)) first (Err E_BMID) → Enters m file loaded
     by_tests None wants is = cc
     by_tests (Some first) true is = cc
     by_tests (Some first) false is = record { entries = entries; is = ap (memory_in m) is }
@@ -94,7 +96,9 @@ aside-loaded m t p file loaded enters it =
     aside-before m t p loaded.memory (loaded-maps m.memory file loaded enters) (loaded-long m.memory file loaded enters) (loaded-sizes m.memory file loaded enters) it
 
 -- a call that goes on with the file in memory is refused, or done so
-goes-over : (m : Inner) (reading : Result ProgramFile ℕ) (next : ProgramFile → Loaded → CallResult) (result : CallResult) (So : Inner → Type 0) → ((file : ProgramFile) (loaded : Loaded) → Enters m.memory file.bytes loaded → IsOver So (next file loaded)) → GoesOnLoaded m reading next result → IsOver So result
+goes-over : (m : Inner) (reading : Result ProgramFile ℕ) (next : ProgramFile → Loaded → CallResult)
+    (result : CallResult) (So : Inner → Type 0) → ((file : ProgramFile) (loaded : Loaded) → Enters m.memory file.bytes
+    loaded → IsOver So (next file loaded)) → GoesOnLoaded m reading next result → IsOver So result
 goes-over m (Err number) next result So over is = subst (IsOver So) (sym is) tt
 goes-over m (Ok file) next result So over (Err number, loads, is) = subst (IsOver So) (sym is) tt
 goes-over m (Ok file) next result So over (Ok loaded, loads, is) =
@@ -114,14 +118,25 @@ mapped-left : (m : MemoryState) (p : ℕ) (group : List ℕ) (mapped : Mapped) �
 mapped-left m p group mapped is =
     by_slot (group_slot (map_at m p) group) (highest_free_run (map_at m p) (length group)) is
   where
-    by_slot : (slot run : Option ℕ) → option_map_or (λ (slot : ℕ). Some (let r : Mapped = record { slot = slot; memory = m } in r)) slot (option_map_or (λ (mapped : ℕ × MemoryState). Some (let r : Mapped = record { slot = mapped.0; memory = mapped.1 } in r)) (option_map (λ (first : ℕ). (first, with_map m p (with_group (map_at m p) first group))) run) None) ≡ Some mapped → MappedLeft m p mapped.memory
+    by_slot : (slot run : Option ℕ)
+        → option_map_or (λ (slot : ℕ). Some (let r : Mapped = record { slot = slot; memory = m } in r)) slot
+        (option_map_or (λ (mapped : ℕ × MemoryState). Some
+        (let r : Mapped = record { slot = mapped.0; memory = mapped.1 } in r))
+        (option_map (λ (first : ℕ). (first, with_map m p (with_group (map_at m p) first group))) run) None) ≡ Some
+        mapped → MappedLeft m p mapped.memory
     by_slot (Some slot) run is =
         subst (MappedLeft m p) (ap (λ (mapped : Mapped). mapped.memory) (same_Some _ mapped is)) (record { objects = refl; maps = λ q differ. refl })
     by_slot None (Some first) is =
-        subst (MappedLeft m p) (ap (λ (mapped : Mapped). mapped.memory) (same_Some _ mapped is)) (record { objects = refl; maps = λ q differ. map-other m p (with_group (map_at m p) first group) q differ })
+        subst (MappedLeft m p) (ap (λ (mapped : Mapped). mapped.memory) (same_Some _ mapped is))
+        (record {
+          objects = refl;
+          maps = λ q differ. map-other m p (with_group (map_at m p) first group) q differ;
+        })
     by_slot None None is = cc
 
-link-leaves : (m : Inner) (p : ℕ) (file : ProgramFile) (loaded : Loaded) (mapped : Mapped) (count : ℕ) → Enters m.memory file.bytes loaded → mapped_group loaded.memory p loaded.first.entry.group ≡ Some mapped → Leaves m p (after_link m p loaded.first mapped count)
+link-leaves : (m : Inner) (p : ℕ) (file : ProgramFile) (loaded : Loaded) (mapped : Mapped) (count : ℕ)
+    → Enters m.memory file.bytes loaded → mapped_group loaded.memory p loaded.first.entry.group ≡ Some mapped
+    → Leaves m p (after_link m p loaded.first mapped count)
 link-leaves m p file loaded mapped count enters is =
     let left = mapped-left loaded.memory p loaded.first.entry.group mapped is in (
       aside-self m (after_link m p loaded.first mapped count) p
@@ -137,7 +152,9 @@ load-over m asker old terms p result new it = over-by m p (Leaves m p) result (g
   where
     linked-first : (file : ProgramFile) (loaded : Loaded) → Enters m.memory file.bytes loaded → IsOver (Leaves m p) (links_first m p file loaded)
     linked-first file loaded enters =
-        of-needs (Leaves m p) (mapped_group loaded.memory p loaded.first.entry.group) E_MEMFUL (λ mapped. refuses (nat_le MOST_LINKS (links_at (own_at m p) mapped.slot)) E_MEMFUL (done (after_link m p loaded.first mapped (file.next - (regs_at m p).x))))
+        of-needs (Leaves m p) (mapped_group loaded.memory p loaded.first.entry.group) E_MEMFUL
+        (λ mapped. refuses (nat_le MOST_LINKS (links_at (own_at m p) mapped.slot)) E_MEMFUL
+        (done (after_link m p loaded.first mapped (file.next - (regs_at m p).x))))
         (λ mapped is. of-refuses (Leaves m p) (nat_le MOST_LINKS (links_at (own_at m p) mapped.slot)) E_MEMFUL (done (after_link m p loaded.first mapped (file.next - (regs_at m p).x)))
         (link-leaves m p file loaded mapped (file.next - (regs_at m p).x) enters is))
 
@@ -159,7 +176,9 @@ loaded-fits m p file first = by_read (parameters_of m p) refl
     by_read : (read : Option (List ℕ)) → parameters_of m p ≡ read → length (unwrap_or read []) ≤ 256 * area_pages first.entry (regs_at m p).b (regs_at m p).y
     by_read None is = omega arith
     by_read (Some bytes) is =
-        subst (λ (n : ℕ). n ≤ 256 * area_pages first.entry (regs_at m p).b (regs_at m p).y) (sym (user-length (cells_at m p) (regs_at m p).u (regs_at m p).y bytes is)) (room-of first.entry (regs_at m p).b (regs_at m p).y)
+        subst (λ (n : ℕ). n ≤ 256 * area_pages first.entry (regs_at m p).b (regs_at m p).y)
+        (sym (user-length (cells_at m p) (regs_at m p).u (regs_at m p).y bytes is))
+        (room-of first.entry (regs_at m p).b (regs_at m p).y)
 
 -- an entered module that the registers name
 module _ (m : Inner) (p : ℕ) (So : Inner → Type 0) (next : Program → CallResult) (over : (program : Program) → Fits program → IsOver So (next program)) where
@@ -201,13 +220,17 @@ pub record Child (m : Inner) (p : ℕ) (t : Inner) : Type 0 where
   pub tick : t.tick ≡ m.tick
   pub number : free_process m.records ≡ Some (regs_at t p).a
 
-module _ (m : Inner) (p : ℕ) (lives : IsLiving m.records p) (program : Program) (fits : Fits program) (child : ℕ) (free : free_process m.records ≡ Some child) (memory : MemoryState) (begins : started m.memory child program.entered.number (blocks_of_pages program.pages) ≡ Ok memory) where
+module _ (m : Inner) (p : ℕ) (lives : IsLiving m.records p) (program : Program) (fits : Fits program) (child : ℕ)
+    (free : free_process m.records ≡ Some child) (memory : MemoryState) (begins : started m.memory child
+    program.entered.number (blocks_of_pages program.pages) ≡ Ok memory) where
   abbrev made : Inner
   made = with_regs_of (with_child m p child program memory) p (forked_regs (regs_at m p) child program)
 
   begun : Begun m.memory (λ byte. Unit {0}) p child (with_parameters (linked memory program.entered.number) child program)
   begun =
-      started-kept m.memory (λ byte. Unit {0}) p child program.entered.number (blocks_of_pages program.pages) memory (parameters_at program) program.parameters (λ k byte is. tt) begins (within-area program.pages (length program.parameters) fits)
+      started-kept m.memory (λ byte. Unit {0}) p child program.entered.number (blocks_of_pages program.pages) memory
+      (parameters_at program) program.parameters (λ k byte is. tt) begins
+      (within-area program.pages (length program.parameters) fits)
 
   is-free : Free m.records child
   is-free = free-is m.records child free
@@ -275,7 +298,11 @@ module _ (m : Inner) (p : ℕ) (lives : IsLiving m.records p) (program : Program
     aside = made-aside;
     tick = refl;
     number =
-        free ∙ ap Some (sym (ap (λ (r : Record). r.regs.a) (record-put (with_child_record m.records p child program) p (record (record_at (with_child_record m.records p child program) p) { regs = forked_regs (regs_at m p) child program }) (subst (λ (n : ℕ). p < n) (sym child-long) (living-within m.records p lives)))));
+        free ∙ ap Some (sym (ap (λ (r : Record). r.regs.a) (record-put (with_child_record m.records p child program) p
+        (record (record_at (with_child_record m.records p child program) p) {
+          regs = forked_regs (regs_at m p)
+              child program;
+        }) (subst (λ (n : ℕ). p < n) (sym child-long) (living-within m.records p lives)))));
   }
 
 forks-over : (m : Inner) (p : ℕ) → IsLiving m.records p → (So : Inner → Type 0) → ((t : Inner) → Child m p t → So t) → (program : Program) → Fits program → IsOver So (forks m p program)
@@ -295,14 +322,16 @@ child-loaded : (m t : Inner) (p : ℕ) (file : List ℕ) (loaded : Loaded) → E
 child-loaded m t p file loaded enters it =
     record { aside = aside-loaded m t p file loaded enters it.aside; tick = it.tick; number = it.number }
 
-pub fork-over : (m : Inner) (asker : Asker) (old : Files) (terms p : ℕ) (result : CallResult) (new : Files) → IsLiving m.records p → ForkAttempts m asker old terms p result new → IsOver (Child m p) result
+pub fork-over : (m : Inner) (asker : Asker) (old : Files) (terms p : ℕ) (result : CallResult) (new : Files)
+    → IsLiving m.records p → ForkAttempts m asker old terms p result new → IsOver (Child m p) result
 fork-over m asker old terms p result new lives it = by_name (named_program m p) it
   where
     by_name : (named : Option Entered) → MatchOption named (StartsFile forks m asker old terms p result new) (λ named. (result ≡ f_fork m p) × (new ≡ old)) → IsOver (Child m p) result
     by_name None it =
         goes-over m it.reading (starts_first forks m p) result (Child m p)
         (λ file loaded enters. of-refuses (Child m p) (not (loaded.first.entry.info.kind == program_kind)) E_NEMOD (forks (with_memory m loaded.memory) p (loaded_program m p file loaded.first))
-        (forks-over (with_memory m loaded.memory) p lives (Child m p) (λ t child. child-loaded m t p file.bytes loaded enters child) (loaded_program m p file loaded.first) (loaded-fits m p file loaded.first)))
+        (forks-over (with_memory m loaded.memory) p lives (Child m p) (λ t child. child-loaded m t p file.bytes loaded
+        enters child) (loaded_program m p file loaded.first) (loaded-fits m p file loaded.first)))
         it.comes
     by_name (Some named) (is, same) =
         subst (IsOver (Child m p)) (sym is) (reads-over m p (Child m p) (forks m p) (forks-over m p lives (Child m p) (λ t child. child)))
@@ -322,7 +351,9 @@ module _ (m : Inner) (p : ℕ) (program : Program) (fits : Fits program) (memory
 
   anew-begun : Begun m.memory (λ byte. Unit {0}) p p (with_parameters (linked memory program.entered.number) p program)
   anew-begun =
-      started-kept m.memory (λ byte. Unit {0}) p p program.entered.number (blocks_of_pages program.pages) memory (parameters_at program) program.parameters (λ k byte is. tt) begins (within-area program.pages (length program.parameters) fits)
+      started-kept m.memory (λ byte. Unit {0}) p p program.entered.number (blocks_of_pages program.pages) memory
+      (parameters_at program) program.parameters (λ k byte is. tt) begins
+      (within-area program.pages (length program.parameters) fits)
 
   anew-records : (q : ℕ) → q ≢ p → record_of anew.records q ≡ record_of m.records q
   anew-records q differ =
@@ -357,7 +388,9 @@ chain-over m asker old terms p result new it = over-by m p (Leaves m p) result (
     by_name None it =
         goes-over m it.reading (starts_first chains m p) result (Leaves m p)
         (λ file loaded enters. of-refuses (Leaves m p) (not (loaded.first.entry.info.kind == program_kind)) E_NEMOD (chains (with_memory m loaded.memory) p (loaded_program m p file loaded.first))
-        (chains-over (with_memory m loaded.memory) p (Leaves m p) (λ t so. (aside-loaded m t p file.bytes loaded enters so.0, so.1)) (loaded_program m p file loaded.first) (loaded-fits m p file loaded.first)))
+        (chains-over (with_memory m loaded.memory) p (Leaves m p)
+        (λ t so. (aside-loaded m t p file.bytes loaded enters so.0, so.1)) (loaded_program m p file loaded.first)
+        (loaded-fits m p file loaded.first)))
         it.comes
     by_name (Some named) (is, same) =
         subst (IsOver (Leaves m p)) (sym is) (reads-over m p (Leaves m p) (chains m p) (chains-over m p (Leaves m p) (λ t so. so)))

@@ -17,14 +17,16 @@ module _ (m n : MemoryState) (sizes : KeepsSizes m n) where
   bytes-stay : (number at : ℕ) → IsSome (object_byte m.objects at number) → IsSome (object_byte n.objects at number)
   bytes-stay number at named = by_old (slice_get m.objects number) refl named
     where
-      by_byte : (old new : List ℕ) → length new ≡ length old → slice_get n.objects number ≡ Some new → (byte : Option ℕ) → slice_get old at ≡ byte → IsSome byte → IsSome (object_byte n.objects at number)
+      by_byte : (old new : List ℕ) → length new ≡ length old → slice_get n.objects number ≡ Some new
+          → (byte : Option ℕ) → slice_get old at ≡ byte → IsSome byte → IsSome (object_byte n.objects at number)
       by_byte old new same there None is some = absurd (false≢true some)
       by_byte old new same there (Some byte) is some =
           let within : at < length old = slice_get_within old at byte is in
           let here : at < length new = omega (arith, same, within) in
           ap is_some (ap (option_and_then (λ (object : List ℕ). slice_get object at)) there ∙ slice_get-get_or new at 0 here)
 
-      by_new : (old : List ℕ) → (new : Option (List ℕ)) → slice_get n.objects number ≡ new → option_map length new ≡ Some (length old) → IsSome (slice_get old at) → IsSome (object_byte n.objects at number)
+      by_new : (old : List ℕ) → (new : Option (List ℕ)) → slice_get n.objects number ≡ new → option_map length new ≡
+          Some (length old) → IsSome (slice_get old at) → IsSome (object_byte n.objects at number)
       by_new old None there same some = absurd (none-some (length old) same)
       by_new old (Some new) there same some =
           by_byte old new (same_Some (length new) (length old) same) there (slice_get old at) refl some

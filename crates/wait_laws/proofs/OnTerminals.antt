@@ -126,7 +126,9 @@ module _ (terms : ℕ) where
       not-terminal : (n m : ℕ) → Pipe n ≡ Term m → ⊥
       not-terminal n m is = cc
 
-  on-does : (call : IoCall) (caller : Caller) (io : Io) (step : IoStep) (effect : IoEffect) (before after : List TerminalState) → OnIo io → StepGives call OnIo caller io step → Does step caller io effect before after → OnIo effect.io
+  on-does : (call : IoCall) (caller : Caller) (io : Io) (step : IoStep) (effect : IoEffect)
+      (before after : List TerminalState) → OnIo io → StepGives call OnIo caller io step → Does step caller io effect
+      before after → OnIo effect.io
   on-does call caller io (refused number) effect before after on gives (is, same) =
       subst (λ (effect : IoEffect). OnIo effect.io) (sym is) on
   on-does call caller io (comes it) effect before after on gives (is, same) =
@@ -138,7 +140,9 @@ module _ (terms : ℕ) where
 
 -- ---- an attempt of a process
 
-pub on-attempt : (call : IoCall) (m : Inner) (io : Io) (p drives : ℕ) (result : CallResult) (new : Io) (before after : List TerminalState) → IoAttempts call m io drives p result new before after → AreOnTerminals (length before) io.paths → AreOnTerminals (length before) new.paths
+pub on-attempt : (call : IoCall) (m : Inner) (io : Io) (p drives : ℕ) (result : CallResult) (new : Io)
+    (before after : List TerminalState) → IoAttempts call m io drives p result new before after
+    → AreOnTerminals (length before) io.paths → AreOnTerminals (length before) new.paths
 on-attempt call m io p drives result new before after attempt on =
     subst (λ (io : Io). AreOnTerminals (length before) io.paths) (sym attempt.state)
     (on-does (length before) call (caller_of m p) io (step_of call m p io drives before) attempt.effect before after on

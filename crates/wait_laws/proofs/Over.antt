@@ -24,7 +24,9 @@ so-same m n q None map call = tt
 so-same m n q (Some r) map call = record { life = refl; regs = refl; map = map; call = call }
 
 -- where the others keep their records, their maps and their calls
-pub aside-self : (m n : Inner) (p : ℕ) → KeepsSizes m.memory n.memory → ((q : ℕ) → q ≢ p → map_at n.memory q ≡ map_at m.memory q) → ((q : ℕ) → q ≢ p → record_of n.records q ≡ record_of m.records q) → ((q : ℕ) → q ≢ p → (own_at n q).call ≡ (own_at m q).call) → length n.records ≡ length m.records → Aside m n p
+pub aside-self : (m n : Inner) (p : ℕ) → KeepsSizes m.memory n.memory → ((q : ℕ) → q ≢ p → map_at n.memory q ≡ map_at
+    m.memory q) → ((q : ℕ) → q ≢ p → record_of n.records q ≡ record_of m.records q)
+    → ((q : ℕ) → q ≢ p → (own_at n q).call ≡ (own_at m q).call) → length n.records ≡ length m.records → Aside m n p
 aside-self m n p sizes maps records calls places = record {
   sizes = sizes;
   places = places;
@@ -55,12 +57,15 @@ aside-same m p = aside-self m m p (λ object there. refl) (λ q differ. refl) (�
 -- bytes are stored where the process sees them
 pub aside-stored : (m : Inner) (p at : ℕ) (bytes : List ℕ) → Aside m (with_memory m (stored m.memory p at bytes)) p
 aside-stored m p at bytes =
-    aside-self m (with_memory m (stored m.memory p at bytes)) p (kept-written {Given = λ byte. Unit {0}} m.memory p (writes_from at bytes)).sizes (λ q differ. refl) (λ q differ. refl) (λ q differ. refl) refl
+    aside-self m (with_memory m (stored m.memory p at bytes)) p (kept-written {Given = λ byte. Unit {0}} m.memory p
+    (writes_from at bytes)).sizes (λ q differ. refl) (λ q differ. refl) (λ q differ. refl) refl
 
 -- and its registers change
 pub aside-regs : (m : Inner) (p at : ℕ) (bytes : List ℕ) (regs : Regs) → Aside m (with_regs_of (with_memory m (stored m.memory p at bytes)) p regs) p
 aside-regs m p at bytes regs =
-    aside-self m (with_regs_of (with_memory m (stored m.memory p at bytes)) p regs) p (kept-written {Given = λ byte. Unit {0}} m.memory p (writes_from at bytes)).sizes (λ q differ. refl) (λ q differ. record-other m.records p _ q differ) (λ q differ. refl) (simp length-set)
+    aside-self m (with_regs_of (with_memory m (stored m.memory p at bytes)) p regs) p
+    (kept-written {Given = λ byte. Unit {0}} m.memory p (writes_from at bytes)).sizes (λ q differ. refl)
+    (λ q differ. record-other m.records p _ q differ) (λ q differ. refl) (simp length-set)
 
 -- ---- what an attempt comes to
 
@@ -105,6 +110,7 @@ module _ (So : Inner → Type 0) where
   of-refuses true number next over = tt
   of-refuses false number next over = over
 
-  pub of-changes : (change : Result MemoryState MemoryFault) (next : MemoryState → CallResult) → ((memory : MemoryState) → change ≡ Ok memory → IsOver So (next memory)) → IsOver So (changes change next)
+  pub of-changes : (change : Result MemoryState MemoryFault) (next : MemoryState → CallResult)
+      → ((memory : MemoryState) → change ≡ Ok memory → IsOver So (next memory)) → IsOver So (changes change next)
   of-changes (Ok memory) next over = over memory refl
   of-changes (Err fault) next over = tt

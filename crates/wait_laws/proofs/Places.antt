@@ -80,7 +80,9 @@ module _ (count : ℕ) where
     on_pipe = λ pipe free. has;
   }
 
-  has-does : (call : IoCall) (caller : Caller) (io : Io) (step : IoStep) (effect : IoEffect) (before after : List TerminalState) → Has io → StepGives call Has caller io step → Does step caller io effect before after → Has effect.io
+  has-does : (call : IoCall) (caller : Caller) (io : Io) (step : IoStep) (effect : IoEffect)
+      (before after : List TerminalState) → Has io → StepGives call Has caller io step → Does step caller io effect
+      before after → Has effect.io
   has-does call caller io (refused number) effect before after has gives (is, same) =
       subst (λ (effect : IoEffect). Has effect.io) (sym is) has
   has-does call caller io (comes it) effect before after has gives (is, same) =

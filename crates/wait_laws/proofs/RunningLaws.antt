@@ -54,7 +54,9 @@ zip-length (x ∷ before) (y ∷ now) gains =
     let rest : length now ≡ length before = zip-length before now gains.1 in omega (arith, rest)
 
 -- what holds, by its parts
-pub running-then : (s t : State) → IsRunning s → AreKept t.inner t.files.io → AreInCalls t.inner t.files.io → length t.inner.records ≤ length t.files.io.calls → AreOnTerminals (length s.terms) t.files.io.paths → length t.terms ≡ length s.terms → AreKinds t.files → IsClock t.clock t.inner.tick → IsRunning t
+pub running-then : (s t : State) → IsRunning s → AreKept t.inner t.files.io → AreInCalls t.inner t.files.io
+    → length t.inner.records ≤ length t.files.io.calls → AreOnTerminals (length s.terms) t.files.io.paths
+    → length t.terms ≡ length s.terms → AreKinds t.files → IsClock t.clock t.inner.tick → IsRunning t
 running-then s t running kept in_calls places on long kinds clock = record {
   kept = kept;
   in_calls = in_calls;
@@ -105,7 +107,9 @@ sent-lives records user to signal is = by_reached (is_reached records user to) r
     first-true true other both = refl
     first-true false other both = both
 
-    by_reached : (reached : Bool) → is_reached records user to ≡ reached → is_some (if not reached then Some NoProcess else (if not (signal == wake_signal) && is_some (record_at records to).signal then Some Pending else None)) ≡ false → IsLiving records to
+    by_reached : (reached : Bool) → is_reached records user to ≡ reached
+        → is_some (if not reached then Some NoProcess else (if not (signal == wake_signal) && is_some
+        (record_at records to).signal then Some Pending else None)) ≡ false → IsLiving records to
     by_reached true there is = first-true (is_living records to) _ there
     by_reached false there is = absurd (false≢true (sym is))
 
@@ -174,7 +178,9 @@ pub record SignalsLeave (m n : Inner) : Type 0 where
   pub lives : (q : ℕ) → IsLiving m.records q → IsLiving n.records q
   pub had : (q : ℕ) (r : Record) → record_of n.records q ≡ Some r → (old : Record) × (record_of m.records q ≡ Some old)
 
-had-signalled : (records : List (Option Record)) (to : ℕ) (signal : Option ℕ) → IsLiving records to → (q : ℕ) (r : Record) → record_of (with_signal records to signal) q ≡ Some r → (old : Record) × (record_of records q ≡ Some old)
+had-signalled : (records : List (Option Record)) (to : ℕ) (signal : Option ℕ) → IsLiving records to
+    → (q : ℕ) (r : Record) → record_of (with_signal records to signal) q ≡ Some r
+    → (old : Record) × (record_of records q ≡ Some old)
 had-signalled records to signal there q r is =
     elim (cases_eq q to) [
       | inl same ↦ (record_at records to, ap (record_of records) same ∙ living-record records to there)
@@ -188,7 +194,9 @@ had-sent records user to signal q r = by_fault (is_some (send_fault records user
     by_wake there true is = (r, is)
     by_wake there false is = had-signalled records to (Some signal) there q r is
 
-    by_fault : (fault : Bool) → is_some (send_fault records user to signal) ≡ fault → record_of (if fault then records else with_sent records to signal) q ≡ Some r → (old : Record) × (record_of records q ≡ Some old)
+    by_fault : (fault : Bool) → is_some (send_fault records user to signal) ≡ fault
+        → record_of (if fault then records else with_sent records to signal) q ≡ Some r
+        → (old : Record) × (record_of records q ≡ Some old)
     by_fault true wrong is = (r, is)
     by_fault false wrong is = by_wake (sent-lives records user to signal wrong) (signal == wake_signal) is
 
@@ -266,7 +274,9 @@ arrival-left tick n old new arrives = record {
         (ap (λ (r : Record). r.life) here ∙ goes.life) (ap (λ (r : Record). r.regs) here ∙ goes.regs)
         (ap (λ (inner : Inner). (own_at inner q).call) arrives.signal ∙ ap (λ (own : Own). own.call) (own-key old.inner arrives.terminal.user arrives.answer.signal q))
         (ap (λ (io : Io). numbers_of io.paths q) arrives.io)
-        (λ at count. subst (λ (memory : MemoryState). FitsIn (seen memory q) at count) (sym (ap (λ (inner : Inner). inner.memory) arrives.signal ∙ (key-leaves old.inner arrives.terminal.user arrives.answer.signal).memory)))
+        (λ at count. subst (λ (memory : MemoryState). FitsIn (seen memory q) at count)
+        (sym (ap (λ (inner : Inner). inner.memory) arrives.signal ∙ (key-leaves old.inner arrives.terminal.user
+        arrives.answer.signal).memory)))
         (λ number opened is. ap (λ (io : Io). open_path io q number) arrives.io ∙ is) it
 
 arrivals-left : (tick n count : ℕ) (old new : Desk) → ArrivesFrom tick n count old new → DeskLeft old new
@@ -299,7 +309,8 @@ kept-same m n io records own memory all q kept is =
 
 in_calls-same : (m n : Inner) (io : Io) → n.records ≡ m.records → n.own ≡ m.own → AreInCalls m io → AreInCalls n io
 in_calls-same m n io records own all q lives waits =
-    let it : WaitsInCall m io q = all q (subst (λ (records : List (Option Record)). IsLiving records q) records lives) (sym (ap (λ (records : List (Option Record)). is_waiting (record_at records q).life) records) ∙ waits) in
+    let it : WaitsInCall m io q = all q (subst (λ (records : List (Option Record)). IsLiving records q) records lives)
+    (sym (ap (λ (records : List (Option Record)). is_waiting (record_at records q).life) records) ∙ waits) in
     record {
       code = it.code;
       made = ap (λ (owns : List Own). (slice_index_or owns q no_own).call) own ∙ it.made;
@@ -332,7 +343,10 @@ tick-running s t (desk, arrives, is) running =
     running-then s t running
     (subst (λ (t : State). AreKept t.inner t.files.io) (sym is) (left.kept (kept-same s.inner (desk_of s).inner s.files.io refl refl refl running.kept)))
     (subst (λ (t : State). AreInCalls t.inner t.files.io) (sym is) (left.in_calls (in_calls-same s.inner (desk_of s).inner s.files.io refl refl running.in_calls)))
-    (subst (λ (t : State). length t.inner.records ≤ length t.files.io.calls) (sym is) (subst (λ (n : ℕ). n ≤ length desk.io.calls) (sym left.long) (subst (λ (calls : List (Option Kept)). length s.inner.records ≤ length calls) (sym left.calls) running.places)))
+    (subst (λ (t : State). length t.inner.records ≤ length t.files.io.calls) (sym is)
+    (subst (λ (n : ℕ). n ≤ length desk.io.calls) (sym left.long)
+    (subst (λ (calls : List (Option Kept)). length s.inner.records ≤ length calls) (sym left.calls)
+    running.places)))
     (subst (λ (t : State). AreOnTerminals (length s.terms) t.files.io.paths) (sym is) (subst (AreOnTerminals (length s.terms)) (sym left.paths) running.on))
     (zip-length s.terms t.terms (tick-gains s t (desk, arrives, is)).terminals)
     (subst (λ (t : State). AreKinds t.files) (sym is) (kinds-same s.files desk.io left.paths running.kinds))
@@ -367,7 +381,8 @@ first-runs : (regs : Regs) (p : ℕ) → IsWaiting (with_regs (after_make (repli
 first-runs regs p waiting =
     elim (cases_eq p 2) [
       | inl same ↦ waits-runs (put-waits first 2 (record (record_at first 2) { regs = regs }) (subst (IsWaiting (with_regs first 2 regs)) same waiting))
-      | inr apart ↦ false≢true (sym (ap (record_passes (λ r. not (has_ended r.life))) (get_or-set_other first 2 p (Some (record (record_at first 2) { regs = regs })) None apart ∙ none apart)) ∙ waiting.0)
+      | inr apart ↦ false≢true (sym (ap (record_passes (λ r. not (has_ended r.life))) (get_or-set_other first 2 p
+          (Some (record (record_at first 2) { regs = regs })) None apart ∙ none apart)) ∙ waiting.0)
     ]
   where
     first : List (Option Record)

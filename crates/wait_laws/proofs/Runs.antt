@@ -32,7 +32,9 @@ steps-running left s (m ∷ ms) t (some, end, event, steps) running =
     by_going false others next (none, is) =
         subst (λ (ms : List State). AllRunning ms t) (sym none) (last-of m t is next)
 
-chosen-running : (n : ℕ) (chosen : State) (states : List State) (end : SliceEnd) (t : State) (who : Option ℕ) → MatchOption who ((end ≡ Idle) × (states ≡ []) × (t ≡ chosen)) (λ p. (end ≡ Ran) × Steps n chosen states t) → IsRunning chosen → AllRunning states t
+chosen-running : (n : ℕ) (chosen : State) (states : List State) (end : SliceEnd) (t : State) (who : Option ℕ)
+    → MatchOption who ((end ≡ Idle) × (states ≡ []) × (t ≡ chosen)) (λ p. (end ≡ Ran) × Steps n chosen states t)
+    → IsRunning chosen → AllRunning states t
 chosen-running n chosen states end t None (idle, none, is) running =
     subst (λ (states : List State). AllRunning states t) (sym none) (last-of chosen t is running)
 chosen-running n chosen states end t (Some p) (ran, steps) running = steps-running n chosen states t steps running
@@ -47,7 +49,11 @@ run-running [] written s t states (none, nothing, is) running =
 run-running (n ∷ ns) written s t states run running =
     by_living (has_living s) (λ rest m later after now. run-running ns rest m t later after now) run
   where
-    by_living : (living : Bool) → ((rest : List ℕ) (m : State) (later : List State) → Run ns m later rest t → IsRunning m → AllRunning later t) → MatchBool living ((end : SliceEnd) × (m : State) × (first later : List State) × (rest : List ℕ) × Slice n s first end m × (states ≡ first ++ later) × (written ≡ console_bytes m.terms ++ rest) × Run ns (record m { terms = terminals_emptied m.terms }) later rest t) ((states ≡ []) × (written ≡ []) × (t ≡ s)) → AllRunning states t
+    by_living : (living : Bool) → ((rest : List ℕ) (m : State) (later : List State) → Run ns m later rest t
+        → IsRunning m → AllRunning later t) → MatchBool living ((end : SliceEnd) × (m : State) ×
+        (first later : List State) × (rest : List ℕ) × Slice n s first end m × (states ≡ first ++ later) ×
+        (written ≡ console_bytes m.terms ++ rest) × Run ns (record m { terms = terminals_emptied m.terms }) later rest
+        t) ((states ≡ []) × (written ≡ []) × (t ≡ s)) → AllRunning states t
     by_living false others (none, nothing, is) =
         subst (λ (states : List State). AllRunning states t) (sym none) (last-of s t is running)
     by_living true others (end, m, first, later, rest, slice, all, bytes, after) =

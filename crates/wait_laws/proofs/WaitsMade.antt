@@ -131,7 +131,9 @@ module _ (m : Inner) (p : ℕ) where
 
   abbrev making : Program → ℕ → CallResult
   making program child =
-      changes (started m.memory child program.entered.number (blocks_of_pages program.pages)) (λ memory. done (with_regs_of (with_child m p child program memory) p (forked_regs (regs_at m p) child program)))
+      changes (started m.memory child program.entered.number (blocks_of_pages program.pages))
+      (λ memory. done (with_regs_of (with_child m p child program memory) p (forked_regs (regs_at m p) child
+      program)))
 
   abbrev forking : Program → CallResult
   forking program =
@@ -142,7 +144,9 @@ module _ (m : Inner) (p : ℕ) where
       program-has forking
       (λ program. of-needs (free_process m.records) E_PRCFUL (λ child. refuses (nat_lt most_pages program.pages) E_MEMFUL (making program child))
       (λ child. of-refuses (nat_lt most_pages program.pages) E_MEMFUL (making program child)
-      (of-changes (started m.memory child program.entered.number (blocks_of_pages program.pages)) (λ memory. done (with_regs_of (with_child m p child program memory) p (forked_regs (regs_at m p) child program)))
+      (of-changes (started m.memory child program.entered.number (blocks_of_pages program.pages))
+      (λ memory. done (with_regs_of (with_child m p child program memory) p (forked_regs (regs_at m p) child
+      program)))
       (λ memory. tt))))
 
   abbrev anew : Program → MemoryState → CallResult
@@ -168,20 +172,28 @@ module _ (m : Inner) (p : ℕ) where
       by_test : (test : Bool) → HasItsCall (if test then done (with_regs_of m p (size_regs (regs_at m p) (own_at m p).size)) else sets_pages m p (page_count (d_of (regs_at m p))))
       by_test true = tt
       by_test false =
-          of-refuses (nat_lt most_pages (page_count (d_of (regs_at m p)))) E_MEMFUL (changes (resized m.memory p (blocks_of_pages (page_count (d_of (regs_at m p))))) (λ memory. done (with_size m p (256 * page_count (d_of (regs_at m p))) memory)))
+          of-refuses (nat_lt most_pages (page_count (d_of (regs_at m p)))) E_MEMFUL
+          (changes (resized m.memory p (blocks_of_pages (page_count (d_of (regs_at m p)))))
+          (λ memory. done (with_size m p (256 * page_count (d_of (regs_at m p))) memory)))
           (of-changes (resized m.memory p (blocks_of_pages (page_count (d_of (regs_at m p))))) (λ memory. done (with_size m p (256 * page_count (d_of (regs_at m p))) memory)) (λ memory. tt))
 
   crc-has : HasItsCall (f_crc m p)
   crc-has =
-      of-needs (user_bytes (cells_at m p) (regs_at m p).x (regs_at m p).y) E_BPADDR (λ bytes. needs (user_bytes (cells_at m p) (regs_at m p).u 3) E_BPADDR (λ accumulator. done (with_memory m (stored m.memory p (regs_at m p).u (crc_continued accumulator bytes)))))
-      (λ bytes. of-needs (user_bytes (cells_at m p) (regs_at m p).u 3) E_BPADDR (λ accumulator. done (with_memory m (stored m.memory p (regs_at m p).u (crc_continued accumulator bytes)))) (λ accumulator. tt))
+      of-needs (user_bytes (cells_at m p) (regs_at m p).x (regs_at m p).y) E_BPADDR
+      (λ bytes. needs (user_bytes (cells_at m p) (regs_at m p).u 3) E_BPADDR
+      (λ accumulator. done (with_memory m (stored m.memory p (regs_at m p).u (crc_continued accumulator bytes)))))
+      (λ bytes. of-needs (user_bytes (cells_at m p) (regs_at m p).u 3) E_BPADDR
+      (λ accumulator. done (with_memory m (stored m.memory p (regs_at m p).u (crc_continued accumulator bytes))))
+      (λ accumulator. tt))
 
   prsnam-has : HasItsCall (f_prsnam m p)
   prsnam-has = at-first (past_slash (cells_at m p) (regs_at m p).x)
     where
       at-first : (first : ℕ) → HasItsCall (parses_name m p first)
       at-first first =
-          of-name (name_at (cells_at m p) first) E_BNAM (λ name. needs (user_cell (cells_at m p) (first + length name)) E_BPADDR (λ next. done (with_regs_of m p (name_regs (regs_at m p) first (length name) next))))
+          of-name (name_at (cells_at m p) first) E_BNAM
+          (λ name. needs (user_cell (cells_at m p) (first + length name)) E_BPADDR
+          (λ next. done (with_regs_of m p (name_regs (regs_at m p) first (length name) next))))
           (λ name. of-needs (user_cell (cells_at m p) (first + length name)) E_BPADDR (λ next. done (with_regs_of m p (name_regs (regs_at m p) first (length name) next))) (λ next. tt))
 
   cmpnam-has : HasItsCall (f_cmpnam m p)
@@ -223,7 +235,10 @@ module _ (m : Inner) (p : ℕ) where
             | inr past ↦ ap (λ (own : Own). own.call) (get_or_past (slice_set m.own p asleep) p no_own (rw length-set past) ∙ sym (get_or_past m.own p no_own past))
           ]
 
-      by_tests : (waiting wake : Bool) → HasItsCall (if waiting then (if wake then done (with_regs_of m p (record (regs_at m p) { x = ticks_left m.tick (own_at m p) })) else waits m) else falls_asleep m p)
+      by_tests : (waiting wake : Bool)
+          → HasItsCall (if waiting then
+          (if wake then done (with_regs_of m p (record (regs_at m p) { x = ticks_left m.tick (own_at m p) })) else
+          waits m) else falls_asleep m p)
       by_tests true true = tt
       by_tests true false = refl
       by_tests false wake = stays

@@ -10,7 +10,8 @@ use Rattle.block_map.proofs.Pools.{IsPool-given_all}
 use Rattle.block_map.proofs.map.give_back.Goals as goal
 
 pub give_place-requires : goal.give_place-requires
-give_place-requires c = gives_next c.args.pool.now c.loop-place.pool c.args.places.now c.loop-place.places c.loop-place.place-index c.requires.live c.requires.once c.loop-place.invariant.kept c.loop-place.invariant.given
+give_place-requires c = gives_next c.args.pool.now c.loop-place.pool c.args.places.now c.loop-place.places
+    c.loop-place.place-index c.requires.live c.requires.once c.loop-place.invariant.kept c.loop-place.invariant.given
 
 pub loop-place-preserved : goal.loop-place-preserved
 loop-place-preserved c =

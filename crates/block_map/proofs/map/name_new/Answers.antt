@@ -16,7 +16,8 @@ loop-place-preserved c =
     let places = c.loop-place.places in
     let i = c.loop-place.place-index in
     let some : 0 < free_block_count c.loop-place.pool = omega arith in
-    let more = AreNew-more places i c.args.pool.now c.loop-place.pool c.take.new.self c.take.result (omega arith) c.take.ensures.none c.take.ensures.was_free c.take.ensures.one_block some c.loop-place.invariant.new in
+    let more = AreNew-more places i c.args.pool.now c.loop-place.pool c.take.new.self c.take.result (omega arith)
+    c.take.ensures.none c.take.ensures.was_free c.take.ensures.one_block some c.loop-place.invariant.new in
     record {
       new = more.0;
       enough = omega (arith, length-set places i c.take.result, more.1);

@@ -34,4 +34,7 @@ pub returns-clause-taken : goal.returns-clause-taken
 returns-clause-taken g c =
     let so_far = c.loop-number.invariant in
     let before = drive_views (λ table. (g.dyn-1.0.entry table).1) c.args.devices.now.drives.items in
-    taken-all c.loop-number.number _ before _ (rw length-map (omega (arith, so_far.within, c.len-number-end.ensures, c.args.devices.now.drives.ok.0))) (rw length-map (omega (arith, so_far.count, c.requires, c.args.devices.now.drives.ok.0))) so_far.left so_far.taken
+    taken-all c.loop-number.number _ before _
+    (rw length-map (omega (arith, so_far.within, c.len-number-end.ensures, c.args.devices.now.drives.ok.0)))
+    (rw length-map (omega (arith, so_far.count, c.requires, c.args.devices.now.drives.ok.0))) so_far.left
+    so_far.taken

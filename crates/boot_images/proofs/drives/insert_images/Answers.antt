@@ -19,6 +19,8 @@ loop-number-preserved g c =
       count = rw (moved.replaced, length-set) so_far.count;
       behind = rw (moved.replaced, next) (behind-more c.loop-number.number c.loop-number.images c.args.images.now c.new.result.items so_far.behind);
       drives = put.drives ∙ so_far.drives;
-      held = rw next (holds-more c.loop-number.number c.args.images.now c.replace-image.result.items _ _ _ (still-there c.loop-number.number c.loop-number.images c.args.images.now c.replace-image.result.items so_far.behind moved.handed_out) so_far.held put.drive);
+      held = rw next (holds-more c.loop-number.number c.args.images.now c.replace-image.result.items _ _ _
+          (still-there c.loop-number.number c.loop-number.images c.args.images.now c.replace-image.result.items
+          so_far.behind moved.handed_out) so_far.held put.drive);
       terms = put.terms_kept ∙ so_far.terms;
     }

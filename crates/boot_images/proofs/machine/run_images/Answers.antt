@@ -33,13 +33,48 @@ pub returns-clause-run : goal.returns-clause-run
 returns-clause-run g c =
     let before = world_of g.H.Host c.args.host.now (outside (λ table. (g.dyn-1.0.entry table).1) c.args.devices.now.drives.items (λ table. (g.dyn-2.0.entry table).1) c.args.devices.now.terms.items) in
     let inside = outside (λ table. (g.dyn-1.0.entry table).1) c.insert_images.new.devices.drives.items (λ table. (g.dyn-2.0.entry table).1) c.insert_images.new.devices.terms.items in
-    let ran = world_of g.H.Host c.run_machine-end.new.host (outside (λ table. (g.dyn-1.0.entry table).1) c.run_machine-end.new.devices.drives.items (λ table. (g.dyn-2.0.entry table).1) c.run_machine-end.new.devices.terms.items) in
+    let ran = world_of g.H.Host c.run_machine-end.new.host (outside (λ table. (g.dyn-1.0.entry table).1)
+    c.run_machine-end.new.devices.drives.items (λ table. (g.dyn-2.0.entry table).1)
+    c.run_machine-end.new.devices.terms.items) in
     let left = outside (λ table. (g.dyn-1.0.entry table).1) c.eject_images.new.devices.drives.items (λ table. (g.dyn-2.0.entry table).1) c.eject_images.new.devices.terms.items in
-    let given : Setup = record { file = c.as_slice.result.now; blocks = c.args.start.now.blocks; time = c.args.start.now.time; images = c.args.images.now; keys = c.as_slice-2.result.now; slices = c.as_slice-3.result.now } in
-    let same : given ≡ setup_of c.args.start.now c.args.images.now = λ i. record { file = c.as_slice.ensures.value i; blocks = c.args.start.now.blocks; time = c.args.start.now.time; images = c.args.images.now; keys = c.as_slice-2.ensures.value i; slices = c.as_slice-3.ensures.value i } in
-    let items : length c.run_machine-end.new.devices.drives.items ≡ length c.args.devices.now.drives.items = omega (arith, c.run_machine-end.ensures.drives, c.insert_images.ensures.drives, c.run_machine-end.new.devices.drives.ok.0, c.args.devices.now.drives.ok.0) in
-    let many = length-map c.run_machine-end.new.devices.drives.items (boxed_drive_view (λ table. (g.dyn-1.0.entry table).1)) ∙ items ∙ sym (length-map c.args.devices.now.drives.items (boxed_drive_view (λ table. (g.dyn-1.0.entry table).1))) in
-    let have : HaveImages c.len.result c.args.images.now (drive_views (λ table. (g.dyn-1.0.entry table).1) c.insert_images.new.devices.drives.items) = rw (c.len.ensures, c.insert_images.ensures.count, c.insert_images.ensures.held) (have-images c.args.images.now _ c.requires.devices.room.enough) in
+    let given : Setup = record {
+      file = c.as_slice.result.now;
+      blocks = c.args.start.now.blocks;
+      time =
+          c.args.start.now.time;
+      images = c.args.images.now;
+      keys = c.as_slice-2.result.now;
+      slices =
+          c.as_slice-3.result.now;
+    } in
+    let same : given ≡ setup_of c.args.start.now c.args.images.now = λ i. record {
+      file = c.as_slice.ensures.value i;
+      blocks = c.args.start.now.blocks;
+      time = c.args.start.now.time;
+      images = c.args.images.now;
+      keys =
+          c.as_slice-2.ensures.value i;
+      slices = c.as_slice-3.ensures.value i;
+    } in
+    let items : length c.run_machine-end.new.devices.drives.items ≡ length c.args.devices.now.drives.items = omega (
+      arith,
+      c.run_machine-end.ensures.drives,
+      c.insert_images.ensures.drives,
+      c.run_machine-end.new.devices.drives.ok.0,
+      c.args.devices.now.drives.ok.0,
+    ) in
+    let many = length-map c.run_machine-end.new.devices.drives.items
+    (boxed_drive_view (λ table. (g.dyn-1.0.entry table).1)) ∙ items ∙ sym
+    (length-map c.args.devices.now.drives.items (boxed_drive_view (λ table. (g.dyn-1.0.entry table).1))) in
+    let have : HaveImages c.len.result c.args.images.now (drive_views (λ table. (g.dyn-1.0.entry table).1)
+    c.insert_images.new.devices.drives.items) = rw (
+      c.len.ensures,
+      c.insert_images.ensures.count,
+      c.insert_images.ensures.held,
+    ) (have-images c.args.images.now _ c.requires.devices.room.enough) in
     let terms_put = ap (λ terms. terminal_states (λ table. (g.dyn-2.0.entry table).1) terms.items) c.insert_images.ensures.terms_kept in
     let terms_left = ap (λ terms. terminal_states (λ table. (g.dyn-2.0.entry table).1) terms.items) c.eject_images.ensures.terms_kept in
-    runs-between (setup_of c.args.start.now c.args.images.now) given before ran inside left c.eject_images.new.images c.requires.devices.room (c.eject_images.ensures.count ∙ c.insert_images.ensures.count) many c.eject_images.ensures.taken c.run_machine-end.result same c.insert_images.ensures.held terms_put terms_left (c.run_machine-end.ensures.call c.args.images.now have)
+    runs-between (setup_of c.args.start.now c.args.images.now) given before ran inside left c.eject_images.new.images
+    c.requires.devices.room (c.eject_images.ensures.count ∙ c.insert_images.ensures.count) many
+    c.eject_images.ensures.taken c.run_machine-end.result same c.insert_images.ensures.held terms_put terms_left
+    (c.run_machine-end.ensures.call c.args.images.now have)

@@ -39,8 +39,12 @@ returns-in_err-write_out-clause-passed g c =
       some =
           on-error c.from_residual.result _ (some-here c.loop-n.n c.take_from-bytes.result.items _ _ passed (rw (← c.as_slice.ensures.value) c.in_err-write_out.ensures.some));
       left = left-on_error c.from_residual.result (c.loop-n.n + 1) _ _ passed.emptied;
-      output_fault = failed-then c.from_residual.result (world_of g.H.Host c.args.host.now nowhere) (world_of g.H.Host c.loop-n.host nowhere) (world_of g.H.Host c.write_out.new.host nowhere) so_far.count (search rules) (search rules) (search rules);
-      no_fault = kept-then c.from_residual.result (world_of g.H.Host c.args.host.now nowhere) (world_of g.H.Host c.loop-n.host nowhere) (world_of g.H.Host c.write_out.new.host nowhere) so_far.count (search rules) (search rules) (search rules);
+      output_fault = failed-then c.from_residual.result (world_of g.H.Host c.args.host.now nowhere)
+          (world_of g.H.Host c.loop-n.host nowhere) (world_of g.H.Host c.write_out.new.host nowhere) so_far.count
+          (search rules) (search rules) (search rules);
+      no_fault = kept-then c.from_residual.result (world_of g.H.Host c.args.host.now nowhere)
+          (world_of g.H.Host c.loop-n.host nowhere) (world_of g.H.Host c.write_out.new.host nowhere) so_far.count
+          (search rules) (search rules) (search rules);
       files_kept = wrote.files_kept ∙ so_far.files;
     }
 

@@ -28,70 +28,155 @@ run_slices-requires-clause-stands g c =
     let setup = setup_with c.args.config c.args.file.now images c.args.keys.now c.args.slices.now in
     let before = world_of g.H.Host c.args.host.now (outside (λ table. (g.dyn-1.0.entry table).1) c.args.devices.now.drives.items (λ table. (g.dyn-2.0.entry table).1) c.args.devices.now.terms.items) in
     let drives = ap (λ drives. drive_views (λ table. (g.dyn-1.0.entry table).1) drives.items) c.in-Ok-load_keys.ensures.drives_kept in
-    let terms = c.in-Ok-load_keys.ensures.loaded ∙ ap (λ terms. loaded c.args.keys.now terms) (ap (λ terms. terminal_states (λ table. (g.dyn-2.0.entry table).1) terms.items) c.in-Ok.ensures.terms_kept) in
-    stands-loaded setup c.in-Ok.kernel before (outside (λ table. (g.dyn-1.0.entry table).1) c.new.new.devices.drives.items (λ table. (g.dyn-2.0.entry table).1) c.new.new.devices.terms.items) (outside (λ table. (g.dyn-1.0.entry table).1) c.load_keys.new.devices.drives.items (λ table. (g.dyn-2.0.entry table).1) c.load_keys.new.devices.terms.items) c.requires.terminals c.requires.time c.in-Ok.ensures.starts.drives.moves drives c.in-Ok.ensures.starts.drives.media terms (c.in-Ok.ensures.starts.stands images have)
+    let terms = c.in-Ok-load_keys.ensures.loaded ∙ ap (λ terms. loaded c.args.keys.now terms)
+    (ap (λ terms. terminal_states (λ table. (g.dyn-2.0.entry table).1) terms.items) c.in-Ok.ensures.terms_kept) in
+    stands-loaded setup c.in-Ok.kernel before (outside (λ table. (g.dyn-1.0.entry table).1)
+    c.new.new.devices.drives.items (λ table. (g.dyn-2.0.entry table).1) c.new.new.devices.terms.items)
+    (outside (λ table. (g.dyn-1.0.entry table).1) c.load_keys.new.devices.drives.items
+    (λ table. (g.dyn-2.0.entry table).1) c.load_keys.new.devices.terms.items) c.requires.terminals c.requires.time
+    c.in-Ok.ensures.starts.drives.moves drives c.in-Ok.ensures.starts.drives.media terms
+    (c.in-Ok.ensures.starts.stands images have)
 
 pub returns-in-Err-clause-call : goal.returns-in-Err-clause-call
 returns-in-Err-clause-call g c = λ images have.
     let setup = setup_with c.args.config c.args.file.now images c.args.keys.now c.args.slices.now in
     let before = world_of g.H.Host c.args.host.now (outside (λ table. (g.dyn-1.0.entry table).1) c.args.devices.now.drives.items (λ table. (g.dyn-2.0.entry table).1) c.args.devices.now.terms.items) in
     let started = outside (λ table. (g.dyn-1.0.entry table).1) c.new.new.devices.drives.items (λ table. (g.dyn-2.0.entry table).1) c.new.new.devices.terms.items in
-    let untouched = where-refused c.in-Err.error (λ same. ap (λ devices. outside (λ table. (g.dyn-1.0.entry table).1) devices.drives.items (λ table. (g.dyn-2.0.entry table).1) devices.terms.items) same) c.in-Err.ensures.untouched in
-    subst (MachineCall setup before (world_of g.H.Host c.args.host.now started)) (sym c.end_of_start.ensures) (called-refused setup c.args.config before started c.in-Err.error refl have.as_many c.in-Err.ensures.starts.refused untouched c.in-Err.ensures.starts.drives (drives-started c.args.config.images _ _ _ c.requires.volumes c.in-Err.ensures.starts.drives) (ap (λ terms. terminal_states (λ table. (g.dyn-2.0.entry table).1) terms.items) c.in-Err.ensures.terms_kept))
+    let untouched = where-refused c.in-Err.error (λ same. ap (λ devices. outside (λ table. (g.dyn-1.0.entry table).1)
+    devices.drives.items (λ table. (g.dyn-2.0.entry table).1) devices.terms.items) same)
+    c.in-Err.ensures.untouched in
+    subst (MachineCall setup before (world_of g.H.Host c.args.host.now started)) (sym c.end_of_start.ensures)
+    (called-refused setup c.args.config before started c.in-Err.error refl have.as_many
+    c.in-Err.ensures.starts.refused untouched c.in-Err.ensures.starts.drives (drives-started c.args.config.images
+    _ _ _ c.requires.volumes c.in-Err.ensures.starts.drives)
+    (ap (λ terms. terminal_states (λ table. (g.dyn-2.0.entry table).1) terms.items) c.in-Err.ensures.terms_kept))
 
 pub returns-in-Err-load_keys-clause-call : goal.returns-in-Err-load_keys-clause-call
 returns-in-Err-load_keys-clause-call g c = λ images have.
     let setup = setup_with c.args.config c.args.file.now images c.args.keys.now c.args.slices.now in
     let before = world_of g.H.Host c.args.host.now (outside (λ table. (g.dyn-1.0.entry table).1) c.args.devices.now.drives.items (λ table. (g.dyn-2.0.entry table).1) c.args.devices.now.terms.items) in
-    let terms = ap (λ devices. terminal_states (λ table. (g.dyn-2.0.entry table).1) devices.terms.items) c.in-Err-load_keys.ensures.kept ∙ ap (λ terms. terminal_states (λ table. (g.dyn-2.0.entry table).1) terms.items) c.in-Ok.ensures.terms_kept in
+    let terms = ap (λ devices. terminal_states (λ table. (g.dyn-2.0.entry table).1) devices.terms.items)
+    c.in-Err-load_keys.ensures.kept ∙ ap (λ terms. terminal_states (λ table. (g.dyn-2.0.entry table).1)
+    terms.items) c.in-Ok.ensures.terms_kept in
     let drives = ap (λ devices. drive_states (drive_views (λ table. (g.dyn-1.0.entry table).1) devices.drives.items)) c.in-Err-load_keys.ensures.kept in
     let started = drive_views (λ table. (g.dyn-1.0.entry table).1) c.new.new.devices.drives.items in
     let media = ap (λ devices. media_of (drive_views (λ table. (g.dyn-1.0.entry table).1) devices.drives.items)) c.in-Err-load_keys.ensures.kept
-    ∙ media-kept before.devices.drives started (drives-started c.args.config.images _ before.devices.drives started c.requires.volumes c.in-Ok.ensures.starts.drives) c.in-Ok.ensures.starts.drives.media in
-    called-nothing setup before (outside (λ table. (g.dyn-1.0.entry table).1) c.load_keys.new.devices.drives.items (λ table. (g.dyn-2.0.entry table).1) c.load_keys.new.devices.terms.items) (subst (NoneFailed (drive_states before.devices.drives)) (sym drives) c.in-Ok.ensures.starts.drives.moves) media terms
+    ∙ media-kept before.devices.drives started (drives-started c.args.config.images _ before.devices.drives started
+    c.requires.volumes c.in-Ok.ensures.starts.drives) c.in-Ok.ensures.starts.drives.media in
+    called-nothing setup before (outside (λ table. (g.dyn-1.0.entry table).1) c.load_keys.new.devices.drives.items
+    (λ table. (g.dyn-2.0.entry table).1) c.load_keys.new.devices.terms.items)
+    (subst (NoneFailed (drive_states before.devices.drives)) (sym drives) c.in-Ok.ensures.starts.drives.moves)
+    media terms
 
 pub returns-in-Ok-run_slices-clause-call : goal.returns-in-Ok-run_slices-clause-call
 returns-in-Ok-run_slices-clause-call g c = λ images have.
     let setup = setup_with c.args.config c.args.file.now images c.args.keys.now c.args.slices.now in
     let before = world_of g.H.Host c.args.host.now (outside (λ table. (g.dyn-1.0.entry table).1) c.args.devices.now.drives.items (λ table. (g.dyn-2.0.entry table).1) c.args.devices.now.terms.items) in
     let drives = ap (λ drives. drive_views (λ table. (g.dyn-1.0.entry table).1) drives.items) c.in-Ok-load_keys.ensures.drives_kept in
-    let terms = c.in-Ok-load_keys.ensures.loaded ∙ ap (λ terms. loaded c.args.keys.now terms) (ap (λ terms. terminal_states (λ table. (g.dyn-2.0.entry table).1) terms.items) c.in-Ok.ensures.terms_kept) in
-    called-whole setup c.in-Ok.kernel before (outside (λ table. (g.dyn-1.0.entry table).1) c.new.new.devices.drives.items (λ table. (g.dyn-2.0.entry table).1) c.new.new.devices.terms.items) (outside (λ table. (g.dyn-1.0.entry table).1) c.load_keys.new.devices.drives.items (λ table. (g.dyn-2.0.entry table).1) c.load_keys.new.devices.terms.items) c.requires.terminals c.requires.time c.in-Ok.ensures.starts.drives.moves drives c.in-Ok.ensures.starts.drives.media terms (c.in-Ok.ensures.starts.stands images have) _ _ _ c.living.result c.ticks.result c.run_end.result c.in-Ok-run_slices.ensures.ran (λ t tied. c.living.ensures _ t tied) (λ t tied. c.ticks.ensures.machine _ t tied) c.run_end.ensures.idle c.run_end.ensures.lives
+    let terms = c.in-Ok-load_keys.ensures.loaded ∙ ap (λ terms. loaded c.args.keys.now terms)
+    (ap (λ terms. terminal_states (λ table. (g.dyn-2.0.entry table).1) terms.items) c.in-Ok.ensures.terms_kept) in
+    called-whole setup c.in-Ok.kernel before (outside (λ table. (g.dyn-1.0.entry table).1)
+    c.new.new.devices.drives.items (λ table. (g.dyn-2.0.entry table).1) c.new.new.devices.terms.items)
+    (outside (λ table. (g.dyn-1.0.entry table).1) c.load_keys.new.devices.drives.items
+    (λ table. (g.dyn-2.0.entry table).1) c.load_keys.new.devices.terms.items) c.requires.terminals c.requires.time
+    c.in-Ok.ensures.starts.drives.moves drives c.in-Ok.ensures.starts.drives.media terms
+    (c.in-Ok.ensures.starts.stands images have) _ _ _ c.living.result c.ticks.result c.run_end.result
+    c.in-Ok-run_slices.ensures.ran (λ t tied. c.living.ensures _ t tied) (λ t tied. c.ticks.ensures.machine _ t
+    tied) c.run_end.ensures.idle c.run_end.ensures.lives
 
 pub returns-in-Err-Output-clause-call : goal.returns-in-Err-Output-clause-call
 returns-in-Err-Output-clause-call g c = λ images have.
     let setup = setup_with c.args.config c.args.file.now images c.args.keys.now c.args.slices.now in
     let before = world_of g.H.Host c.args.host.now (outside (λ table. (g.dyn-1.0.entry table).1) c.args.devices.now.drives.items (λ table. (g.dyn-2.0.entry table).1) c.args.devices.now.terms.items) in
     let drives = ap (λ drives. drive_views (λ table. (g.dyn-1.0.entry table).1) drives.items) c.in-Ok-load_keys.ensures.drives_kept in
-    let terms = c.in-Ok-load_keys.ensures.loaded ∙ ap (λ terms. loaded c.args.keys.now terms) (ap (λ terms. terminal_states (λ table. (g.dyn-2.0.entry table).1) terms.items) c.in-Ok.ensures.terms_kept) in
-    called-output setup c.in-Ok.kernel before (outside (λ table. (g.dyn-1.0.entry table).1) c.new.new.devices.drives.items (λ table. (g.dyn-2.0.entry table).1) c.new.new.devices.terms.items) (outside (λ table. (g.dyn-1.0.entry table).1) c.load_keys.new.devices.drives.items (λ table. (g.dyn-2.0.entry table).1) c.load_keys.new.devices.terms.items) c.requires.terminals c.requires.time c.in-Ok.ensures.starts.drives.moves drives c.in-Ok.ensures.starts.drives.media terms (c.in-Ok.ensures.starts.stands images have) _ _ (rw c.in-Err-Output.field-0-is at c.in-Err-Output.ensures.ran)
+    let terms = c.in-Ok-load_keys.ensures.loaded ∙ ap (λ terms. loaded c.args.keys.now terms)
+    (ap (λ terms. terminal_states (λ table. (g.dyn-2.0.entry table).1) terms.items) c.in-Ok.ensures.terms_kept) in
+    called-output setup c.in-Ok.kernel before (outside (λ table. (g.dyn-1.0.entry table).1)
+    c.new.new.devices.drives.items (λ table. (g.dyn-2.0.entry table).1) c.new.new.devices.terms.items)
+    (outside (λ table. (g.dyn-1.0.entry table).1) c.load_keys.new.devices.drives.items
+    (λ table. (g.dyn-2.0.entry table).1) c.load_keys.new.devices.terms.items) c.requires.terminals c.requires.time
+    c.in-Ok.ensures.starts.drives.moves drives c.in-Ok.ensures.starts.drives.media terms
+    (c.in-Ok.ensures.starts.stands images have) _ _ (rw c.in-Err-Output.field-0-is at c.in-Err-Output.ensures.ran)
 
 pub returns-clause-call : goal.returns-clause-call
 returns-clause-call g c = λ images have.
     let setup = setup_with c.args.config c.args.file.now images c.args.keys.now c.args.slices.now in
     let before = world_of g.H.Host c.args.host.now (outside (λ table. (g.dyn-1.0.entry table).1) c.args.devices.now.drives.items (λ table. (g.dyn-2.0.entry table).1) c.args.devices.now.terms.items) in
     let drives = ap (λ drives. drive_views (λ table. (g.dyn-1.0.entry table).1) drives.items) c.in-Ok-load_keys.ensures.drives_kept in
-    let terms = c.in-Ok-load_keys.ensures.loaded ∙ ap (λ terms. loaded c.args.keys.now terms) (ap (λ terms. terminal_states (λ table. (g.dyn-2.0.entry table).1) terms.items) c.in-Ok.ensures.terms_kept) in
-    called-without_memory setup c.in-Ok.kernel before (outside (λ table. (g.dyn-1.0.entry table).1) c.new.new.devices.drives.items (λ table. (g.dyn-2.0.entry table).1) c.new.new.devices.terms.items) (outside (λ table. (g.dyn-1.0.entry table).1) c.load_keys.new.devices.drives.items (λ table. (g.dyn-2.0.entry table).1) c.load_keys.new.devices.terms.items) c.requires.terminals c.requires.time c.in-Ok.ensures.starts.drives.moves drives c.in-Ok.ensures.starts.drives.media terms (c.in-Ok.ensures.starts.stands images have) _ _ (rw c.in-Err-NoMemory.field-0-is at c.in-Err-NoMemory.ensures.ran)
+    let terms = c.in-Ok-load_keys.ensures.loaded ∙ ap (λ terms. loaded c.args.keys.now terms)
+    (ap (λ terms. terminal_states (λ table. (g.dyn-2.0.entry table).1) terms.items) c.in-Ok.ensures.terms_kept) in
+    called-without_memory setup c.in-Ok.kernel before (outside (λ table. (g.dyn-1.0.entry table).1)
+    c.new.new.devices.drives.items (λ table. (g.dyn-2.0.entry table).1) c.new.new.devices.terms.items)
+    (outside (λ table. (g.dyn-1.0.entry table).1) c.load_keys.new.devices.drives.items
+    (λ table. (g.dyn-2.0.entry table).1) c.load_keys.new.devices.terms.items) c.requires.terminals c.requires.time
+    c.in-Ok.ensures.starts.drives.moves drives c.in-Ok.ensures.starts.drives.media terms
+    (c.in-Ok.ensures.starts.stands images have) _ _ (rw c.in-Err-NoMemory.field-0-is at
+    c.in-Err-NoMemory.ensures.ran)
 
 -- ---- as many drives
 
 pub returns-in-Err-clause-drives : goal.returns-in-Err-clause-drives
 returns-in-Err-clause-drives g c =
-    omega (arith, drives-counted (λ table. (g.dyn-1.0.entry table).1) c.args.config.images _ c.args.devices.now.drives.items c.new.new.devices.drives.items c.requires.volumes c.in-Err.ensures.starts.drives, c.args.devices.now.drives.ok.0, c.new.new.devices.drives.ok.0)
+    omega (
+      arith,
+      drives-counted (λ table. (g.dyn-1.0.entry table).1) c.args.config.images _
+          c.args.devices.now.drives.items c.new.new.devices.drives.items c.requires.volumes
+          c.in-Err.ensures.starts.drives,
+      c.args.devices.now.drives.ok.0,
+      c.new.new.devices.drives.ok.0,
+    )
 
 pub returns-in-Err-load_keys-clause-drives : goal.returns-in-Err-load_keys-clause-drives
 returns-in-Err-load_keys-clause-drives g c =
-    omega (arith, drives-counted (λ table. (g.dyn-1.0.entry table).1) c.args.config.images _ c.args.devices.now.drives.items c.new.new.devices.drives.items c.requires.volumes c.in-Ok.ensures.starts.drives, c.args.devices.now.drives.ok.0, c.new.new.devices.drives.ok.0, ap (λ devices. vec_len devices.drives) c.in-Err-load_keys.ensures.kept)
+    omega (
+      arith,
+      drives-counted (λ table. (g.dyn-1.0.entry table).1) c.args.config.images _
+          c.args.devices.now.drives.items c.new.new.devices.drives.items c.requires.volumes
+          c.in-Ok.ensures.starts.drives,
+      c.args.devices.now.drives.ok.0,
+      c.new.new.devices.drives.ok.0,
+      ap
+          (λ devices. vec_len devices.drives) c.in-Err-load_keys.ensures.kept,
+    )
 
 pub returns-in-Ok-run_slices-clause-drives : goal.returns-in-Ok-run_slices-clause-drives
 returns-in-Ok-run_slices-clause-drives g c =
-    omega (arith, drives-counted (λ table. (g.dyn-1.0.entry table).1) c.args.config.images _ c.args.devices.now.drives.items c.new.new.devices.drives.items c.requires.volumes c.in-Ok.ensures.starts.drives, c.args.devices.now.drives.ok.0, c.new.new.devices.drives.ok.0, ap vec_len c.in-Ok-load_keys.ensures.drives_kept, c.in-Ok-run_slices.ensures.drives)
+    omega (
+      arith,
+      drives-counted (λ table. (g.dyn-1.0.entry table).1) c.args.config.images _
+          c.args.devices.now.drives.items c.new.new.devices.drives.items c.requires.volumes
+          c.in-Ok.ensures.starts.drives,
+      c.args.devices.now.drives.ok.0,
+      c.new.new.devices.drives.ok.0,
+      ap vec_len
+          c.in-Ok-load_keys.ensures.drives_kept,
+      c.in-Ok-run_slices.ensures.drives,
+    )
 
 pub returns-in-Err-Output-clause-drives : goal.returns-in-Err-Output-clause-drives
 returns-in-Err-Output-clause-drives g c =
-    omega (arith, drives-counted (λ table. (g.dyn-1.0.entry table).1) c.args.config.images _ c.args.devices.now.drives.items c.new.new.devices.drives.items c.requires.volumes c.in-Ok.ensures.starts.drives, c.args.devices.now.drives.ok.0, c.new.new.devices.drives.ok.0, ap vec_len c.in-Ok-load_keys.ensures.drives_kept, c.in-Err-Output.ensures.drives)
+    omega (
+      arith,
+      drives-counted (λ table. (g.dyn-1.0.entry table).1) c.args.config.images _
+          c.args.devices.now.drives.items c.new.new.devices.drives.items c.requires.volumes
+          c.in-Ok.ensures.starts.drives,
+      c.args.devices.now.drives.ok.0,
+      c.new.new.devices.drives.ok.0,
+      ap vec_len
+          c.in-Ok-load_keys.ensures.drives_kept,
+      c.in-Err-Output.ensures.drives,
+    )
 
 pub returns-clause-drives : goal.returns-clause-drives
 returns-clause-drives g c =
-    omega (arith, drives-counted (λ table. (g.dyn-1.0.entry table).1) c.args.config.images _ c.args.devices.now.drives.items c.new.new.devices.drives.items c.requires.volumes c.in-Ok.ensures.starts.drives, c.args.devices.now.drives.ok.0, c.new.new.devices.drives.ok.0, ap vec_len c.in-Ok-load_keys.ensures.drives_kept, c.in-Err-NoMemory.ensures.drives)
+    omega (
+      arith,
+      drives-counted (λ table. (g.dyn-1.0.entry table).1) c.args.config.images _
+          c.args.devices.now.drives.items c.new.new.devices.drives.items c.requires.volumes
+          c.in-Ok.ensures.starts.drives,
+      c.args.devices.now.drives.ok.0,
+      c.new.new.devices.drives.ok.0,
+      ap vec_len
+          c.in-Ok-load_keys.ensures.drives_kept,
+      c.in-Err-NoMemory.ensures.drives,
+    )

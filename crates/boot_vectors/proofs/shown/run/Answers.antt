@@ -7,5 +7,14 @@ use Rattle.boot_vectors.proofs.shown.run.Goals as goal
 pub run_with-requires : goal.run_with-requires
 run_with-requires c =
     let none : length c.new-drives.result.items ≡ 0 = rw c.new-drives.ensures.items in
-    let four : length c.add_drive-4.new.drives.items ≡ 4 = omega (arith, none, c.in_ok-add_drive.ensures.count, c.in_ok-add_drive-2.ensures.count, c.in_ok-add_drive-3.ensures.count, c.in_ok-add_drive-4.ensures.count) in
-    four-drives _ c.add_drive-4.new.drives.items four (c.in_ok-add_drive-4.ensures.empty (c.in_ok-add_drive-3.ensures.empty (c.in_ok-add_drive-2.ensures.empty (c.in_ok-add_drive.ensures.empty (rw c.new-drives.ensures.items (All-nil IsEmpty))))))
+    let four : length c.add_drive-4.new.drives.items ≡ 4 = omega (
+      arith,
+      none,
+      c.in_ok-add_drive.ensures.count,
+      c.in_ok-add_drive-2.ensures.count,
+      c.in_ok-add_drive-3.ensures.count,
+      c.in_ok-add_drive-4.ensures.count,
+    ) in
+    four-drives _ c.add_drive-4.new.drives.items four (c.in_ok-add_drive-4.ensures.empty
+    (c.in_ok-add_drive-3.ensures.empty (c.in_ok-add_drive-2.ensures.empty (c.in_ok-add_drive.ensures.empty
+    (rw c.new-drives.ensures.items (All-nil IsEmpty))))))

@@ -12,7 +12,8 @@ use Rattle.command_files.proofs.files.read_images.Goals as goal
 pub returns-in_err-image-clause-ended : goal.returns-in_err-image-clause-ended
 returns-in_err-image-clause-ended g c =
     let gave = err_from_is_err_and c.from_residual.result c.from_residual.ensures.1 in
-    rw (gave.1, gave.2) (λ devices. stops-after (run_file_name c.args.run.now) _ _ _ _ (c.loop-place.invariant.kept devices) (c.in_err-image.ensures.ended devices (run_file_name c.args.run.now) c.word.ensures))
+    rw (gave.1, gave.2) (λ devices. stops-after (run_file_name c.args.run.now) _ _ _ _ (c.loop-place.invariant.kept
+    devices) (c.in_err-image.ensures.ended devices (run_file_name c.args.run.now) c.word.ensures))
 
 pub returns-in-Err-clause-ended : goal.returns-in-Err-clause-ended
 returns-in-Err-clause-ended g c devices =
@@ -28,7 +29,10 @@ loop-place-preserved g c =
     record {
       within = omega arith;
       count = rw (pushed, length-append, so_far.count) (omega arith);
-      contents = rw (pushed, next) (images-more _ c.args.run.now.files c.loop-place.images c.loop-place.place c.word.result.now c.in_ok-image.image.items c.word.ensures so_far.contents (subst (λ told. IfSome told (λ files. c.in_ok-image.image.items ≡ file_contents files c.word.result.now)) same c.in_ok-image.ensures.contents));
+      contents = rw (pushed, next) (images-more _ c.args.run.now.files c.loop-place.images c.loop-place.place
+          c.word.result.now c.in_ok-image.image.items c.word.ensures so_far.contents
+          (subst (λ told. IfSome told (λ files. c.in_ok-image.image.items ≡ file_contents files c.word.result.now))
+          same c.in_ok-image.ensures.contents));
       kept = λ devices. c.in_ok-image.ensures.kept devices ∙ so_far.kept devices;
       notes = rw next (read-one c.loop-place.place c.args.run.now.files c.word.result.now c.word.ensures _ _ _ so_far.notes c.in_ok-image.ensures.noted);
     }
@@ -39,7 +43,8 @@ pub returns-in_err-image-clause-stopped : goal.returns-in_err-image-clause-stopp
 returns-in_err-image-clause-stopped g c =
     let run = c.args.run.now in
     let gave = err_from_is_err_and c.from_residual.result c.from_residual.ensures.1 in
-    rw (gave.1, gave.2) (stop-at c.loop-place.place run.files c.word.result.now c.word.ensures (run_file_name run) _ _ _ _ c.loop-place.invariant.notes (c.in_err-image.ensures.stopped (run_file_name run) c.word.ensures))
+    rw (gave.1, gave.2) (stop-at c.loop-place.place run.files c.word.result.now c.word.ensures (run_file_name run) _ _
+    _ _ c.loop-place.invariant.notes (c.in_err-image.ensures.stopped (run_file_name run) c.word.ensures))
 
 pub returns-in-Err-clause-stopped : goal.returns-in-Err-clause-stopped
 returns-in-Err-clause-stopped g c =

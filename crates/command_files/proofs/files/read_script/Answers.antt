@@ -8,7 +8,9 @@ use Rattle.command_files.proofs.files.read_script.Goals as goal
 
 pub returns-in-Some-clause-ended : goal.returns-in-Some-clause-ended
 returns-in-Some-clause-ended g c =
-    stopped-as c.read_input.result Script _ c.args.run.now.script (λ devices. world_of g.H.Host c.args.host.now devices) (λ devices. world_of g.H.Host c.read_input.new.host devices) (run_file_name c.args.run.now) refl (cc) c.read_input.ensures.ended
+    stopped-as c.read_input.result Script _ c.args.run.now.script (λ devices. world_of g.H.Host c.args.host.now
+    devices) (λ devices. world_of g.H.Host c.read_input.new.host devices) (run_file_name c.args.run.now) refl (cc)
+    c.read_input.ensures.ended
 
 pub returns-in-Some-clause-noted : goal.returns-in-Some-clause-noted
 returns-in-Some-clause-noted g c = script-read c.read_input.result c.args.run.now _ (cc) _ _ c.read_input.ensures.noted

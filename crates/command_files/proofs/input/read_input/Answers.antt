@@ -11,7 +11,9 @@ returns-in-Ok-clause-noted g c =
 pub returns-in-Err-Failed-clause-stopped : goal.returns-in-Err-Failed-clause-stopped
 returns-in-Err-Failed-clause-stopped g c name_of named =
     let read = c.in-Err-Failed.ensures in
-    stop-failed name_of _ _ c.args.input c.args.name.now named (noted-read c.args.name.now _ _ (rw (c.in-Err-Failed.field-0-is, c.text.ensures) at read.read_noted) read.written_kept read.err_kept read.err_count_kept)
+    stop-failed name_of _ _ c.args.input c.args.name.now named (noted-read c.args.name.now _ _
+    (rw (c.in-Err-Failed.field-0-is, c.text.ensures) at read.read_noted) read.written_kept read.err_kept
+    read.err_count_kept)
 
 pub returns-in-Err-OutOfMemory-clause-stopped : goal.returns-in-Err-OutOfMemory-clause-stopped
 returns-in-Err-OutOfMemory-clause-stopped g c name_of named =

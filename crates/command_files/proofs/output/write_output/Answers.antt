@@ -11,11 +11,16 @@ returns-clause-wrote g c devices =
     let wrote = c.write_file.ensures in
     let before = world_of g.H.Host c.args.host.now devices in
     let after = world_of g.H.Host c.write_file.new.self devices in
-    subst (λ (name : List ℕ). WritesOutput name c.args.bytes.now c.write_file.result before after) c.text.ensures (wrote-output c.text.result.now c.args.bytes.now before after wrote.others_kept wrote.prefix_written wrote.out_kept refl c.write_file.result wrote.written wrote.fault_counted wrote.fault_named wrote.fault_in_write wrote.count_kept wrote.name_kept wrote.read_kept)
+    subst (λ (name : List ℕ). WritesOutput name c.args.bytes.now c.write_file.result before after) c.text.ensures
+    (wrote-output c.text.result.now c.args.bytes.now before after wrote.others_kept wrote.prefix_written
+    wrote.out_kept refl c.write_file.result wrote.written wrote.fault_counted wrote.fault_named
+    wrote.fault_in_write wrote.count_kept wrote.name_kept wrote.read_kept)
 
 pub returns-clause-noted : goal.returns-clause-noted
 returns-clause-noted g c =
     let wrote = c.write_file.ensures in
     let before = notes_of g.H.Host c.args.host.now in
     let after = notes_of g.H.Host c.write_file.new.self in
-    subst (λ (name : List ℕ). NotesOutput name c.write_file.result before after) c.text.ensures (noted-output c.text.result.now before after wrote.reads_kept wrote.err_kept wrote.err_count_kept c.write_file.result wrote.write_noted)
+    subst (λ (name : List ℕ). NotesOutput name c.write_file.result before after) c.text.ensures
+    (noted-output c.text.result.now before after wrote.reads_kept wrote.err_kept wrote.err_count_kept
+    c.write_file.result wrote.write_noted)

@@ -19,7 +19,8 @@ returns-in-Err-clause-call g c =
 pub returns-in-Err-accept_images-clause-call : goal.returns-in-Err-accept_images-clause-call
 returns-in-Err-accept_images-clause-call g c =
     let devices = outside (λ table. (g.dyn-1.0.entry table).1) c.args.devices.now.drives.items (λ table. (g.dyn-2.0.entry table).1) c.args.devices.now.terms.items in
-    console-refused c.args.boot.now c.args.console.now.typed _ _ _ c.in-Err-accept_images.end c.in-Ok.images (c.in-Ok.ensures.kept devices) c.in-Ok.ensures.contents c.in-Err-accept_images.ensures.refused
+    console-refused c.args.boot.now c.args.console.now.typed _ _ _ c.in-Err-accept_images.end c.in-Ok.images
+    (c.in-Ok.ensures.kept devices) c.in-Ok.ensures.contents c.in-Err-accept_images.ensures.refused
 
 pub returns-in-OfRun-clause-call : goal.returns-in-OfRun-clause-call
 returns-in-OfRun-clause-call g c =
@@ -32,8 +33,12 @@ returns-in-OfRun-clause-call g c =
     let before = world_of g.H.Host c.args.host.now devices in
     let read = world_of g.H.Host c.read_images.new.host devices in
     let mid = world_of g.H.Host c.run_on_images.new.host left in
-    let ran = subst (λ world. RunsConsole (boot_setup c.args.boot.now file c.in-Ok.images typed) typed c.run_on_images.new.images (OfRun c.in-OfRun.end) from to world mid) (c.in-Ok.ensures.kept devices) c.in-OfRun.ensures.run in
-    console-ended c.args.boot.now typed file c.in-Ok.images c.run_on_images.new.images from to before mid _ c.in-OfRun.end c.write_back.result c.in-Ok.ensures.count c.in-Ok-accept_images.ensures.well_formed c.in-Ok-accept_images.ensures.bytes c.in-Ok.ensures.contents ran (c.write_back.ensures.ended left)
+    let ran = subst (λ world. RunsConsole (boot_setup c.args.boot.now file c.in-Ok.images typed) typed
+    c.run_on_images.new.images (OfRun c.in-OfRun.end) from to world mid) (c.in-Ok.ensures.kept devices)
+    c.in-OfRun.ensures.run in
+    console-ended c.args.boot.now typed file c.in-Ok.images c.run_on_images.new.images from to before mid _
+    c.in-OfRun.end c.write_back.result c.in-Ok.ensures.count c.in-Ok-accept_images.ensures.well_formed
+    c.in-Ok-accept_images.ensures.bytes c.in-Ok.ensures.contents ran (c.write_back.ensures.ended left)
 
 pub returns-clause-call : goal.returns-clause-call
 returns-clause-call g c =
@@ -45,8 +50,12 @@ returns-clause-call g c =
     let to = keyboard_state g.K.Keyboard c.run_on_images.new.console.keyboard in
     let before = world_of g.H.Host c.args.host.now devices in
     let mid = world_of g.H.Host c.run_on_images.new.host left in
-    let ran = subst (λ world. RunsConsole (boot_setup c.args.boot.now file c.in-Ok.images typed) typed c.run_on_images.new.images (LineLost c.in-LineLost.field-0) from to world mid) (c.in-Ok.ensures.kept devices) c.in-LineLost.ensures.run in
-    console-lost c.args.boot.now typed file c.in-Ok.images c.run_on_images.new.images from to before mid c.in-Ok-accept_images.ensures.well_formed c.in-Ok-accept_images.ensures.bytes c.in-Ok.ensures.contents c.in-LineLost.field-0 ran
+    let ran = subst (λ world. RunsConsole (boot_setup c.args.boot.now file c.in-Ok.images typed) typed
+    c.run_on_images.new.images (LineLost c.in-LineLost.field-0) from to world mid) (c.in-Ok.ensures.kept devices)
+    c.in-LineLost.ensures.run in
+    console-lost c.args.boot.now typed file c.in-Ok.images c.run_on_images.new.images from to before mid
+    c.in-Ok-accept_images.ensures.well_formed c.in-Ok-accept_images.ensures.bytes c.in-Ok.ensures.contents
+    c.in-LineLost.field-0 ran
 
 -- ---- the names
 
@@ -64,13 +73,23 @@ pub returns-in-OfRun-clause-noted : goal.returns-in-OfRun-clause-noted
 returns-in-OfRun-clause-noted g c =
     let left = outside (λ table. (g.dyn-1.0.entry table).1) c.run_on_images.new.devices.drives.items (λ table. (g.dyn-2.0.entry table).1) c.run_on_images.new.devices.terms.items in
     let back = c.write_back.ensures.noted in
-    let behind = behind-end c.args.boot.now.files c.run_on_images.new.images c.in-OfRun.end c.write_back.result (world_of g.H.Host c.run_on_images.new.host left) (world_of g.H.Host c.write_back.new.host left) (c.write_back.ensures.ended left) in
-    let read : HasRead c.args.boot.now.files (notes_of g.H.Host c.args.host.now) (notes_of g.H.Host c.run_on_images.new.host) = record { is = c.in-OfRun.ensures.notes_kept ∙ c.in-Ok.ensures.noted.is } in
+    let behind = behind-end c.args.boot.now.files c.run_on_images.new.images c.in-OfRun.end c.write_back.result
+    (world_of g.H.Host c.run_on_images.new.host left) (world_of g.H.Host c.write_back.new.host left)
+    (c.write_back.ensures.ended left) in
+    let read : HasRead c.args.boot.now.files (notes_of g.H.Host c.args.host.now)
+    (notes_of g.H.Host c.run_on_images.new.host) = record {
+      is = c.in-OfRun.ensures.notes_kept ∙
+          c.in-Ok.ensures.noted.is;
+    } in
     notes-after c.args.boot.now c.write_back.result _ _ _ behind read back.written back.writes back.noted
 
 pub returns-clause-noted : goal.returns-clause-noted
 returns-clause-noted g c =
-    let read : HasRead c.args.boot.now.files (notes_of g.H.Host c.args.host.now) (notes_of g.H.Host c.run_on_images.new.host) = record { is = c.in-LineLost.ensures.notes_kept ∙ c.in-Ok.ensures.noted.is } in
+    let read : HasRead c.args.boot.now.files (notes_of g.H.Host c.args.host.now)
+    (notes_of g.H.Host c.run_on_images.new.host) = record {
+      is = c.in-LineLost.ensures.notes_kept ∙
+          c.in-Ok.ensures.noted.is;
+    } in
     notes-after c.args.boot.now NoMemory _ _ _ tt read [] (c.args.boot.now.files, refl) (record { is = still-written _ })
 
 -- ---- the drives

@@ -45,7 +45,8 @@ returns-in-Ok-write_output-2-clause-recorded g c devices =
     let before = world_of g.H.Host c.args.host.now devices in
     let mid = world_of g.H.Host c.write_output.new.host devices in
     let after = world_of g.H.Host c.write_output-2.new.host devices in
-    record-written boot typed _ c.as_slice.result.now c.as_slice-2.result.now (cc) fits give _ _ before mid after (c.in-Ok-write_output.ensures.wrote devices) (c.in-Ok-write_output-2.ensures.wrote devices)
+    record-written boot typed _ c.as_slice.result.now c.as_slice-2.result.now (cc) fits give _ _ before mid after
+    (c.in-Ok-write_output.ensures.wrote devices) (c.in-Ok-write_output-2.ensures.wrote devices)
 
 pub returns-in-Ok-write_output-2-clause-silent : goal.returns-in-Ok-write_output-2-clause-silent
 returns-in-Ok-write_output-2-clause-silent g c devices =
@@ -60,7 +61,9 @@ returns-in-Err-Failed-write_output-clause-recorded g c devices =
     let before = world_of g.H.Host c.args.host.now devices in
     let mid = world_of g.H.Host c.write_output.new.host devices in
     let after = world_of g.H.Host c.write_output-2.new.host devices in
-    slices-failed boot typed _ c.as_slice.result.now c.as_slice-2.result.now (cc) fits give _ before mid after (c.in-Ok-write_output.ensures.wrote devices) (rw c.in-Err-Failed-write_output.field-0-is at (c.in-Err-Failed-write_output.ensures.wrote devices))
+    slices-failed boot typed _ c.as_slice.result.now c.as_slice-2.result.now (cc) fits give _ before mid after
+    (c.in-Ok-write_output.ensures.wrote devices) (rw c.in-Err-Failed-write_output.field-0-is at
+    (c.in-Err-Failed-write_output.ensures.wrote devices))
 
 pub returns-in-Err-Failed-write_output-clause-silent : goal.returns-in-Err-Failed-write_output-clause-silent
 returns-in-Err-Failed-write_output-clause-silent g c devices =
@@ -75,7 +78,9 @@ returns-clause-recorded g c devices =
     let before = world_of g.H.Host c.args.host.now devices in
     let mid = world_of g.H.Host c.write_output.new.host devices in
     let after = world_of g.H.Host c.write_output-2.new.host devices in
-    slices-memory boot typed _ c.as_slice.result.now c.as_slice-2.result.now (cc) fits give _ before mid after (c.in-Ok-write_output.ensures.wrote devices) (rw c.in-Err-OutOfMemory-write_output.field-0-is at (c.in-Err-OutOfMemory-write_output.ensures.wrote devices))
+    slices-memory boot typed _ c.as_slice.result.now c.as_slice-2.result.now (cc) fits give _ before mid after
+    (c.in-Ok-write_output.ensures.wrote devices) (rw c.in-Err-OutOfMemory-write_output.field-0-is at
+    (c.in-Err-OutOfMemory-write_output.ensures.wrote devices))
 
 pub returns-clause-silent : goal.returns-clause-silent
 returns-clause-silent g c devices =

@@ -21,7 +21,15 @@ returns-clause-call g c =
     let half = notes_of g.H.Host c.boot_console-end.new.host in
     let done = notes_of g.H.Host c.record_session-recording.new.host in
     let notes = notes_of g.H.Host c.report_session.new.host in
-    console-reported c.args.words.now c.boot_console-end.new.console.typed from to before mid between after noted half done notes c.boot_console-end.result c.record_session-recording.result c.console_number.result (err-only g.H.Host c.record_session-recording.new.host c.report_session.new.host left c.report_session.ensures.others) c.console_number.ensures c.boot_console-end.ensures.call c.boot_console-end.ensures.noted (c.record_session-recording.ensures.recorded left) c.record_session-recording.ensures.noted (reported g.H.Host (console_line c.args.words.now.boot c.boot_console-end.result c.record_session-recording.result) c.report_session.result c.record_session-recording.new.host c.report_session.new.host c.report_session.ensures)
+    console-reported c.args.words.now c.boot_console-end.new.console.typed from to before mid between after noted half
+    done notes c.boot_console-end.result c.record_session-recording.result c.console_number.result
+    (err-only g.H.Host c.record_session-recording.new.host c.report_session.new.host left
+    c.report_session.ensures.others) c.console_number.ensures c.boot_console-end.ensures.call
+    c.boot_console-end.ensures.noted (c.record_session-recording.ensures.recorded left)
+    c.record_session-recording.ensures.noted
+    (reported g.H.Host (console_line c.args.words.now.boot c.boot_console-end.result
+    c.record_session-recording.result) c.report_session.result c.record_session-recording.new.host
+    c.report_session.new.host c.report_session.ensures)
 
 pub record_session-recording-requires : goal.record_session-recording-requires
 record_session-recording-requires g c = c.requires.words.files.script

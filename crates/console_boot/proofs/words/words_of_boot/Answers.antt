@@ -11,7 +11,9 @@ returns c =
     let given = c.args.given.now in
     let one : map string_bytes c.push.new.self.items ≡ codes "boot" ∷ [] = search rules in
     let six : map string_bytes c.push-2.new.self.items ≡ map string_bytes c.push_value-2.new.words.items ++ codes "--" ∷ []
-    = ap (map string_bytes) c.in_ok-push-2.ensures.items ∙ map_push string_bytes c.push_value-2.new.words.items _ ∙ ap (λ (word : List ℕ). map string_bytes c.push_value-2.new.words.items ++ word ∷ []) c.in_ok-from_str-2.ensures.ok in
+    = ap (map string_bytes) c.in_ok-push-2.ensures.items ∙ map_push string_bytes c.push_value-2.new.words.items _ ∙ ap
+    (λ (word : List ℕ). map string_bytes c.push_value-2.new.words.items ++ word ∷ [])
+    c.in_ok-from_str-2.ensures.ok in
     let name : c.unwrap_or-name.result.now ≡ record_name given = named-so (λ word. word.now) c.value.result _ c.unwrap_or-name.result _ c.unwrap_or-name.ensures c.value.ensures in
     let blocks : map string_bytes c.push_value.new.words.items ≡ map string_bytes c.push_option-2.new.words.items ++ option_words (codes "--blocks=") (value_of given (codes "blocks"))
     = c.in_ok-push_value.ensures ∙ ap (λ (value : Option (List ℕ)). map string_bytes c.push_option-2.new.words.items ++ option_words (codes "--blocks=") value) c.value-2.ensures in

@@ -9,9 +9,13 @@ returns-clause-none g c took =
 
 pub returns-clause-left : goal.returns-clause-left
 returns-clause-left g c refused none =
-    c.takes_keys.ensures.was_loaded refused (sym (first-keys _ c.args.devices.now.terms.items c.index_mut.result.now (omega (arith, c.requires, c.args.devices.now.terms.ok.0)) c.index_mut.ensures.value) ∙ none)
+    c.takes_keys.ensures.was_loaded refused (sym (first-keys _ c.args.devices.now.terms.items c.index_mut.result.now
+    (omega (arith, c.requires, c.args.devices.now.terms.ok.0)) c.index_mut.ensures.value) ∙ none)
 
 pub returns-clause-kept : goal.returns-clause-kept
 returns-clause-kept g c =
     let took = c.takes_keys.ensures in
-    first-kept _ _ (ChangesOne-set _ _ c.args.devices.now.terms.items 0 c.index_mut.result.now c.takes_keys.new.term (omega (arith, c.requires, c.args.devices.now.terms.ok.0)) c.index_mut.ensures.value (keeps-keys c.takes_keys.result _ _ (λ here. took.loaded here ∙ c.new.ensures.items) took.was_empty took.kept took.put_kept took.faults_kept))
+    first-kept _ _ (ChangesOne-set _ _ c.args.devices.now.terms.items 0 c.index_mut.result.now c.takes_keys.new.term
+    (omega (arith, c.requires, c.args.devices.now.terms.ok.0)) c.index_mut.ensures.value
+    (keeps-keys c.takes_keys.result _ _ (λ here. took.loaded here ∙ c.new.ensures.items) took.was_empty took.kept
+    took.put_kept took.faults_kept))

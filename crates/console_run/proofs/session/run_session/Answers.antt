@@ -31,7 +31,10 @@ pub run_turns-requires-clause-stands : goal.run_turns-requires-clause-stands
 run_turns-requires-clause-stands g c =
     let drives = drive_views (λ table. (g.dyn-1.0.entry table).1) c.args.devices.now.drives.items in
     let (images, have) = images-there c.args.config.images drives c.requires.machine.volumes in
-    stands-begun (setup_with c.args.config c.args.file.now images [] []) c.in-Ok.kernel (outside (λ table. (g.dyn-1.0.entry table).1) c.new.new.devices.drives.items (λ table. (g.dyn-2.0.entry table).1) c.new.new.devices.terms.items) (c.in-Ok.ensures.starts.stands images have)
+    stands-begun (setup_with c.args.config c.args.file.now images [] []) c.in-Ok.kernel
+    (outside (λ table. (g.dyn-1.0.entry table).1) c.new.new.devices.drives.items
+    (λ table. (g.dyn-2.0.entry table).1) c.new.new.devices.terms.items) (c.in-Ok.ensures.starts.stands images
+    have)
 
 -- ---- the start was refused
 
@@ -39,13 +42,20 @@ pub returns-in-Err-clause-call : goal.returns-in-Err-clause-call
 returns-in-Err-clause-call g c =
     let before = world_of g.H.Host c.args.host.now (outside (λ table. (g.dyn-1.0.entry table).1) c.args.devices.now.drives.items (λ table. (g.dyn-2.0.entry table).1) c.args.devices.now.terms.items) in
     let started = outside (λ table. (g.dyn-1.0.entry table).1) c.new.new.devices.drives.items (λ table. (g.dyn-2.0.entry table).1) c.new.new.devices.terms.items in
-    let untouched = where-refused c.in-Err.error (λ same. ap (λ devices. outside (λ table. (g.dyn-1.0.entry table).1) devices.drives.items (λ table. (g.dyn-2.0.entry table).1) devices.terms.items) same) c.in-Err.ensures.untouched in
+    let untouched = where-refused c.in-Err.error (λ same. ap (λ devices. outside (λ table. (g.dyn-1.0.entry table).1)
+    devices.drives.items (λ table. (g.dyn-2.0.entry table).1) devices.terms.items) same)
+    c.in-Err.ensures.untouched in
     let typed = c.args.console.now.typed in
     λ images have.
     let setup = setup_with c.args.config c.args.file.now images (kept_keys typed) (kept_slices typed) in
     record {
       machine =
-          subst (MachineCall setup before (world_of g.H.Host c.args.host.now started)) (sym c.end_of_start.ensures) (called-refused setup c.args.config before started c.in-Err.error refl have.as_many c.in-Err.ensures.starts.refused untouched c.in-Err.ensures.starts.drives (drives-started c.args.config.images _ _ _ c.requires.machine.volumes c.in-Err.ensures.starts.drives) (ap (λ terms. terminal_states (λ table. (g.dyn-2.0.entry table).1) terms.items) c.in-Err.ensures.terms_kept));
+          subst (MachineCall setup before (world_of g.H.Host c.args.host.now started)) (sym c.end_of_start.ensures)
+          (called-refused setup c.args.config before started c.in-Err.error refl have.as_many
+          c.in-Err.ensures.starts.refused untouched c.in-Err.ensures.starts.drives
+          (drives-started c.args.config.images _ _ _ c.requires.machine.volumes c.in-Err.ensures.starts.drives)
+          (ap (λ terms. terminal_states (λ table. (g.dyn-2.0.entry table).1) terms.items)
+          c.in-Err.ensures.terms_kept));
       at_line = tt;
       keyboard = rw c.end_of_start.ensures (asks-none c.in-Err.error _);
       session = λ told. rw c.end_of_start.ensures (never-began _ c.in-Err.error _ _);
@@ -59,7 +69,9 @@ returns-in-Over-clause-call g c =
     let started = outside (λ table. (g.dyn-1.0.entry table).1) c.new.new.devices.drives.items (λ table. (g.dyn-2.0.entry table).1) c.new.new.devices.terms.items in
     let starts = c.in-Ok.ensures.starts in
     let kept = ap (λ terms. terminal_states (λ table. (g.dyn-2.0.entry table).1) terms.items) c.in-Ok.ensures.terms_kept in
-    let after = world_of g.H.Host c.run_turns.new.host (outside (λ table. (g.dyn-1.0.entry table).1) c.run_turns.new.devices.drives.items (λ table. (g.dyn-2.0.entry table).1) c.run_turns.new.devices.terms.items) in
+    let after = world_of g.H.Host c.run_turns.new.host (outside (λ table. (g.dyn-1.0.entry table).1)
+    c.run_turns.new.devices.drives.items (λ table. (g.dyn-2.0.entry table).1) c.run_turns.new.devices.terms.items)
+    in
     let typed = c.run_turns.new.console.typed in
     let from = keyboard_state g.K.Keyboard c.args.console.now.keyboard in
     let to = keyboard_state g.K.Keyboard c.run_turns.new.console.keyboard in
@@ -69,10 +81,17 @@ returns-in-Over-clause-call g c =
     let setup = setup_with c.args.config c.args.file.now images (kept_keys typed) (kept_slices typed) in
     record {
       machine =
-          called-whole setup c.in-Ok.kernel before started later c.requires.machine.terminals c.requires.machine.time starts.drives.moves refl starts.drives.media (ap (λ terms. loaded (kept_keys typed) terms) kept) (starts.stands images have) _ c.run_turns.new.kernel after c.living.result c.ticks.result c.run_end-end.result ran.ran (λ t tied. c.living.ensures _ t tied) (λ t tied. c.ticks.ensures.machine _ t tied) c.run_end-end.ensures.idle c.run_end-end.ensures.lives;
+          called-whole setup c.in-Ok.kernel before started later c.requires.machine.terminals c.requires.machine.time
+          starts.drives.moves refl starts.drives.media (ap (λ terms. loaded (kept_keys typed) terms) kept)
+          (starts.stands images have) _ c.run_turns.new.kernel after c.living.result c.ticks.result
+          c.run_end-end.result ran.ran (λ t tied. c.living.ensures _ t tied) (λ t tied. c.ticks.ensures.machine _
+          t tied) c.run_end-end.ensures.idle c.run_end-end.ensures.lives;
       at_line = tt;
       keyboard = asks-over c.living.result c.ticks.result c.run_end-end.result from to c.run_end-end.ensures.idle c.run_end-end.ensures.lives;
-      session = session-over setup typed from to c.in-Ok.kernel c.run_turns.new.kernel before after started c.requires.machine.terminals.unloaded starts.drives.moves kept (starts.stands images have) c.living.result c.ticks.result c.run_end-end.result ran.session (λ t tied. c.living.ensures _ t tied) c.run_end-end.ensures.idle c.run_end-end.ensures.lives;
+      session = session-over setup typed from to c.in-Ok.kernel c.run_turns.new.kernel before after started
+          c.requires.machine.terminals.unloaded starts.drives.moves kept (starts.stands images have) c.living.result
+          c.ticks.result c.run_end-end.result ran.session (λ t tied. c.living.ensures _ t tied)
+          c.run_end-end.ensures.idle c.run_end-end.ensures.lives;
     }
 
 pub returns-clause-call : goal.returns-clause-call
@@ -81,7 +100,9 @@ returns-clause-call g c =
     let started = outside (λ table. (g.dyn-1.0.entry table).1) c.new.new.devices.drives.items (λ table. (g.dyn-2.0.entry table).1) c.new.new.devices.terms.items in
     let starts = c.in-Ok.ensures.starts in
     let kept = ap (λ terms. terminal_states (λ table. (g.dyn-2.0.entry table).1) terms.items) c.in-Ok.ensures.terms_kept in
-    let after = world_of g.H.Host c.run_turns.new.host (outside (λ table. (g.dyn-1.0.entry table).1) c.run_turns.new.devices.drives.items (λ table. (g.dyn-2.0.entry table).1) c.run_turns.new.devices.terms.items) in
+    let after = world_of g.H.Host c.run_turns.new.host (outside (λ table. (g.dyn-1.0.entry table).1)
+    c.run_turns.new.devices.drives.items (λ table. (g.dyn-2.0.entry table).1) c.run_turns.new.devices.terms.items)
+    in
     let typed = c.run_turns.new.console.typed in
     let from = keyboard_state g.K.Keyboard c.args.console.now.keyboard in
     let to = keyboard_state g.K.Keyboard c.run_turns.new.console.keyboard in
@@ -91,10 +112,16 @@ returns-clause-call g c =
     let setup = setup_with c.args.config c.args.file.now images (kept_keys typed) (kept_slices typed) in
     record {
       machine =
-          called-whole setup c.in-Ok.kernel before started later c.requires.machine.terminals c.requires.machine.time starts.drives.moves refl starts.drives.media (ap (λ terms. loaded (kept_keys typed) terms) kept) (starts.stands images have) _ c.run_turns.new.kernel after c.living.result c.ticks.result c.run_end-end.result ran.ran (λ t tied. c.living.ensures _ t tied) (λ t tied. c.ticks.ensures.machine _ t tied) c.run_end-end.ensures.idle c.run_end-end.ensures.lives;
+          called-whole setup c.in-Ok.kernel before started later c.requires.machine.terminals c.requires.machine.time
+          starts.drives.moves refl starts.drives.media (ap (λ terms. loaded (kept_keys typed) terms) kept)
+          (starts.stands images have) _ c.run_turns.new.kernel after c.living.result c.ticks.result
+          c.run_end-end.result ran.ran (λ t tied. c.living.ensures _ t tied) (λ t tied. c.ticks.ensures.machine _
+          t tied) c.run_end-end.ensures.idle c.run_end-end.ensures.lives;
       at_line = not-output c.living.result c.ticks.result c.run_end-end.result c.run_end-end.ensures.idle c.run_end-end.ensures.lives;
       keyboard = tt;
-      session = session-lost setup typed from to c.in-Ok.kernel c.run_turns.new.kernel before after started c.requires.machine.terminals.unloaded starts.drives.moves kept (starts.stands images have) c.run_end-end.result ran.session;
+      session = session-lost setup typed from to c.in-Ok.kernel c.run_turns.new.kernel before after started
+          c.requires.machine.terminals.unloaded starts.drives.moves kept (starts.stands images have)
+          c.run_end-end.result ran.session;
     }
 
 pub returns-in-Err-Output-clause-call : goal.returns-in-Err-Output-clause-call
@@ -103,14 +130,19 @@ returns-in-Err-Output-clause-call g c =
     let started = outside (λ table. (g.dyn-1.0.entry table).1) c.new.new.devices.drives.items (λ table. (g.dyn-2.0.entry table).1) c.new.new.devices.terms.items in
     let starts = c.in-Ok.ensures.starts in
     let kept = ap (λ terms. terminal_states (λ table. (g.dyn-2.0.entry table).1) terms.items) c.in-Ok.ensures.terms_kept in
-    let after = world_of g.H.Host c.run_turns.new.host (outside (λ table. (g.dyn-1.0.entry table).1) c.run_turns.new.devices.drives.items (λ table. (g.dyn-2.0.entry table).1) c.run_turns.new.devices.terms.items) in
+    let after = world_of g.H.Host c.run_turns.new.host (outside (λ table. (g.dyn-1.0.entry table).1)
+    c.run_turns.new.devices.drives.items (λ table. (g.dyn-2.0.entry table).1) c.run_turns.new.devices.terms.items)
+    in
     let typed = c.run_turns.new.console.typed in
     let ran = rw c.in-Err-Output.field-0-is at c.in-Err-Output.ensures.ran in
     let later : Outside = record { drives = started.drives; terms = loaded (kept_keys typed) started.terms } in
     λ images have.
     record {
       machine =
-          called-output (setup_with c.args.config c.args.file.now images (kept_keys typed) (kept_slices typed)) c.in-Ok.kernel before started later c.requires.machine.terminals c.requires.machine.time starts.drives.moves refl starts.drives.media (ap (λ terms. loaded (kept_keys typed) terms) kept) (starts.stands images have) c.run_turns.new.kernel after ran.ran;
+          called-output (setup_with c.args.config c.args.file.now images (kept_keys typed) (kept_slices typed))
+          c.in-Ok.kernel before started later c.requires.machine.terminals c.requires.machine.time
+          starts.drives.moves refl starts.drives.media (ap (λ terms. loaded (kept_keys typed) terms) kept)
+          (starts.stands images have) c.run_turns.new.kernel after ran.ran;
       at_line = tt;
       keyboard = tt;
       session = λ told. tt;
@@ -122,14 +154,20 @@ returns-in-Err-NoMemory-clause-call g c =
     let started = outside (λ table. (g.dyn-1.0.entry table).1) c.new.new.devices.drives.items (λ table. (g.dyn-2.0.entry table).1) c.new.new.devices.terms.items in
     let starts = c.in-Ok.ensures.starts in
     let kept = ap (λ terms. terminal_states (λ table. (g.dyn-2.0.entry table).1) terms.items) c.in-Ok.ensures.terms_kept in
-    let after = world_of g.H.Host c.run_turns.new.host (outside (λ table. (g.dyn-1.0.entry table).1) c.run_turns.new.devices.drives.items (λ table. (g.dyn-2.0.entry table).1) c.run_turns.new.devices.terms.items) in
+    let after = world_of g.H.Host c.run_turns.new.host (outside (λ table. (g.dyn-1.0.entry table).1)
+    c.run_turns.new.devices.drives.items (λ table. (g.dyn-2.0.entry table).1) c.run_turns.new.devices.terms.items)
+    in
     let typed = c.run_turns.new.console.typed in
     let ran = rw c.in-Err-NoMemory.field-0-is at c.in-Err-NoMemory.ensures.ran in
     let later : Outside = record { drives = started.drives; terms = loaded (kept_keys typed) started.terms } in
     λ images have.
     record {
       machine =
-          called-without_memory (setup_with c.args.config c.args.file.now images (kept_keys typed) (kept_slices typed)) c.in-Ok.kernel before started later c.requires.machine.terminals c.requires.machine.time starts.drives.moves refl starts.drives.media (ap (λ terms. loaded (kept_keys typed) terms) kept) (starts.stands images have) c.run_turns.new.kernel after ran.ran;
+          called-without_memory (setup_with c.args.config c.args.file.now images (kept_keys typed)
+          (kept_slices typed)) c.in-Ok.kernel before started later c.requires.machine.terminals
+          c.requires.machine.time starts.drives.moves refl starts.drives.media
+          (ap (λ terms. loaded (kept_keys typed) terms) kept) (starts.stands images have) c.run_turns.new.kernel
+          after ran.ran;
       at_line = tt;
       keyboard = tt;
       session = λ told. tt;
@@ -141,33 +179,72 @@ pub returns-in-Err-clause-places : goal.returns-in-Err-clause-places
 returns-in-Err-clause-places g c = record {
   terms = ap vec_len c.in-Err.ensures.terms_kept;
   drives =
-      omega (arith, drives-counted (λ table. (g.dyn-1.0.entry table).1) c.args.config.images _ c.args.devices.now.drives.items c.new.new.devices.drives.items c.requires.machine.volumes c.in-Err.ensures.starts.drives, c.args.devices.now.drives.ok.0, c.new.new.devices.drives.ok.0);
+      omega (
+        arith,
+        drives-counted (λ table. (g.dyn-1.0.entry table).1) c.args.config.images _
+            c.args.devices.now.drives.items c.new.new.devices.drives.items c.requires.machine.volumes
+            c.in-Err.ensures.starts.drives,
+        c.args.devices.now.drives.ok.0,
+        c.new.new.devices.drives.ok.0,
+      );
 }
 
 pub returns-in-Over-clause-places : goal.returns-in-Over-clause-places
 returns-in-Over-clause-places g c = record {
   terms = c.in-Ok-run_turns.ensures.places.terms ∙ ap vec_len c.in-Ok.ensures.terms_kept;
   drives =
-      omega (arith, drives-counted (λ table. (g.dyn-1.0.entry table).1) c.args.config.images _ c.args.devices.now.drives.items c.new.new.devices.drives.items c.requires.machine.volumes c.in-Ok.ensures.starts.drives, c.args.devices.now.drives.ok.0, c.new.new.devices.drives.ok.0, c.in-Ok-run_turns.ensures.places.drives);
+      omega (
+        arith,
+        drives-counted (λ table. (g.dyn-1.0.entry table).1) c.args.config.images _
+            c.args.devices.now.drives.items c.new.new.devices.drives.items c.requires.machine.volumes
+            c.in-Ok.ensures.starts.drives,
+        c.args.devices.now.drives.ok.0,
+        c.new.new.devices.drives.ok.0,
+        c.in-Ok-run_turns.ensures.places.drives,
+      );
 }
 
 pub returns-clause-places : goal.returns-clause-places
 returns-clause-places g c = record {
   terms = c.in-Ok-run_turns.ensures.places.terms ∙ ap vec_len c.in-Ok.ensures.terms_kept;
   drives =
-      omega (arith, drives-counted (λ table. (g.dyn-1.0.entry table).1) c.args.config.images _ c.args.devices.now.drives.items c.new.new.devices.drives.items c.requires.machine.volumes c.in-Ok.ensures.starts.drives, c.args.devices.now.drives.ok.0, c.new.new.devices.drives.ok.0, c.in-Ok-run_turns.ensures.places.drives);
+      omega (
+        arith,
+        drives-counted (λ table. (g.dyn-1.0.entry table).1) c.args.config.images _
+            c.args.devices.now.drives.items c.new.new.devices.drives.items c.requires.machine.volumes
+            c.in-Ok.ensures.starts.drives,
+        c.args.devices.now.drives.ok.0,
+        c.new.new.devices.drives.ok.0,
+        c.in-Ok-run_turns.ensures.places.drives,
+      );
 }
 
 pub returns-in-Err-Output-clause-places : goal.returns-in-Err-Output-clause-places
 returns-in-Err-Output-clause-places g c = record {
   terms = c.in-Err-Output.ensures.places.terms ∙ ap vec_len c.in-Ok.ensures.terms_kept;
   drives =
-      omega (arith, drives-counted (λ table. (g.dyn-1.0.entry table).1) c.args.config.images _ c.args.devices.now.drives.items c.new.new.devices.drives.items c.requires.machine.volumes c.in-Ok.ensures.starts.drives, c.args.devices.now.drives.ok.0, c.new.new.devices.drives.ok.0, c.in-Err-Output.ensures.places.drives);
+      omega (
+        arith,
+        drives-counted (λ table. (g.dyn-1.0.entry table).1) c.args.config.images _
+            c.args.devices.now.drives.items c.new.new.devices.drives.items c.requires.machine.volumes
+            c.in-Ok.ensures.starts.drives,
+        c.args.devices.now.drives.ok.0,
+        c.new.new.devices.drives.ok.0,
+        c.in-Err-Output.ensures.places.drives,
+      );
 }
 
 pub returns-in-Err-NoMemory-clause-places : goal.returns-in-Err-NoMemory-clause-places
 returns-in-Err-NoMemory-clause-places g c = record {
   terms = c.in-Err-NoMemory.ensures.places.terms ∙ ap vec_len c.in-Ok.ensures.terms_kept;
   drives =
-      omega (arith, drives-counted (λ table. (g.dyn-1.0.entry table).1) c.args.config.images _ c.args.devices.now.drives.items c.new.new.devices.drives.items c.requires.machine.volumes c.in-Ok.ensures.starts.drives, c.args.devices.now.drives.ok.0, c.new.new.devices.drives.ok.0, c.in-Err-NoMemory.ensures.places.drives);
+      omega (
+        arith,
+        drives-counted (λ table. (g.dyn-1.0.entry table).1) c.args.config.images _
+            c.args.devices.now.drives.items c.new.new.devices.drives.items c.requires.machine.volumes
+            c.in-Ok.ensures.starts.drives,
+        c.args.devices.now.drives.ok.0,
+        c.new.new.devices.drives.ok.0,
+        c.in-Err-NoMemory.ensures.places.drives,
+      );
 }

@@ -14,7 +14,8 @@ returns-in-NoMemory-clause-turn g c =
     record {
       ran = tt;
       stopped = λ s told tied.
-          stops-turn c.args.kernel.now c.slice-end.new.self before (world_of g.H.Host c.args.host.now sliced) sliced c.slice-end.result c.slice-end.ensures.slice s tied c.in-NoMemory.is refl refl (refl, refl, refl);
+          stops-turn c.args.kernel.now c.slice-end.new.self before (world_of g.H.Host c.args.host.now sliced) sliced
+          c.slice-end.result c.slice-end.ensures.slice s tied c.in-NoMemory.is refl refl (refl, refl, refl);
       stands = tt;
       count = tt;
       output_fault = tt;
@@ -28,13 +29,15 @@ returns-in-Ok-clause-turn g c =
     let passed = c.in-Ok.ensures in
     let before = world_of g.H.Host c.args.host.now (outside (λ table. (g.dyn-1.0.entry table).1) c.args.devices.now.drives.items (λ table. (g.dyn-2.0.entry table).1) c.args.devices.now.terms.items) in
     let sliced = outside (λ table. (g.dyn-1.0.entry table).1) c.slice-end.new.devices.drives.items (λ table. (g.dyn-2.0.entry table).1) c.slice-end.new.devices.terms.items in
-    let after = world_of g.H.Host c.pass_on.new.host (outside (λ table. (g.dyn-1.0.entry table).1) c.pass_on.new.devices.drives.items (λ table. (g.dyn-2.0.entry table).1) c.pass_on.new.devices.terms.items) in
+    let after = world_of g.H.Host c.pass_on.new.host (outside (λ table. (g.dyn-1.0.entry table).1)
+    c.pass_on.new.devices.drives.items (λ table. (g.dyn-2.0.entry table).1) c.pass_on.new.devices.terms.items) in
     let left = ap (λ drives. drive_views (λ table. (g.dyn-1.0.entry table).1) drives.items) passed.drives_kept in
     record {
       ran = λ s tied.
           passes-slice c.args.kernel.now c.slice-end.new.self before after sliced c.slice-end.result slice (λ e. c.in_default.not-NoMemory e) left s tied passed.passed.taken passed.passed.written;
       stopped = tt;
-      stands = stands-emptied SLICE c.args.kernel.now c.slice-end.new.self before.devices sliced after.devices c.slice-end.result c.requires.stands (λ e. c.in_default.not-NoMemory e) slice left passed.passed.taken;
+      stands = stands-emptied SLICE c.args.kernel.now c.slice-end.new.self before.devices sliced after.devices
+          c.slice-end.result c.requires.stands (λ e. c.in_default.not-NoMemory e) slice left passed.passed.taken;
       count = slice.count (λ e. c.in_default.not-NoMemory e);
       output_fault = tt;
       no_fault = passed.passed.no_fault;
@@ -46,12 +49,15 @@ returns-in-Err-Failed-clause-turn g c =
     let passed = rw c.in-Err-Failed.field-0-is at c.in-Err-Failed.ensures.passed in
     let before = world_of g.H.Host c.args.host.now (outside (λ table. (g.dyn-1.0.entry table).1) c.args.devices.now.drives.items (λ table. (g.dyn-2.0.entry table).1) c.args.devices.now.terms.items) in
     let sliced = outside (λ table. (g.dyn-1.0.entry table).1) c.slice-end.new.devices.drives.items (λ table. (g.dyn-2.0.entry table).1) c.slice-end.new.devices.terms.items in
-    let after = world_of g.H.Host c.pass_on.new.host (outside (λ table. (g.dyn-1.0.entry table).1) c.pass_on.new.devices.drives.items (λ table. (g.dyn-2.0.entry table).1) c.pass_on.new.devices.terms.items) in
+    let after = world_of g.H.Host c.pass_on.new.host (outside (λ table. (g.dyn-1.0.entry table).1)
+    c.pass_on.new.devices.drives.items (λ table. (g.dyn-2.0.entry table).1) c.pass_on.new.devices.terms.items) in
     let left = ap (λ drives. drive_views (λ table. (g.dyn-1.0.entry table).1) drives.items) c.in-Err-Failed.ensures.drives_kept in
     record {
       ran = tt;
       stopped = λ s told tied.
-          breaks-turn c.args.kernel.now c.slice-end.new.self before after sliced c.slice-end.result c.slice-end.ensures.slice (λ e. c.in_default.not-NoMemory e) left s tied passed.prefix passed.some passed.left told;
+          breaks-turn c.args.kernel.now c.slice-end.new.self before after sliced c.slice-end.result
+          c.slice-end.ensures.slice (λ e. c.in_default.not-NoMemory e) left s tied passed.prefix passed.some
+          passed.left told;
       stands = tt;
       count = tt;
       output_fault = passed.output_fault;
@@ -64,12 +70,15 @@ returns-in-Err-OutOfMemory-clause-turn g c =
     let passed = rw c.in-Err-OutOfMemory.field-0-is at c.in-Err-OutOfMemory.ensures.passed in
     let before = world_of g.H.Host c.args.host.now (outside (λ table. (g.dyn-1.0.entry table).1) c.args.devices.now.drives.items (λ table. (g.dyn-2.0.entry table).1) c.args.devices.now.terms.items) in
     let sliced = outside (λ table. (g.dyn-1.0.entry table).1) c.slice-end.new.devices.drives.items (λ table. (g.dyn-2.0.entry table).1) c.slice-end.new.devices.terms.items in
-    let after = world_of g.H.Host c.pass_on.new.host (outside (λ table. (g.dyn-1.0.entry table).1) c.pass_on.new.devices.drives.items (λ table. (g.dyn-2.0.entry table).1) c.pass_on.new.devices.terms.items) in
+    let after = world_of g.H.Host c.pass_on.new.host (outside (λ table. (g.dyn-1.0.entry table).1)
+    c.pass_on.new.devices.drives.items (λ table. (g.dyn-2.0.entry table).1) c.pass_on.new.devices.terms.items) in
     let left = ap (λ drives. drive_views (λ table. (g.dyn-1.0.entry table).1) drives.items) c.in-Err-OutOfMemory.ensures.drives_kept in
     record {
       ran = tt;
       stopped = λ s told tied.
-          breaks-turn c.args.kernel.now c.slice-end.new.self before after sliced c.slice-end.result c.slice-end.ensures.slice (λ e. c.in_default.not-NoMemory e) left s tied passed.prefix passed.some passed.left told;
+          breaks-turn c.args.kernel.now c.slice-end.new.self before after sliced c.slice-end.result
+          c.slice-end.ensures.slice (λ e. c.in_default.not-NoMemory e) left s tied passed.prefix passed.some
+          passed.left told;
       stands = tt;
       count = tt;
       output_fault = tt;

@@ -43,7 +43,9 @@ loop-preserved g c =
     let before = world_of g.H.Host c.args.host.now (outside (λ table. (g.dyn-1.0.entry table).1) c.args.devices.now.drives.items (λ table. (g.dyn-2.0.entry table).1) c.args.devices.now.terms.items) in
     let mid = world_of g.H.Host c.loop.host (outside (λ table. (g.dyn-1.0.entry table).1) c.loop.devices.drives.items (λ table. (g.dyn-2.0.entry table).1) c.loop.devices.terms.items) in
     let loaded = outside (λ table. (g.dyn-1.0.entry table).1) c.type_line.new.devices.drives.items (λ table. (g.dyn-2.0.entry table).1) c.type_line.new.devices.terms.items in
-    let now = world_of g.H.Host c.run_turn.new.host (outside (λ table. (g.dyn-1.0.entry table).1) c.run_turn.new.devices.drives.items (λ table. (g.dyn-2.0.entry table).1) c.run_turn.new.devices.terms.items) in
+    let now = world_of g.H.Host c.run_turn.new.host (outside (λ table. (g.dyn-1.0.entry table).1)
+    c.run_turn.new.devices.drives.items (λ table. (g.dyn-2.0.entry table).1) c.run_turn.new.devices.terms.items)
+    in
     let from = keyboard_state g.K.Keyboard c.args.console.now.keyboard in
     let was = keyboard_state g.K.Keyboard c.loop.console.keyboard in
     let to = keyboard_state g.K.Keyboard c.type_line.new.console.keyboard in
@@ -55,9 +57,12 @@ loop-preserved g c =
       stands = ran.turn.stands;
       of_term =
           subst (λ (keys : List ScriptKey). All IsOfTerm keys) (sym typed.loaded.kept)
-          (All-append IsOfTerm (kept_keys c.loop.console.typed) (keys_typed (ticks c.loop.kernel + 1) typed.line) so_far.of_term (of-term _ (keys_typed (ticks c.loop.kernel + 1) typed.line) (line-typed _ typed.line)));
+          (All-append IsOfTerm (kept_keys c.loop.console.typed) (keys_typed (ticks c.loop.kernel + 1) typed.line)
+          so_far.of_term (of-term _ (keys_typed (ticks c.loop.kernel + 1) typed.line) (line-typed _ typed.line)));
       comes = λ s told tied.
-          comes-typed _ _ c.loop.console.typed new c.loop.last from was to s c.loop.kernel c.run_turn.new.kernel mid now (so_far.comes s told tied) (λ m tied none. c.if-living-eq0.false (c.living.ensures _ m tied ∙ none)) c.in-Ok.end
+          comes-typed _ _ c.loop.console.typed new c.loop.last from was to s c.loop.kernel c.run_turn.new.kernel mid
+          now (so_far.comes s told tied) (λ m tied none. c.if-living-eq0.false (c.living.ensures _ m tied ∙ none))
+          c.in-Ok.end
           (turn-taken c.loop.console.typed c.type_line.new.console.typed new c.loop.last c.loop.kernel c.run_turn.new.kernel was to mid now loaded typed refl refl c.in-Ok.end ran.turn);
       count = (ran.turn.no_fault.0 ∙ so_far.count.0, ran.turn.no_fault.1 ∙ so_far.count.1, ran.turn.no_fault.2 ∙ so_far.count.2);
       files = ran.turn.files_kept ∙ so_far.files;
@@ -119,15 +124,21 @@ returns-in-AtEnd-clause-ran g c =
     let (none, end, taken) = c.in-AtEnd.ensures.asked in
     let before = world_of g.H.Host c.args.host.now (outside (λ table. (g.dyn-1.0.entry table).1) c.args.devices.now.drives.items (λ table. (g.dyn-2.0.entry table).1) c.args.devices.now.terms.items) in
     let mid = world_of g.H.Host c.loop.host (outside (λ table. (g.dyn-1.0.entry table).1) c.loop.devices.drives.items (λ table. (g.dyn-2.0.entry table).1) c.loop.devices.terms.items) in
-    let now = world_of g.H.Host c.loop.host (outside (λ table. (g.dyn-1.0.entry table).1) c.type_line.new.devices.drives.items (λ table. (g.dyn-2.0.entry table).1) c.type_line.new.devices.terms.items) in
+    let now = world_of g.H.Host c.loop.host (outside (λ table. (g.dyn-1.0.entry table).1)
+    c.type_line.new.devices.drives.items (λ table. (g.dyn-2.0.entry table).1) c.type_line.new.devices.terms.items)
+    in
     let from = keyboard_state g.K.Keyboard c.args.console.now.keyboard in
     let was = keyboard_state g.K.Keyboard c.loop.console.keyboard in
     let to = keyboard_state g.K.Keyboard c.type_line.new.console.keyboard in
-    let comes : ComesFrom c.type_line.new.console.typed c.loop.last from was c.args.kernel.now c.loop.kernel before now = comes-still c.loop.console.typed c.type_line.new.console.typed c.loop.last from was c.args.kernel.now c.loop.kernel before mid _ none.typed none.devices so_far.comes in
+    let comes : ComesFrom c.type_line.new.console.typed c.loop.last from was c.args.kernel.now c.loop.kernel before
+    now = comes-still c.loop.console.typed c.type_line.new.console.typed c.loop.last from was c.args.kernel.now
+    c.loop.kernel before mid _ none.typed none.devices so_far.comes in
     record {
       ran = record {
         run = λ s told tied.
-            runs-all c.type_line.new.console.typed c.loop.last from was c.args.kernel.now c.loop.kernel before now (of-term-still c.loop.console.typed c.type_line.new.console.typed none.typed so_far.of_term) c.requires.unloaded.unloaded s told tied comes;
+            runs-all c.type_line.new.console.typed c.loop.last from was c.args.kernel.now c.loop.kernel before now
+            (of-term-still c.loop.console.typed c.type_line.new.console.typed none.typed so_far.of_term)
+            c.requires.unloaded.unloaded s told tied comes;
         partial = tt;
         output_fault = tt;
         no_fault = so_far.count;
@@ -147,15 +158,21 @@ returns-in-NoMemory-clause-ran g c =
     let (none, lost) = c.in-NoMemory.ensures.asked in
     let before = world_of g.H.Host c.args.host.now (outside (λ table. (g.dyn-1.0.entry table).1) c.args.devices.now.drives.items (λ table. (g.dyn-2.0.entry table).1) c.args.devices.now.terms.items) in
     let mid = world_of g.H.Host c.loop.host (outside (λ table. (g.dyn-1.0.entry table).1) c.loop.devices.drives.items (λ table. (g.dyn-2.0.entry table).1) c.loop.devices.terms.items) in
-    let now = world_of g.H.Host c.loop.host (outside (λ table. (g.dyn-1.0.entry table).1) c.type_line.new.devices.drives.items (λ table. (g.dyn-2.0.entry table).1) c.type_line.new.devices.terms.items) in
+    let now = world_of g.H.Host c.loop.host (outside (λ table. (g.dyn-1.0.entry table).1)
+    c.type_line.new.devices.drives.items (λ table. (g.dyn-2.0.entry table).1) c.type_line.new.devices.terms.items)
+    in
     let from = keyboard_state g.K.Keyboard c.args.console.now.keyboard in
     let was = keyboard_state g.K.Keyboard c.loop.console.keyboard in
     let to = keyboard_state g.K.Keyboard c.type_line.new.console.keyboard in
-    let comes : ComesFrom c.type_line.new.console.typed c.loop.last from was c.args.kernel.now c.loop.kernel before now = comes-still c.loop.console.typed c.type_line.new.console.typed c.loop.last from was c.args.kernel.now c.loop.kernel before mid _ none.typed none.devices so_far.comes in
+    let comes : ComesFrom c.type_line.new.console.typed c.loop.last from was c.args.kernel.now c.loop.kernel before
+    now = comes-still c.loop.console.typed c.type_line.new.console.typed c.loop.last from was c.args.kernel.now
+    c.loop.kernel before mid _ none.typed none.devices so_far.comes in
     record {
       ran = record {
         run = λ s told tied.
-            runs-all c.type_line.new.console.typed c.loop.last from was c.args.kernel.now c.loop.kernel before now (of-term-still c.loop.console.typed c.type_line.new.console.typed none.typed so_far.of_term) c.requires.unloaded.unloaded s told tied comes;
+            runs-all c.type_line.new.console.typed c.loop.last from was c.args.kernel.now c.loop.kernel before now
+            (of-term-still c.loop.console.typed c.type_line.new.console.typed none.typed so_far.of_term)
+            c.requires.unloaded.unloaded s told tied comes;
         partial = tt;
         output_fault = tt;
         no_fault = so_far.count;
@@ -164,7 +181,10 @@ returns-in-NoMemory-clause-ran g c =
       session = λ s told tied.
           let come = comes s told tied in
           session-all Stop.LineLost c.type_line.new.console.typed c.loop.last from was to s c.loop.kernel before now come
-          (stops-lost come.turns.turns c.loop.last come.m from was to come.turns.last_is (waits-there c.loop.last c.loop.kernel _ _ none come.m come.tied) (some-living come.m (λ none_lives. c.if-living-eq0.false (c.living.ensures _ come.m come.tied ∙ none_lives))) lost);
+          (stops-lost come.turns.turns c.loop.last come.m from was to come.turns.last_is
+          (waits-there c.loop.last c.loop.kernel _ _ none come.m come.tied)
+          (some-living come.m (λ none_lives. c.if-living-eq0.false (c.living.ensures _ come.m come.tied ∙
+          none_lives))) lost);
     }
 
 -- ---- a turn stopped
@@ -177,20 +197,27 @@ returns-in-Err-clause-ran g c =
     let before = world_of g.H.Host c.args.host.now (outside (λ table. (g.dyn-1.0.entry table).1) c.args.devices.now.drives.items (λ table. (g.dyn-2.0.entry table).1) c.args.devices.now.terms.items) in
     let mid = world_of g.H.Host c.loop.host (outside (λ table. (g.dyn-1.0.entry table).1) c.loop.devices.drives.items (λ table. (g.dyn-2.0.entry table).1) c.loop.devices.terms.items) in
     let loaded = outside (λ table. (g.dyn-1.0.entry table).1) c.type_line.new.devices.drives.items (λ table. (g.dyn-2.0.entry table).1) c.type_line.new.devices.terms.items in
-    let now = world_of g.H.Host c.run_turn.new.host (outside (λ table. (g.dyn-1.0.entry table).1) c.run_turn.new.devices.drives.items (λ table. (g.dyn-2.0.entry table).1) c.run_turn.new.devices.terms.items) in
+    let now = world_of g.H.Host c.run_turn.new.host (outside (λ table. (g.dyn-1.0.entry table).1)
+    c.run_turn.new.devices.drives.items (λ table. (g.dyn-2.0.entry table).1) c.run_turn.new.devices.terms.items)
+    in
     let from = keyboard_state g.K.Keyboard c.args.console.now.keyboard in
     let was = keyboard_state g.K.Keyboard c.loop.console.keyboard in
     let to = keyboard_state g.K.Keyboard c.type_line.new.console.keyboard in
     let new = record c.type_line.new.console.typed { slices = c.type_line.new.console.typed.slices + 1 } in
     let of_term : All IsOfTerm (kept_keys new) =
     subst (λ (keys : List ScriptKey). All IsOfTerm keys) (sym typed.loaded.kept)
-    (All-append IsOfTerm (kept_keys c.loop.console.typed) (keys_typed (ticks c.loop.kernel + 1) typed.line) so_far.of_term (of-term _ (keys_typed (ticks c.loop.kernel + 1) typed.line) (line-typed _ typed.line))) in
+    (All-append IsOfTerm (kept_keys c.loop.console.typed) (keys_typed (ticks c.loop.kernel + 1) typed.line)
+    so_far.of_term (of-term _ (keys_typed (ticks c.loop.kernel + 1) typed.line) (line-typed _ typed.line))) in
     record {
       ran = record {
         run = tt;
         partial = λ s told tied.
             runs-part new c.loop.last from to c.args.kernel.now c.run_turn.new.kernel before now of_term c.requires.unloaded.unloaded s told tied
-            (λ s told tied. partly-typed _ _ c.loop.console.typed new c.loop.last from was to s c.loop.kernel c.run_turn.new.kernel mid now (so_far.comes s told tied) (λ m tied none. c.if-living-eq0.false (c.living.ensures _ m tied ∙ none)) c.in-Err.fault before refl so_far.count (turn-stopped c.loop.console.typed c.type_line.new.console.typed new c.loop.last c.loop.kernel c.run_turn.new.kernel was to mid now loaded typed refl refl c.in-Err.fault turn));
+            (λ s told tied. partly-typed _ _ c.loop.console.typed new c.loop.last from was to s c.loop.kernel
+            c.run_turn.new.kernel mid now (so_far.comes s told tied) (λ m tied none. c.if-living-eq0.false
+            (c.living.ensures _ m tied ∙ none)) c.in-Err.fault before refl so_far.count
+            (turn-stopped c.loop.console.typed c.type_line.new.console.typed new c.loop.last c.loop.kernel
+            c.run_turn.new.kernel was to mid now loaded typed refl refl c.in-Err.fault turn));
         output_fault = fails-then {Value = Unit {0}} (Err c.in-Err.fault) before mid now so_far.count turn.output_fault;
         no_fault = kept-then {Value = Unit {0}} (Err c.in-Err.fault) before mid now so_far.count turn.no_fault;
         files_kept = turn.files_kept ∙ so_far.files;
@@ -218,5 +245,7 @@ returns-clause-ran g c =
       session = λ s told tied.
           let come = so_far.comes s told tied in
           session-all Stop.Over c.loop.console.typed c.loop.last from to to s c.loop.kernel before now come
-          (stops-over come.turns.turns c.loop.last come.m from to to come.turns.last_is (inr (inr (omega (arith, so_far.begun, so_far.within, tick-tied c.loop.kernel _ come.m come.tied)))) (takes-none to));
+          (stops-over come.turns.turns c.loop.last come.m from to to come.turns.last_is
+          (inr (inr (omega (arith, so_far.begun, so_far.within, tick-tied c.loop.kernel _ come.m come.tied))))
+          (takes-none to));
     }

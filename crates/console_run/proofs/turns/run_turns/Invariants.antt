@@ -21,7 +21,9 @@ invariant-loop g l =
       slices : l.console.typed.slices ≡ l.counter;
       stands : Stands l.kernel now;
       of_term : All IsOfTerm (kept_keys l.console.typed);
-      comes : ComesFrom l.console.typed l.last (keyboard_state g.K.Keyboard l.initial.console.keyboard) (keyboard_state g.K.Keyboard l.console.keyboard) l.initial.kernel l.kernel (world_of g.H.Host l.initial.host before) (world_of g.H.Host l.host now);
+      comes : ComesFrom l.console.typed l.last (keyboard_state g.K.Keyboard l.initial.console.keyboard)
+          (keyboard_state g.K.Keyboard l.console.keyboard) l.initial.kernel l.kernel (world_of g.H.Host l.initial.host
+          before) (world_of g.H.Host l.host now);
       count : HasNoFault (world_of g.H.Host l.initial.host nowhere) (world_of g.H.Host l.host nowhere);
       files : g.H.Host.file_map l.host ≡ g.H.Host.file_map l.initial.host;
       notes : notes_of g.H.Host l.host ≡ notes_of g.H.Host l.initial.host;

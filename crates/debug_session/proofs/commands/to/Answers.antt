@@ -34,7 +34,8 @@ returns-in-Ok-End-clause-shown g c =
     let after = outside (λ table. (g.dyn-1.0.entry table).1) c.go_to.new.devices.drives.items (λ table. (g.dyn-2.0.entry table).1) c.go_to.new.devices.terms.items in
     subst (λ answer. IfOk answer (λ line. HasShown c.args.machine.now (To c.args.k) c.args.position.now c.go_to.new.position line.items before after)) (sym c.told.ensures)
     (shown-told c.end_line.result (λ line. line.items ≡ end_line c.events.result) (λ line. HasShown c.args.machine.now (To c.args.k) c.args.position.now c.go_to.new.position line.items before after)
-    (λ line is. shown-end c.args.machine.now c.args.k c.args.position.now c.go_to.new.position before after (c.in-Ok-End.ensures.end cc) line.items (is ∙ ap end_line c.events.ensures)) c.end_line.ensures)
+    (λ line is. shown-end c.args.machine.now c.args.k c.args.position.now c.go_to.new.position before after
+    (c.in-Ok-End.ensures.end cc) line.items (is ∙ ap end_line c.events.ensures)) c.end_line.ensures)
 
 pub returns-in-Err-clause-moved : goal.returns-in-Err-clause-moved
 returns-in-Err-clause-moved g c =

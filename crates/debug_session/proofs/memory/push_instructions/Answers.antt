@@ -12,7 +12,11 @@ loop-k-init c = λ course last slices devices at.
 
 pub loop-k-preserved : goal.loop-k-preserved
 loop-k-preserved c = λ course last slices devices at.
-    line-more (shown_cells (state_at course c.args.position.now.events)) c.loop-k.at ((c.loop-k.at + c.from-at.result) % 65536) c.from-at.result c.as_slice.result.now _ c.loop-k.out.items c.push_instruction.new.out.items c.loop-k._k c.args.span.count (omega arith) (c.as_slice.ensures.value ∙ c.bytes_from-bytes.ensures course last slices devices at) c.in_ok-length.ensures.text (c.from-at.ensures ∙ c.in_ok-length.ensures.length) refl (c.loop-k.invariant course last slices devices at)
+    line-more (shown_cells (state_at course c.args.position.now.events)) c.loop-k.at ((c.loop-k.at + c.from-at.result)
+    % 65536) c.from-at.result c.as_slice.result.now _ c.loop-k.out.items c.push_instruction.new.out.items
+    c.loop-k._k c.args.span.count (omega arith) (c.as_slice.ensures.value ∙ c.bytes_from-bytes.ensures course last
+    slices devices at) c.in_ok-length.ensures.text (c.from-at.ensures ∙ c.in_ok-length.ensures.length) refl
+    (c.loop-k.invariant course last slices devices at)
 
 pub returns : goal.returns
 returns c = λ course last slices devices at.

@@ -10,9 +10,12 @@ loop-n-init c = λ course last slices devices at. c.in_ok-push_address.ensures �
 pub loop-n-preserved : goal.loop-n-preserved
 loop-n-preserved c = λ course last slices devices at.
     c.in_ok-push_seen.ensures
-    ∙ seen-more (shown_cells (state_at course c.args.position.now.events)) c.args.span.at c.loop-n.n ((c.args.span.at + c.loop-n.n) % 65536) c.byte.result _ c.loop-n.out.items refl (c.byte.ensures course last slices devices at) (c.loop-n.invariant course last slices devices at)
+    ∙ seen-more (shown_cells (state_at course c.args.position.now.events)) c.args.span.at c.loop-n.n
+    ((c.args.span.at + c.loop-n.n) % 65536) c.byte.result _ c.loop-n.out.items refl (c.byte.ensures course last
+    slices devices at) (c.loop-n.invariant course last slices devices at)
 
 pub returns : goal.returns
 returns c = λ course last slices devices at.
     c.in_ok-push.ensures.items
-    ∙ line-end (shown_cells (state_at course c.args.position.now.events)) c.args.out.now.items c.args.span c.loop-n.n c.loop-n.out.items (omega arith) (c.loop-n.invariant course last slices devices at)
+    ∙ line-end (shown_cells (state_at course c.args.position.now.events)) c.args.out.now.items c.args.span c.loop-n.n
+    c.loop-n.out.items (omega arith) (c.loop-n.invariant course last slices devices at)

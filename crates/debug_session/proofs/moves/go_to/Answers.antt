@@ -41,7 +41,9 @@ returns-in-Ok-advance_to-clause-end g c = λ is.
     let between = outside (λ table. (g.dyn-1.0.entry table).1) c.go_back.new.devices.drives.items (λ table. (g.dyn-2.0.entry table).1) c.go_back.new.devices.terms.items in
     let after = outside (λ table. (g.dyn-1.0.entry table).1) c.advance_to.new.devices.drives.items (λ table. (g.dyn-2.0.entry table).1) c.advance_to.new.devices.terms.items in
     let same : c.in-Ok-advance_to.step ≡ End = cc in
-    at-end _ c.args.machine.now c.args.k c.args.position.now c.go_back.new.position c.advance_to.new.self _ _ _ c.in-Ok.ensures.moved (subst (λ (step : Step). HasGone c.args.k c.args.machine.now.slices.now c.go_back.new.position c.advance_to.new.self (Ok step) between after) same c.in-Ok-advance_to.ensures.gone)
+    at-end _ c.args.machine.now c.args.k c.args.position.now c.go_back.new.position c.advance_to.new.self _ _ _
+    c.in-Ok.ensures.moved (subst (λ (step : Step). HasGone c.args.k c.args.machine.now.slices.now
+    c.go_back.new.position c.advance_to.new.self (Ok step) between after) same c.in-Ok-advance_to.ensures.gone)
 
 pub returns-in-Err-advance_to-clause-moved : goal.returns-in-Err-advance_to-clause-moved
 returns-in-Err-advance_to-clause-moved g c =

@@ -55,7 +55,10 @@ returns-in-Err-obey-clause-call g c =
     let later = world_of g.H.Host c.loop-command.host after in
     session-stopped c.args.machine.now c.args.commands.now before later inv.files c.in-Err-obey.fault
     (move-no-output c.args.machine.now between after c.in-Err-obey.fault fails) inv.none
-    (so-far-stops c.args.machine.now c.args.commands.now before between c.loop-command.command-index c.loop-command.position (g.H.Host.bytes_out c.loop-command.host) c.requires inv.at inv.so_far (get_or commands i (To 0)) next inv.accepted inv.starts c.in-Err-obey.fault later refl fails c.in-Err-obey.ensures.moved.may_fail)
+    (so-far-stops c.args.machine.now c.args.commands.now before between c.loop-command.command-index
+    c.loop-command.position (g.H.Host.bytes_out c.loop-command.host) c.requires inv.at inv.so_far
+    (get_or commands i (To 0)) next inv.accepted inv.starts c.in-Err-obey.fault later refl fails
+    c.in-Err-obey.ensures.moved.may_fail)
 
 pub loop-command-preserved : goal.loop-command-preserved
 loop-command-preserved g c =
@@ -71,7 +74,10 @@ loop-command-preserved g c =
     let next : drop i commands ≡ get_or commands i (To 0) ∷ drop (i + 1) commands = drop_more commands i (To 0) (search rules) in
     record {
       at = done.moved.stays first c.requires inv.at;
-      so_far = so-far-more c.args.machine.now commands before between i c.loop-command.position (g.H.Host.bytes_out c.loop-command.host) c.requires inv.at inv.so_far c.in-Ok-obey.line (get_or commands i (To 0)) c.obey.new.position after c.in-Ok-obey.line.items _ next done.moved done.shown (wrote.whole ∙ ap (stream_with (g.H.Host.bytes_out c.loop-command.host)) c.as_slice.ensures.value);
+      so_far = so-far-more c.args.machine.now commands before between i c.loop-command.position
+          (g.H.Host.bytes_out c.loop-command.host) c.requires inv.at inv.so_far c.in-Ok-obey.line
+          (get_or commands i (To 0)) c.obey.new.position after c.in-Ok-obey.line.items _ next done.moved done.shown
+          (wrote.whole ∙ ap (stream_with (g.H.Host.bytes_out c.loop-command.host)) c.as_slice.ensures.value);
       starts = inv.starts;
       accepted = inv.accepted;
       none = (wrote.count_kept ∙ inv.none.0, wrote.name_kept ∙ inv.none.1, wrote.read_kept ∙ inv.none.2);
@@ -96,7 +102,12 @@ returns-in-Err-Failed-clause-call g c =
     let next : drop i commands ≡ get_or commands i (To 0) ∷ drop (i + 1) commands = drop_more commands i (To 0) (search rules) in
     session-output c.args.machine.now commands before later (wrote.files_kept ∙ inv.files)
     (rw (← inv.none.0) wrote.fault_counted, wrote.fault_unnamed, wrote.fault_in_out) inv.starts
-    (so-far-breaks c.args.machine.now commands before between i c.loop-command.position (g.H.Host.bytes_out c.loop-command.host) c.requires inv.at inv.so_far c.in-Ok-obey.line (get_or commands i (To 0)) c.obey.new.position c.in-Ok-obey.line.items later next done.moved done.shown (subst (λ (bytes : List ℕ). GainsPrefix (g.H.Host.bytes_out c.loop-command.host) bytes later.out) c.as_slice.ensures.value wrote.prefix) (subst (λ (bytes : List ℕ). bytes ≢ []) c.as_slice.ensures.value c.in-Err-Failed.ensures.some))
+    (so-far-breaks c.args.machine.now commands before between i c.loop-command.position
+    (g.H.Host.bytes_out c.loop-command.host) c.requires inv.at inv.so_far c.in-Ok-obey.line
+    (get_or commands i (To 0)) c.obey.new.position c.in-Ok-obey.line.items later next done.moved done.shown
+    (subst (λ (bytes : List ℕ). GainsPrefix (g.H.Host.bytes_out c.loop-command.host) bytes later.out)
+    c.as_slice.ensures.value wrote.prefix) (subst (λ (bytes : List ℕ). bytes ≢ []) c.as_slice.ensures.value
+    c.in-Err-Failed.ensures.some))
 
 pub returns-in-Err-OutOfMemory-clause-call : goal.returns-in-Err-OutOfMemory-clause-call
 returns-in-Err-OutOfMemory-clause-call g c =
@@ -113,7 +124,14 @@ returns-in-Err-OutOfMemory-clause-call g c =
     let next : drop i commands ≡ get_or commands i (To 0) ∷ drop (i + 1) commands = drop_more commands i (To 0) (search rules) in
     session-stopped c.args.machine.now commands before later (wrote.files_kept ∙ inv.files) NoMemory (λ e. cc e)
     (wrote.count_kept ∙ inv.none.0, wrote.name_kept ∙ inv.none.1, wrote.read_kept ∙ inv.none.2)
-    (inr (inv.starts, so-far-part c.args.machine.now commands before between i c.loop-command.position (g.H.Host.bytes_out c.loop-command.host) c.requires inv.at inv.so_far c.in-Ok-obey.line (get_or commands i (To 0)) c.obey.new.position c.in-Ok-obey.line.items later next done.moved done.shown (subst (λ (bytes : List ℕ). GainsPrefix (g.H.Host.bytes_out c.loop-command.host) bytes later.out) c.as_slice.ensures.value wrote.prefix)))
+    (inr (
+      inv.starts,
+      so-far-part c.args.machine.now commands before between i c.loop-command.position
+          (g.H.Host.bytes_out c.loop-command.host) c.requires inv.at inv.so_far c.in-Ok-obey.line
+          (get_or commands i (To 0)) c.obey.new.position c.in-Ok-obey.line.items later next done.moved done.shown
+          (subst (λ (bytes : List ℕ). GainsPrefix (g.H.Host.bytes_out c.loop-command.host) bytes later.out)
+          c.as_slice.ensures.value wrote.prefix),
+    ))
 
 pub returns-in-Err-obey-clause-notes_kept : goal.returns-in-Err-obey-clause-notes_kept
 returns-in-Err-obey-clause-notes_kept g c = c.loop-command.invariant.notes

@@ -19,5 +19,7 @@ returns-clause-window c m tied =
     let there : count ≤ length new = omega (arith, room, c.load_window.ensures.room) in
     let cells = cells_of c.args.s.now.memory c.args.p.0 in
     let same = front-of new (drop (length new) buffer.items) buffer.len count there (omega arith) in
-    subst (λ (it : Cells). IfSome (user_bytes it at count) (λ bytes. window moved (take count (take buffer.len (new ++ drop (length new) buffer.items))) ≡ window moved bytes)) (cells_of-seen c.args.s.now.memory c.args.p.0 c.requires.process m.memory tied.memory)
+    subst (λ (it : Cells). IfSome (user_bytes it at count)
+    (λ bytes. window moved (take count (take buffer.len (new ++ drop (length new) buffer.items))) ≡ window moved
+    bytes)) (cells_of-seen c.args.s.now.memory c.args.p.0 c.requires.process m.memory tied.memory)
     (subst (λ (it : List ℕ). IfSome (user_bytes cells at count) (λ bytes. window moved it ≡ window moved bytes)) (sym same) c.load_window.ensures.window)

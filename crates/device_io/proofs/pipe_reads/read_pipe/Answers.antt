@@ -19,4 +19,7 @@ returns-clause-call c m tied same =
     let p = c.args.p.0 in
     let moved = c.read_pipe-moved.result in
     subst (λ (alone : Bool). Leaves (reads_pipe (caller_of m p) c.args.io.now c.args.pipe c.args.call alone) m p c.take_bytes.result c.take_bytes.new.s c.take_bytes.new.io) c.is_alone-alone.ensures
-    (read-leaves m p c.args.pipe c.args.regs c.args.call c.is_alone-alone.result c.args.io.now c.read_pipe-moved.new.self moved (take (moved_count moved) c.read_pipe-moved.new.into) c.take_bytes.result c.take_bytes.new.s c.take_bytes.new.io same c.read_pipe-moved.ensures.answer c.read_pipe-moved.ensures.moved c.read_pipe-moved.ensures.io (c.take_bytes.ensures.call m tied same))
+    (read-leaves m p c.args.pipe c.args.regs c.args.call c.is_alone-alone.result c.args.io.now
+    c.read_pipe-moved.new.self moved (take (moved_count moved) c.read_pipe-moved.new.into) c.take_bytes.result
+    c.take_bytes.new.s c.take_bytes.new.io same c.read_pipe-moved.ensures.answer c.read_pipe-moved.ensures.moved
+    c.read_pipe-moved.ensures.io (c.take_bytes.ensures.call m tied same))

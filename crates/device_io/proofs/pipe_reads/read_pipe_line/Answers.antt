@@ -19,4 +19,7 @@ returns-clause-call c m tied same =
     let p = c.args.p.0 in
     let moved = c.read_pipe_line-moved.result in
     subst (λ (alone : Bool). Leaves (reads_pipe_line (caller_of m p) c.args.io.now c.args.pipe c.args.call alone) m p c.take_line.result c.take_line.new.s c.take_line.new.io) c.is_alone-alone.ensures
-    (line-leaves m p c.args.pipe c.args.regs c.args.call c.is_alone-alone.result c.args.io.now c.read_pipe_line-moved.new.self moved (take (moved_count moved) c.read_pipe_line-moved.new.into) c.take_line.result c.take_line.new.s c.take_line.new.io same c.read_pipe_line-moved.ensures.answer c.read_pipe_line-moved.ensures.moved c.read_pipe_line-moved.ensures.io (c.take_line.ensures.call m tied same))
+    (line-leaves m p c.args.pipe c.args.regs c.args.call c.is_alone-alone.result c.args.io.now
+    c.read_pipe_line-moved.new.self moved (take (moved_count moved) c.read_pipe_line-moved.new.into)
+    c.take_line.result c.take_line.new.s c.take_line.new.io same c.read_pipe_line-moved.ensures.answer
+    c.read_pipe_line-moved.ensures.moved c.read_pipe_line-moved.ensures.io (c.take_line.ensures.call m tied same))

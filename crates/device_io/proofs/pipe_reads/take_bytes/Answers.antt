@@ -12,5 +12,9 @@ pub returns-in-Done-clause-call : goal.returns-in-Done-clause-call
 returns-in-Done-clause-call c m tied same =
     let p = c.args.p.0 in
     let count = c.in-Done.count in
-    subst (λ (a : PipeAns). Leaves (stores c.args.regs.x (take (moved_count a) c.args.bytes.now) (read_end (caller_of m p) c.args.call a) c.args.io.now) m p c.answer.result c.answer.new.s c.answer.new.io) (sym c.in-Done.is)
-    (leaves-answer m p c.args.regs.x (take count c.args.bytes.now) c.args.io.now c.answer.result c.answer.new.s c.answer.new.io count c.args.regs same c.answer.ensures.end (c.answer.ensures.tied _ (c.store.ensures.tied m tied)) c.answer.ensures.io)
+    subst (λ (a : PipeAns). Leaves (stores c.args.regs.x (take (moved_count a) c.args.bytes.now)
+    (read_end (caller_of m p) c.args.call a) c.args.io.now) m p c.answer.result c.answer.new.s c.answer.new.io)
+    (sym c.in-Done.is)
+    (leaves-answer m p c.args.regs.x (take count c.args.bytes.now) c.args.io.now c.answer.result c.answer.new.s
+    c.answer.new.io count c.args.regs same c.answer.ensures.end
+    (c.answer.ensures.tied _ (c.store.ensures.tied m tied)) c.answer.ensures.io)

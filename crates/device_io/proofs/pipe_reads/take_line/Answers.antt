@@ -20,19 +20,27 @@ store-requires-clause-fits c =
 
 pub end_line-requires-clause-may : goal.end_line-requires-clause-may
 end_line-requires-clause-may c =
-    may-wait-on c.args.io.now.paths c.args.p.0 c.args.call c.moved_on.result c.in-Done.count c.moved_on.ensures (subst (λ (a : PipeAns). c.args.call.moved + moved_count a ≤ c.args.call.count) c.in-Done.is c.requires.few) c.requires.may
+    may-wait-on c.args.io.now.paths c.args.p.0 c.args.call c.moved_on.result c.in-Done.count c.moved_on.ensures
+    (subst (λ (a : PipeAns). c.args.call.moved + moved_count a ≤ c.args.call.count) c.in-Done.is c.requires.few)
+    c.requires.may
 
 pub returns-in-Done-clause-call : goal.returns-in-Done-clause-call
 returns-in-Done-clause-call c m tied same =
     let p = c.args.p.0 in
     let x = c.args.regs.x + c.args.call.moved in
     let taken = take c.in-Done.count c.args.bytes.now in
-    subst (λ (a : PipeAns). Leaves (stores x (take (moved_count a) c.args.bytes.now) (read_line_end (caller_of m p) c.args.alone c.args.call (take (moved_count a) c.args.bytes.now) a) c.args.io.now) m p c.end_line.result c.end_line.new.s c.end_line.new.io) (sym c.in-Done.is)
-    (subst (λ (k : Kept). Leaves (stores x taken (line_end (caller_of m p) c.args.alone k taken) c.args.io.now) m p c.end_line.result c.end_line.new.s c.end_line.new.io) c.moved_on.ensures (c.end_line.ensures.call m x (c.store.ensures.tied m tied) same))
+    subst (λ (a : PipeAns). Leaves (stores x (take (moved_count a) c.args.bytes.now) (read_line_end (caller_of m p)
+    c.args.alone c.args.call (take (moved_count a) c.args.bytes.now) a) c.args.io.now) m p c.end_line.result
+    c.end_line.new.s c.end_line.new.io) (sym c.in-Done.is)
+    (subst (λ (k : Kept). Leaves (stores x taken (line_end (caller_of m p) c.args.alone k taken) c.args.io.now) m p
+    c.end_line.result c.end_line.new.s c.end_line.new.io) c.moved_on.ensures (c.end_line.ensures.call m x
+    (c.store.ensures.tied m tied) same))
 
 pub returns-in-End-clause-call : goal.returns-in-End-clause-call
 returns-in-End-clause-call c m tied same =
     let p = c.args.p.0 in
     let x = c.args.regs.x + c.args.call.moved in
-    subst (λ (a : PipeAns). Leaves (stores x (take (moved_count a) c.args.bytes.now) (read_line_end (caller_of m p) c.args.alone c.args.call (take (moved_count a) c.args.bytes.now) a) c.args.io.now) m p c.end_of_file.result c.end_of_file.new.s c.end_of_file.new.io) (sym c.in-End.is)
+    subst (λ (a : PipeAns). Leaves (stores x (take (moved_count a) c.args.bytes.now) (read_line_end (caller_of m p)
+    c.args.alone c.args.call (take (moved_count a) c.args.bytes.now) a) c.args.io.now) m p c.end_of_file.result
+    c.end_of_file.new.s c.end_of_file.new.io) (sym c.in-End.is)
     (c.end_of_file.ensures.call m x tied same)

@@ -6,4 +6,6 @@ use Rattle.device_io.proofs.pipe_writes.settle.Goals as goal
 
 pub go_on-requires-clause-may : goal.go_on-requires-clause-may
 go_on-requires-clause-may c =
-    may-wait-on c.args.io.now.paths c.args.p.0 c.args.call c.moved_on.result c.in-Done.count c.moved_on.ensures (subst (λ (a : PipeAns). c.args.call.moved + moved_count a ≤ c.args.call.count) c.in-Done.is c.requires.few) c.requires.may
+    may-wait-on c.args.io.now.paths c.args.p.0 c.args.call c.moved_on.result c.in-Done.count c.moved_on.ensures
+    (subst (λ (a : PipeAns). c.args.call.moved + moved_count a ≤ c.args.call.count) c.in-Done.is c.requires.few)
+    c.requires.may

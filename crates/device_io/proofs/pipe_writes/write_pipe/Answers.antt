@@ -11,4 +11,5 @@ returns c regs =
     let count = length-drop call.moved bytes in
     let rest : take (length bytes - call.moved) (drop call.moved bytes) ≡ drop call.moved bytes = take_all (length bytes - call.moved) (drop call.moved bytes) (omega (arith, count)) in
     subst (λ (alone : Bool). Settles (writes_pipe c.args.io.now c.args.pipe call alone bytes regs) regs c.args.p.0 c.write_rest.result c.write_rest.new.io) c.is_alone-alone.ensures
-    (subst (λ (left : List ℕ). Settles (writes_rest c.args.io.now c.args.pipe call c.is_alone-alone.result left regs) regs c.args.p.0 c.write_rest.result c.write_rest.new.io) rest (c.write_rest.ensures regs))
+    (subst (λ (left : List ℕ). Settles (writes_rest c.args.io.now c.args.pipe call c.is_alone-alone.result left regs)
+    regs c.args.p.0 c.write_rest.result c.write_rest.new.io) rest (c.write_rest.ensures regs))

@@ -7,4 +7,6 @@ pub returns-clause-call : goal.returns-clause-call
 returns-clause-call g c regs told cells line =
     let bytes = c.args.bytes.now in
     let answer = c.put_as-answer in
-    sends-put (sender c.args.p regs cells) c.args.io.now answer.new.io c.args.n (put_of c.args.kind bytes) (length bytes) told _ _ (put_count c.args.kind bytes) answer.result c.put_end.result line answer.ensures.put.device answer.ensures.put.io c.put_end.ensures
+    sends-put (sender c.args.p regs cells) c.args.io.now answer.new.io c.args.n (put_of c.args.kind bytes)
+    (length bytes) told _ _ (put_count c.args.kind bytes) answer.result c.put_end.result line
+    answer.ensures.put.device answer.ensures.put.io c.put_end.ensures

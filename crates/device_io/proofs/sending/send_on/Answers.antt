@@ -40,7 +40,13 @@ returns-in-Term-clause-call g c line cells =
     let io = c.args.io.now in
     let caller : Caller = sender c.args.p c.args.regs cells in
     let regs : Regs = regs_done c.args.kind c.args.regs (length bytes) in
-    sends-same caller io regs c.put.new.io _ _ (writes (record { terminal = c.in-Term.n; put = put_of c.args.kind bytes; count = length bytes; regs = regs })) (writes_target (sent c.args.kind caller bytes) caller io c.args.call c.args.target) c.put.result
+    sends-same caller io regs c.put.new.io _ _
+    (writes (record {
+      terminal = c.in-Term.n;
+      put = put_of c.args.kind bytes;
+      count = length bytes;
+      regs = regs;
+    })) (writes_target (sent c.args.kind caller bytes) caller io c.args.call c.args.target) c.put.result
     (on-terminal c.args.kind caller io bytes c.args.call c.in-Term.n ∙ ap (λ (t : Target). writes_target (sent c.args.kind caller bytes) caller io c.args.call t) (sym c.in-Term.is))
     (c.put.ensures.call c.args.regs regs cells (line c.in-Term.n c.in-Term.is))
 

@@ -47,8 +47,11 @@ returns-clause-call g c line cells =
     let call_is : c.call_now-call.result ≡ call_now caller io (write_code c.args.kind) opened (length bytes) =
     c.call_now-call.ensures.call ∙ ap (λ (code : ℕ). unwrap_or kept (first_call code opened (length bytes))) c.write_code-code.ensures in
     let known : IsWriteCall io p c.args.desc.target c.call_now-call.result (length bytes) =
-    write-call c.args.kind c.args.regs io p opened c.call_now-call.result (length bytes) c.call_now-call.ensures.sound c.requires.may c.requires.finds.opened call_is (eqb-false (length bytes) 0 some) in
+    write-call c.args.kind c.args.regs io p opened c.call_now-call.result (length bytes) c.call_now-call.ensures.sound
+    c.requires.may c.requires.finds.opened call_is (eqb-false (length bytes) 0 some) in
     let next : Kept → IoStep = λ call. write_on c.args.kind call c.args.desc.target caller io bytes in
-    sends-same caller io regs c.send_on.new.io _ _ (next c.call_now-call.result) (if length bytes == 0 then done (sent c.args.kind caller bytes).regs io else next (call_now caller io (write_code c.args.kind) opened (length bytes))) c.send_on.result
+    sends-same caller io regs c.send_on.new.io _ _ (next c.call_now-call.result) (if length bytes == 0 then done
+    (sent c.args.kind caller bytes).regs io else next (call_now caller io (write_code c.args.kind) opened
+    (length bytes))) c.send_on.result
     (ap next call_is ∙ ap (λ (b : Bool). if b then done (sent c.args.kind caller bytes).regs io else next (call_now caller io (write_code c.args.kind) opened (length bytes))) (sym some))
     (c.send_on.ensures.call (λ n is_term. line (known.first n is_term)) cells)

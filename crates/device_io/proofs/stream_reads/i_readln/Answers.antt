@@ -23,7 +23,8 @@ returns-clause-call g c drives m tied differ =
     let p = c.args.p.0 in
     let caller = caller_of m p in
     attempts-of Call.ReadLn m c.args.io.now drives p c.read.new.s c.read.new.io _ _ c.read.result differ
-    (tries-same m c.args.io.now p c.read.result c.read.new.s c.read.new.io _ _ (read_step ReadKind.WholeLine caller c.args.io.now) (i_readln_lem caller c.args.io.now) (read_step-line caller c.args.io.now)
+    (tries-same m c.args.io.now p c.read.result c.read.new.s c.read.new.io _ _ (read_step ReadKind.WholeLine caller
+    c.args.io.now) (i_readln_lem caller c.args.io.now) (read_step-line caller c.args.io.now)
     (c.read.ensures.call m tied (c.regs-regs.ensures.regs ∙ regs-tied c.args.s.now m p tied)))
 
 pub returns-clause-memory : goal.returns-clause-memory
@@ -31,5 +32,6 @@ returns-clause-memory g c drives m tied wants =
     let p = c.args.p.0 in
     let caller = caller_of m p in
     wants-of m c.args.io.now p c.read.result c.read.new.s c.read.new.io _ _ (i_readln_lem caller c.args.io.now) wants
-    (tries-same m c.args.io.now p c.read.result c.read.new.s c.read.new.io _ _ (read_step ReadKind.WholeLine caller c.args.io.now) (i_readln_lem caller c.args.io.now) (read_step-line caller c.args.io.now)
+    (tries-same m c.args.io.now p c.read.result c.read.new.s c.read.new.io _ _ (read_step ReadKind.WholeLine caller
+    c.args.io.now) (i_readln_lem caller c.args.io.now) (read_step-line caller c.args.io.now)
     (c.read.ensures.call m tied (c.regs-regs.ensures.regs ∙ regs-tied c.args.s.now m p tied)))

@@ -25,8 +25,14 @@ unfolding read_step
 returns-then-not-is_named-clause-call g c m tied same =
     let p = c.args.p.0 in
     let io = c.args.io.now in
-    let there : c.is_named.result ≡ is_some (user_bytes (cells_at m p) (regs_at m p).x (regs_at m p).y) = subst (λ (r : Regs). c.is_named.result ≡ is_some (user_bytes (cells_at m p) r.x r.y)) same (c.is_named.ensures.there m tied) in
-    tries-refuses-true m io p c.refuse.result c.args.s.now c.refuse.new.io _ _ (is_none (user_bytes (cells_at m p) (regs_at m p).x (regs_at m p).y)) E_BPADDR (read_named c.args.kind (caller_of m p) io) (none-of (user_bytes (cells_at m p) (regs_at m p).x (regs_at m p).y) c.is_named.result there c.if-not-is_named.true)
+    let there : c.is_named.result ≡ is_some (user_bytes (cells_at m p) (regs_at m p).x (regs_at m p).y) = subst
+    (λ (r : Regs). c.is_named.result ≡ is_some (user_bytes (cells_at m p) r.x r.y)) same
+    (c.is_named.ensures.there m tied) in
+    tries-refuses-true m io p c.refuse.result c.args.s.now c.refuse.new.io _ _
+    (is_none (user_bytes (cells_at m p) (regs_at m p).x (regs_at m p).y)) E_BPADDR
+    (read_named c.args.kind (caller_of m p) io)
+    (none-of (user_bytes (cells_at m p) (regs_at m p).x (regs_at m p).y) c.is_named.result there
+    c.if-not-is_named.true)
     (tries-refused m io p c.args.s.now c.refuse.new.io _ E_BPADDR c.refuse.result c.refuse.ensures.end tied c.refuse.ensures.io)
 
 pub returns-clause-call : goal.returns-clause-call
@@ -34,6 +40,12 @@ unfolding read_step
 returns-clause-call g c m tied same =
     let p = c.args.p.0 in
     let io = c.args.io.now in
-    let there : c.is_named.result ≡ is_some (user_bytes (cells_at m p) (regs_at m p).x (regs_at m p).y) = subst (λ (r : Regs). c.is_named.result ≡ is_some (user_bytes (cells_at m p) r.x r.y)) same (c.is_named.ensures.there m tied) in
-    tries-refuses-false m io p c.read_named.result c.read_named.new.s c.read_named.new.io _ _ (is_none (user_bytes (cells_at m p) (regs_at m p).x (regs_at m p).y)) E_BPADDR (read_named c.args.kind (caller_of m p) io) (some-of (user_bytes (cells_at m p) (regs_at m p).x (regs_at m p).y) c.is_named.result there c.if-not-is_named.false)
+    let there : c.is_named.result ≡ is_some (user_bytes (cells_at m p) (regs_at m p).x (regs_at m p).y) = subst
+    (λ (r : Regs). c.is_named.result ≡ is_some (user_bytes (cells_at m p) r.x r.y)) same
+    (c.is_named.ensures.there m tied) in
+    tries-refuses-false m io p c.read_named.result c.read_named.new.s c.read_named.new.io _ _
+    (is_none (user_bytes (cells_at m p) (regs_at m p).x (regs_at m p).y)) E_BPADDR
+    (read_named c.args.kind (caller_of m p) io)
+    (some-of (user_bytes (cells_at m p) (regs_at m p).x (regs_at m p).y) c.is_named.result there
+    c.if-not-is_named.false)
     (c.read_named.ensures.call m tied same)

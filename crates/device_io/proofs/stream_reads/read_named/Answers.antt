@@ -16,7 +16,9 @@ returns-in-None-clause-call g c m tied same =
     let p = c.args.p.0 in
     let io = c.args.io.now in
     let none : open_path io p (regs_at m p).a ≡ None = subst (λ (r : Regs). open_path io p r.a ≡ None) same (sym c.in-None.ensures.path) in
-    tries-needs-none m io p c.refuse.result c.args.s.now c.refuse.new.io _ _ (open_path io p (regs_at m p).a) E_BPNUM (λ (opened : OpenPath). refuses (not (can_read opened.desc.mode)) E_BMODE (read_open c.args.kind opened (caller_of m p) io)) none
+    tries-needs-none m io p c.refuse.result c.args.s.now c.refuse.new.io _ _ (open_path io p (regs_at m p).a) E_BPNUM
+    (λ (opened : OpenPath). refuses (not (can_read opened.desc.mode)) E_BMODE (read_open c.args.kind opened
+    (caller_of m p) io)) none
     (tries-refused m io p c.args.s.now c.refuse.new.io _ E_BPNUM c.refuse.result c.refuse.ensures.end tied c.refuse.ensures.io)
 
 pub returns-in-Some-clause-call : goal.returns-in-Some-clause-call
@@ -26,5 +28,7 @@ returns-in-Some-clause-call g c m tied same =
     let io = c.args.io.now in
     let found : OpenPath = record { path = c.in-Some.found.0; desc = c.in-Some.found.1 } in
     let some : open_path io p (regs_at m p).a ≡ Some found = subst (λ (r : Regs). open_path io p r.a ≡ Some found) same (sym c.in-Some.ensures.path) in
-    tries-needs-some m io p c.read_found.result c.read_found.new.s c.read_found.new.io _ _ (open_path io p (regs_at m p).a) found E_BPNUM (λ (opened : OpenPath). refuses (not (can_read opened.desc.mode)) E_BMODE (read_open c.args.kind opened (caller_of m p) io)) some
+    tries-needs-some m io p c.read_found.result c.read_found.new.s c.read_found.new.io _ _
+    (open_path io p (regs_at m p).a) found E_BPNUM (λ (opened : OpenPath). refuses
+    (not (can_read opened.desc.mode)) E_BMODE (read_open c.args.kind opened (caller_of m p) io)) some
     (c.read_found.ensures.call m tied same)

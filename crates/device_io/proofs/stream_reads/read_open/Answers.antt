@@ -33,7 +33,9 @@ returns-then-regs-eq0-clause-call g c m tied same =
     let io = c.args.io.now in
     let opened : OpenPath = record { path = c.args.path; desc = c.args.desc } in
     let none : (regs_at m p).y ≡ 0 = subst (λ (r : Regs). r.y ≡ 0) same c.if-regs-eq0.true in
-    tries-if-true m io p c.answer.result c.answer.new.s c.answer.new.io _ _ ((regs_at m p).y == 0) (done (regs_at m p) io) (read_on c.args.kind (call_now (caller_of m p) io (read_code c.args.kind) opened (regs_at m p).y) c.args.desc.target (caller_of m p) io) (eq-eqb (regs_at m p).y 0 none)
+    tries-if-true m io p c.answer.result c.answer.new.s c.answer.new.io _ _ ((regs_at m p).y == 0)
+    (done (regs_at m p) io) (read_on c.args.kind (call_now (caller_of m p) io (read_code c.args.kind) opened
+    (regs_at m p).y) c.args.desc.target (caller_of m p) io) (eq-eqb (regs_at m p).y 0 none)
     (tries-done m io p c.answer.new.s c.answer.new.io _ c.args.regs c.answer.result same c.answer.ensures.end (c.answer.ensures.tied m tied) c.answer.ensures.io)
 
 pub returns-clause-call : goal.returns-clause-call
@@ -45,7 +47,15 @@ returns-clause-call g c m tied same =
     let kept = kept_at io p in
     let some : (regs_at m p).y ≡ 0 → ⊥ = subst (λ (r : Regs). r.y ≡ 0 → ⊥) same c.if-regs-eq0.false in
     let call_is : c.call_now-call.result ≡ call_now (caller_of m p) io (read_code c.args.kind) opened (regs_at m p).y =
-    c.call_now-call.ensures.call ∙ ap (λ (code : ℕ). unwrap_or kept (first_call code opened c.args.regs.y)) c.read_code-code.ensures ∙ ap (λ (r : Regs). unwrap_or kept (first_call (read_code c.args.kind) opened r.y)) same in
-    tries-if-false m io p c.read_on.result c.read_on.new.s c.read_on.new.io _ _ ((regs_at m p).y == 0) (done (regs_at m p) io) (read_on c.args.kind (call_now (caller_of m p) io (read_code c.args.kind) opened (regs_at m p).y) c.args.desc.target (caller_of m p) io) (ne_eqb (regs_at m p).y 0 some)
-    (tries-same m io p c.read_on.result c.read_on.new.s c.read_on.new.io _ _ (read_on c.args.kind c.call_now-call.result c.args.desc.target (caller_of m p) io) (read_on c.args.kind (call_now (caller_of m p) io (read_code c.args.kind) opened (regs_at m p).y) c.args.desc.target (caller_of m p) io) (ap (λ (call : Kept). read_on c.args.kind call c.args.desc.target (caller_of m p) io) call_is)
+    c.call_now-call.ensures.call ∙ ap (λ (code : ℕ). unwrap_or kept (first_call code opened c.args.regs.y))
+    c.read_code-code.ensures ∙ ap (λ (r : Regs). unwrap_or kept (first_call (read_code c.args.kind) opened r.y))
+    same in
+    tries-if-false m io p c.read_on.result c.read_on.new.s c.read_on.new.io _ _ ((regs_at m p).y == 0)
+    (done (regs_at m p) io) (read_on c.args.kind (call_now (caller_of m p) io (read_code c.args.kind) opened
+    (regs_at m p).y) c.args.desc.target (caller_of m p) io) (ne_eqb (regs_at m p).y 0 some)
+    (tries-same m io p c.read_on.result c.read_on.new.s c.read_on.new.io _ _
+    (read_on c.args.kind c.call_now-call.result c.args.desc.target (caller_of m p) io)
+    (read_on c.args.kind (call_now (caller_of m p) io (read_code c.args.kind) opened (regs_at m p).y)
+    c.args.desc.target (caller_of m p) io) (ap (λ (call : Kept). read_on c.args.kind call c.args.desc.target
+    (caller_of m p) io) call_is)
     (c.read_on.ensures.call m tied same))

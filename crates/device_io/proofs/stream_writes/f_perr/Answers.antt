@@ -17,7 +17,9 @@ returns-clause-call g c drives m tied differ =
     let regs_are : c.regs-regs.result ≡ regs_at m p = c.regs-regs.ensures.regs ∙ regs-tied c.args.s.now m p tied in
     let whole : line_length line ≡ length line = subst (λ (it : List ℕ). line_length it ≡ length it) (sym c.error_line-line.ensures) (error-whole c.regs-regs.result.b) in
     attempts-of Call.PErr m c.args.io.now drives p c.tell.new.s c.send-end.new.io _ _ c.send-end.result differ
-    (error-tries m c.args.io.now c.args.p c.tell.new.s c.send-end.new.io _ _ line c.regs-regs.result c.send-end.result regs_are c.error_line-line.ensures (c.send-end.ensures.call (λ none. whole) (cells_at m p)) (λ it between. c.tell.ensures.told m it between tied))
+    (error-tries m c.args.io.now c.args.p c.tell.new.s c.send-end.new.io _ _ line c.regs-regs.result c.send-end.result
+    regs_are c.error_line-line.ensures (c.send-end.ensures.call (λ none. whole) (cells_at m p))
+    (λ it between. c.tell.ensures.told m it between tied))
 
 pub returns-clause-memory : goal.returns-clause-memory
 returns-clause-memory g c drives m tied wants =
@@ -26,4 +28,6 @@ returns-clause-memory g c drives m tied wants =
     let regs_are : c.regs-regs.result ≡ regs_at m p = c.regs-regs.ensures.regs ∙ regs-tied c.args.s.now m p tied in
     let whole : line_length line ≡ length line = subst (λ (it : List ℕ). line_length it ≡ length it) (sym c.error_line-line.ensures) (error-whole c.regs-regs.result.b) in
     wants-of m c.args.io.now p c.send-end.result c.tell.new.s c.send-end.new.io _ _ (f_perr_lem (caller_of m p) c.args.io.now) wants
-    (error-tries m c.args.io.now c.args.p c.tell.new.s c.send-end.new.io _ _ line c.regs-regs.result c.send-end.result regs_are c.error_line-line.ensures (c.send-end.ensures.call (λ none. whole) (cells_at m p)) (λ it between. c.tell.ensures.told m it between tied))
+    (error-tries m c.args.io.now c.args.p c.tell.new.s c.send-end.new.io _ _ line c.regs-regs.result c.send-end.result
+    regs_are c.error_line-line.ensures (c.send-end.ensures.call (λ none. whole) (cells_at m p))
+    (λ it between. c.tell.ensures.told m it between tied))

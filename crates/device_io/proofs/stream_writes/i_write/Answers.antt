@@ -26,10 +26,15 @@ returns-in-None-clause-call g c drives m tied differ =
     let caller = caller_of m p in
     let s = c.read_moving.new.s in
     let regs_are : c.regs-regs.result ≡ regs_at m p = c.regs-regs.ensures.regs ∙ regs-tied c.args.s.now m p tied in
-    let absent : user_bytes (cells_at m p) c.regs-regs.result.x c.regs-regs.result.y ≡ None = read-none io p c.regs-regs.result.a (user_bytes (cells_at m p) c.regs-regs.result.x c.regs-regs.result.y) s.buffer.items (c.in-None.ensures.read m tied) in
+    let absent : user_bytes (cells_at m p) c.regs-regs.result.x c.regs-regs.result.y ≡ None = read-none io p
+    c.regs-regs.result.a (user_bytes (cells_at m p) c.regs-regs.result.x c.regs-regs.result.y) s.buffer.items
+    (c.in-None.ensures.read m tied) in
     let none : user_bytes (cells_at m p) (regs_at m p).x (regs_at m p).y ≡ None = ap (λ (r : Regs). user_bytes (cells_at m p) r.x r.y) (sym regs_are) ∙ absent in
     attempts-of Call.Write m io drives p s c.refuse.new.io _ _ c.refuse.result differ
-    (tries-needs-none m io p c.refuse.result s c.refuse.new.io _ _ (user_bytes (cells_at m p) (regs_at m p).x (regs_at m p).y) E_BPADDR (λ (bytes : List ℕ). on_path caller io caller.regs.a can_write (λ (opened : OpenPath). unless_nothing caller io (sends_on (sent_bytes caller bytes) I_WRITE caller io opened))) none
+    (tries-needs-none m io p c.refuse.result s c.refuse.new.io _ _ (user_bytes (cells_at m p) (regs_at m p).x
+    (regs_at m p).y) E_BPADDR (λ (bytes : List ℕ). on_path caller io caller.regs.a can_write
+    (λ (opened : OpenPath). unless_nothing caller io (sends_on (sent_bytes caller bytes) I_WRITE caller io
+    opened))) none
     (tries-refused m io p s c.refuse.new.io _ E_BPADDR c.refuse.result c.refuse.ensures.end (c.in-None.ensures.same.represents m tied) c.refuse.ensures.io))
 
 pub returns-in-Some-clause-call : goal.returns-in-Some-clause-call
@@ -40,10 +45,15 @@ returns-in-Some-clause-call g c drives m tied differ =
     let regs_are : regs ≡ regs_at m p = c.regs-regs.ensures.regs ∙ regs-tied c.args.s.now m p tied in
     let cells = cells_at m p in
     let all : List ℕ = c.deref.result.now in
-    let read : IsRead io p regs.a (user_bytes cells regs.x regs.y) (Some c.in-Some.y) all = subst (λ (it : List ℕ). IsRead io p regs.a (user_bytes cells regs.x regs.y) (Some c.in-Some.y) it) (sym c.deref.ensures.value) (c.in-Some.ensures.read m tied) in
+    let read : IsRead io p regs.a (user_bytes cells regs.x regs.y) (Some c.in-Some.y) all = subst
+    (λ (it : List ℕ). IsRead io p regs.a (user_bytes cells regs.x regs.y) (Some c.in-Some.y) it)
+    (sym c.deref.ensures.value) (c.in-Some.ensures.read m tied) in
     let it = read-some io p regs.a (user_bytes cells regs.x regs.y) c.in-Some.y all read in
     attempts-of Call.Write m io drives p c.tell.new.s c.send-end.new.io _ _ c.send-end.result differ
-    (bytes-tries m io c.args.p c.tell.new.s c.send-end.new.io _ _ it.0 regs c.send-end.result regs_are (user-length cells regs.x regs.y it.0 it.1) it.1 (sends-read Bytes c.args.p regs cells io c.send-end.new.io c.send-end.result _ _ it.0 (take c.in-Some.y all) it.2 (c.send-end.ensures.call (λ none. refl) cells)) (λ end between. c.tell.ensures.told m end between (c.in-Some.ensures.same.represents m tied)))
+    (bytes-tries m io c.args.p c.tell.new.s c.send-end.new.io _ _ it.0 regs c.send-end.result regs_are
+    (user-length cells regs.x regs.y it.0 it.1) it.1 (sends-read Bytes c.args.p regs cells io c.send-end.new.io
+    c.send-end.result _ _ it.0 (take c.in-Some.y all) it.2 (c.send-end.ensures.call (λ none. refl) cells))
+    (λ end between. c.tell.ensures.told m end between (c.in-Some.ensures.same.represents m tied)))
 
 pub returns-in-Some-clause-memory : goal.returns-in-Some-clause-memory
 returns-in-Some-clause-memory g c drives m tied wants =
@@ -53,7 +63,12 @@ returns-in-Some-clause-memory g c drives m tied wants =
     let regs_are : regs ≡ regs_at m p = c.regs-regs.ensures.regs ∙ regs-tied c.args.s.now m p tied in
     let cells = cells_at m p in
     let all : List ℕ = c.deref.result.now in
-    let read : IsRead io p regs.a (user_bytes cells regs.x regs.y) (Some c.in-Some.y) all = subst (λ (it : List ℕ). IsRead io p regs.a (user_bytes cells regs.x regs.y) (Some c.in-Some.y) it) (sym c.deref.ensures.value) (c.in-Some.ensures.read m tied) in
+    let read : IsRead io p regs.a (user_bytes cells regs.x regs.y) (Some c.in-Some.y) all = subst
+    (λ (it : List ℕ). IsRead io p regs.a (user_bytes cells regs.x regs.y) (Some c.in-Some.y) it)
+    (sym c.deref.ensures.value) (c.in-Some.ensures.read m tied) in
     let it = read-some io p regs.a (user_bytes cells regs.x regs.y) c.in-Some.y all read in
     wants-of m io p c.send-end.result c.tell.new.s c.send-end.new.io _ _ (i_write_lem (caller_of m p) io) wants
-    (bytes-tries m io c.args.p c.tell.new.s c.send-end.new.io _ _ it.0 regs c.send-end.result regs_are (user-length cells regs.x regs.y it.0 it.1) it.1 (sends-read Bytes c.args.p regs cells io c.send-end.new.io c.send-end.result _ _ it.0 (take c.in-Some.y all) it.2 (c.send-end.ensures.call (λ none. refl) cells)) (λ end between. c.tell.ensures.told m end between (c.in-Some.ensures.same.represents m tied)))
+    (bytes-tries m io c.args.p c.tell.new.s c.send-end.new.io _ _ it.0 regs c.send-end.result regs_are
+    (user-length cells regs.x regs.y it.0 it.1) it.1 (sends-read Bytes c.args.p regs cells io c.send-end.new.io
+    c.send-end.result _ _ it.0 (take c.in-Some.y all) it.2 (c.send-end.ensures.call (λ none. refl) cells))
+    (λ end between. c.tell.ensures.told m end between (c.in-Some.ensures.same.represents m tied)))

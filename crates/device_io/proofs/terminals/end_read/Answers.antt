@@ -16,4 +16,9 @@ returns-in-Done-clause-ends c m read tied same =
     let p = c.args.p.0 in
     let bytes = take c.in-Done.count c.args.bytes.now in
     subst (λ (a : Progress). EndsBy (read_ends (caller_of m p) read a) c.args.regs.x (take (count_of a) c.args.bytes.now) m p CallEnd.Done c.set_regs.new.self) (sym c.in-Done.is)
-    (λ io. (refl, subst (λ (r : Regs). Represents c.set_regs.new.self (with_regs_of (with_memory m (stored m.memory p c.args.regs.x bytes)) p (record r { y = c.in-Done.count }))) same (c.set_regs.ensures.tied _ (c.store.ensures.tied m tied))))
+    (λ io. (
+      refl,
+      subst (λ (r : Regs). Represents c.set_regs.new.self
+          (with_regs_of (with_memory m (stored m.memory p c.args.regs.x bytes)) p (record r { y = c.in-Done.count })))
+          same (c.set_regs.ensures.tied _ (c.store.ensures.tied m tied)),
+    ))

@@ -15,7 +15,9 @@ pub returns-in-Ok-clause-list : goal.returns-in-Ok-clause-list
 returns-in-Ok-clause-list c =
     let cells : Cells = cells_of c.args.memory.now c.args.p.0 in
     c.read_behind_device.ensures.list
-    ∙ ap (λ (seen : Cells). listed_by c.in-Ok.device (tails seen) (step_by c.in-Ok.device (c.args.at + length c.in-Ok.device) (behind seen (c.args.at + length c.in-Ok.device)))) (c.name.ensures.same.cells c.args.p.0)
+    ∙ ap (λ (seen : Cells). listed_by c.in-Ok.device (tails seen)
+    (step_by c.in-Ok.device (c.args.at + length c.in-Ok.device)
+    (behind seen (c.args.at + length c.in-Ok.device)))) (c.name.ensures.same.cells c.args.p.0)
     ∙ sym (device-listed cells c.args.at 65535 c.in-Ok.device)
     ∙ from-name cells c.args.at 65535 (Ok c.in-Ok.device) (sym c.in-Ok.is ∙ c.name.ensures.name)
 

@@ -33,6 +33,9 @@ pub returns-in-Ok-clause-found : goal.returns-in-Ok-clause-found
 returns-in-Ok-clause-found g c m io tied =
     let p = c.args.p.0 in
     let read = c.read_list.ensures.list m tied ∙ ap (λ (r : Regs). listed_of (path_list (cells_at m p) r.x)) (c.regs-regs.ensures.tied m tied) in
-    open-list (search_of c.args.search) (allows c.args.search (regs_at m p).a) (caller_of m p) io (vec_len c.args.devices.now.drives) (vec_len c.args.devices.now.terms) c.in-Ok.list (opens_found (caller_of m p) io c.find_by.result) (sym c.in-Ok.is ∙ read) (λ list is. c.find_by.ensures.found list (caller_of m p) io is)
+    open-list (search_of c.args.search) (allows c.args.search (regs_at m p).a) (caller_of m p) io
+    (vec_len c.args.devices.now.drives) (vec_len c.args.devices.now.terms) c.in-Ok.list
+    (opens_found (caller_of m p) io c.find_by.result) (sym c.in-Ok.is ∙ read) (λ list is. c.find_by.ensures.found
+    list (caller_of m p) io is)
     ∙ mode-now c.args.search c.regs-regs.result (regs_at m p) (opens_found (caller_of m p) io c.find_by.result) (c.regs-regs.ensures.tied m tied)
     ∙ sym (c.if_allowed-in-Ok.ensures.found (caller_of m p) io)

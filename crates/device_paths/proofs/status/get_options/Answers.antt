@@ -16,7 +16,8 @@ returns-then-not-read_bytes-clause-call c m tied =
 
 pub returns-clause-call : goal.returns-clause-call
 returns-clause-call c m tied =
-    options-stored m c.args.io.now c.answer.new.io c.args.p.0 c.args.target c.answer.result c.answer.new.s (take 32 c.read_bytes.new.self.buffer.items) c.regs-regs.result (c.regs-regs.ensures.tied m tied)
+    options-stored m c.args.io.now c.answer.new.io c.args.p.0 c.args.target c.answer.result c.answer.new.s
+    (take 32 c.read_bytes.new.self.buffer.items) c.regs-regs.result (c.regs-regs.ensures.tied m tied)
     (c.read_bytes.ensures.read m tied ∙ ap (λ (b : Bool). bytes_read b 32 c.read_bytes.new.self.buffer.items) c.if-not-read_bytes.false)
     c.answer.ensures.end
     (subst (λ (bytes : List ℕ). Represents c.answer.new.s (with_regs_of (with_memory m (stored m.memory c.args.p.0 c.regs-regs.result.x bytes)) c.args.p.0 c.regs-regs.result)) c.options.ensures

@@ -5,4 +5,5 @@ use Rattle.device_paths.proofs.status.i_getstt.Goals as goal
 
 pub returns-clause-call : goal.returns-clause-call
 returns-clause-call c m drives terms tied =
-    attempts Call.GetStt m c.args.io.now c.get_status.new.io drives c.args.p.0 c.get_status.result c.get_status.new.s terms (getstt-quiet (caller_of m c.args.p.0) c.args.io.now) (c.get_status.ensures.call m tied)
+    attempts Call.GetStt m c.args.io.now c.get_status.new.io drives c.args.p.0 c.get_status.result c.get_status.new.s
+    terms (getstt-quiet (caller_of m c.args.p.0) c.args.io.now) (c.get_status.ensures.call m tied)

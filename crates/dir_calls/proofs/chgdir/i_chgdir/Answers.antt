@@ -26,10 +26,14 @@ returns-in-Err-clause-call g c now terms many m was tied stands kinds =
     let look = looks_for_directory asker was (length terms) in
     let most = i_chgdir_calls asker was (length terms) in
     ends-attempt most Call.ChgDir m was now c.args.p.0 c.refuse.result terms _ _
-    (ends-refused (i_chgdir asker was (length terms)) most m was now c.args.p.0 terms c.find_directory.new.files _ _ c.refuse.result c.find_directory.new.s c.refuse.new.io c.refuse.ensures.io c.in-Err.number c.refuse.ensures.end (c.find_directory.ensures.same.represents m tied)
+    (ends-refused (i_chgdir asker was (length terms)) most m was now c.args.p.0 terms c.find_directory.new.files _ _
+    c.refuse.result c.find_directory.new.s c.refuse.new.io c.refuse.ensures.io c.in-Err.number
+    c.refuse.ensures.end (c.find_directory.ensures.same.represents m tied)
     (tries-same (next_step look (goes_there asker was)) (i_chgdir asker was (length terms)) most most asker was _ _ _ _ (sym (chgdir-parts asker was (length terms))) refl
     (tries-unfound (IsLocated look was) look (goes_there asker was) most asker was c.in-Err.number c.find_directory.new.files _ _ (λ it. tt)
-    (locates-same (looks_for_directory asker was terminals) look (i_chgdir_calls asker was terminals) most _ was _ _ _ (ap (looks_for_directory asker was) (sym many)) (ap (i_chgdir_calls asker was) (sym many)) (c.in-Err.ensures.finds m was now tied stands)))))
+    (locates-same (looks_for_directory asker was terminals) look (i_chgdir_calls asker was terminals) most _ was _ _ _
+    (ap (looks_for_directory asker was) (sym many)) (ap (i_chgdir_calls asker was) (sym many))
+    (c.in-Err.ensures.finds m was now tied stands)))))
 
 pub returns-in-Ok-clause-call : goal.returns-in-Ok-clause-call
 returns-in-Ok-clause-call g c now terms many m was tied stands kinds =
@@ -39,7 +43,10 @@ returns-in-Ok-clause-call g c now terms many m was tied stands kinds =
     let look = looks_for_directory asker was (length terms) in
     let most = i_chgdir_calls asker was (length terms) in
     let mid = c.find_directory.new.files in
-    let loc = found (IsLocated look was) look most was c.in-Ok.located mid _ _ (locates-same (looks_for_directory asker was terminals) look (i_chgdir_calls asker was terminals) most _ was _ _ _ (ap (looks_for_directory asker was) (sym many)) (ap (i_chgdir_calls asker was) (sym many)) (c.in-Ok.ensures.finds m was now tied stands)) in
+    let loc = found (IsLocated look was) look most was c.in-Ok.located mid _ _
+    (locates-same (looks_for_directory asker was terminals) look (i_chgdir_calls asker was terminals) most _ was _
+    _ _ (ap (looks_for_directory asker was) (sym many)) (ap (i_chgdir_calls asker was) (sym many))
+    (c.in-Ok.ensures.finds m was now tied stands)) in
     let regs_is : c.regs-regs.result ≡ regs_at m p = c.regs-regs.ensures.tied m tied in
     let regs : Regs = record (regs_at m p) { x = loc.it.list.next % 65536 } in
     ends-attempt most Call.ChgDir m was now p c.answer-end.result terms _ _

@@ -15,4 +15,6 @@ returns-clause-call g c now terms many m was tied stands kinds =
     let most = i_delete_calls asker was (length terms) in
     ends-attempt most Call.Delete m was now c.args.p.0 c.end_call.result terms _ _
     (c.end_call.ensures.ends step most m was now terms _ _ (c.delete_named-came.ensures.same.represents m tied)
-    (tries-same (i_delete asker was terminals) step (i_delete_calls asker was terminals) most asker was _ _ _ _ (ap (i_delete asker was) (sym many)) (ap (i_delete_calls asker was) (sym many)) (c.delete_named-came.ensures.tries now m was tied stands)))
+    (tries-same (i_delete asker was terminals) step (i_delete_calls asker was terminals) most asker was _ _ _ _
+    (ap (i_delete asker was) (sym many)) (ap (i_delete_calls asker was) (sym many))
+    (c.delete_named-came.ensures.tries now m was tied stands)))

@@ -20,7 +20,10 @@ returns-clause-call g c now terms many m was tied stands kinds =
     let execute_is : c.is_for_execution.result ≡ is_for_execution asker.caller.regs.a = c.is_for_execution.ensures ∙ ap (λ (regs : Regs). is_for_execution regs.a) (c.regs-mode.ensures.tied m tied) in
     ends-attempt most Call.DeletX m was now c.args.p.0 c.end_call.result terms _ _
     (c.end_call.ensures.ends step most m was now terms _ _ (c.delete_named-came.ensures.same.represents m tied)
-    (tries-same (deletes_by asker was terminals c.is_for_execution.result (refuses_by c.mode_refusal-refusal.result)) step (deletes_by_calls c.is_for_execution.result asker was terminals) most asker was _ _ _ _
-    (deletx-parts asker was terminals c.regs-mode.result c.is_for_execution.result c.is_mode.result c.mode_refusal-refusal.result (c.regs-mode.ensures.tied m tied) c.is_for_execution.ensures c.is_mode.ensures c.mode_refusal-refusal.ensures ∙ ap (i_deletx asker was) (sym many))
+    (tries-same (deletes_by asker was terminals c.is_for_execution.result (refuses_by c.mode_refusal-refusal.result))
+    step (deletes_by_calls c.is_for_execution.result asker was terminals) most asker was _ _ _ _
+    (deletx-parts asker was terminals c.regs-mode.result c.is_for_execution.result c.is_mode.result
+    c.mode_refusal-refusal.result (c.regs-mode.ensures.tied m tied) c.is_for_execution.ensures c.is_mode.ensures
+    c.mode_refusal-refusal.ensures ∙ ap (i_deletx asker was) (sym many))
     (ap (λ (e : Bool). deletes_by_calls e asker was terminals) execute_is ∙ ap (i_deletx_calls asker was) (sym many))
     (c.delete_named-came.ensures.tries now m was tied stands)))

@@ -15,4 +15,6 @@ returns-clause-call g c terms many m was tied stands kinds =
     let most = i_makdir_calls asker was (length terms) in
     ends-attempt most Call.MakDir m was c.args.now c.args.p.0 c.end_call.result terms _ _
     (c.end_call.ensures.ends step most m was c.args.now terms _ _ (c.make_directory-came.ensures.same.represents m tied)
-    (tries-same (i_makdir asker was terminals) step (i_makdir_calls asker was terminals) most asker was _ _ _ _ (ap (i_makdir asker was) (sym many)) (ap (i_makdir_calls asker was) (sym many)) (c.make_directory-came.ensures.tries m was tied stands)))
+    (tries-same (i_makdir asker was terminals) step (i_makdir_calls asker was terminals) most asker was _ _ _ _
+    (ap (i_makdir asker was) (sym many)) (ap (i_makdir_calls asker was) (sym many))
+    (c.make_directory-came.ensures.tries m was tied stands)))

@@ -24,7 +24,8 @@ returns-in-Err-clause-tries g c m was tied stands =
     let most = i_makdir_calls asker was terms in
     tries-same (next_step look (makes_it asker was)) (i_makdir asker was terms) most most asker was _ _ _ _ (sym (makdir-parts asker was terms)) refl
     (tries-more (next_step look (makes_it asker was)) seen most asker was _ _ _ _ (named-seen New asker was terms false (making_calls asker.user))
-    (tries-unfound (IsNamed New look was) look (makes_it asker was) seen asker was c.in-Err.number c.locate_last.new.files _ _ (makes-quiet asker was) (c.in-Err.ensures.locates m was c.args.now tied stands)))
+    (tries-unfound (IsNamed New look was) look (makes_it asker was) seen asker was c.in-Err.number
+    c.locate_last.new.files _ _ (makes-quiet asker was) (c.in-Err.ensures.locates m was c.args.now tied stands)))
 
 pub returns-in-Ok-clause-tries : goal.returns-in-Ok-clause-tries
 returns-in-Ok-clause-tries g c m was tied stands =
@@ -35,7 +36,8 @@ returns-in-Ok-clause-tries g c m was tied stands =
     let most = i_makdir_calls asker was terms in
     let loc = found (IsNamed New look was) look seen was c.in-Ok.last c.locate_last.new.files _ _ (c.in-Ok.ensures.locates m was c.args.now tied stands) in
     tries-same (next_step look (makes_it asker was)) (i_makdir asker was terms) most most asker was _ _ _ _ (sym (makdir-parts asker was terms)) refl
-    (tries-more (next_step look (makes_it asker was)) (makes_it_calls seen asker loc.it) most asker was _ _ _ _ (named-within New asker was terms false (making_calls asker.user) loc.it None loc.answer)
+    (tries-more (next_step look (makes_it asker was)) (makes_it_calls seen asker loc.it) most asker was _ _ _ _
+    (named-within New asker was terms false (making_calls asker.user) loc.it None loc.answer)
     (c.make_in.ensures.makes look seen asker was _ (record {
       user_is = user-is c.args.s.now m c.args.p.0 c.user.result tied c.user.ensures.user;
       attributes_are = ap (λ (regs : Regs). regs.b) (sym (c.regs.ensures.tied m tied));

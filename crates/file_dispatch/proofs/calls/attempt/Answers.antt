@@ -10,21 +10,31 @@ use Rattle.file_dispatch.proofs.calls.attempt.Goals as goal
 
 pub attempt_on_number-requires-clause-may : goal.attempt_on_number-requires-clause-may
 attempt_on_number-requires-clause-may g c =
-    may-as c.args.call (number_call c.in-Number.number) c.args.s.now c.args.files.now c.args.p.0 _ (call-is c.kind_of.result (Kind.Number c.in-Number.number) c.args.call c.in-Number.is c.kind_of.ensures) c.requires.may
+    may-as c.args.call (number_call c.in-Number.number) c.args.s.now c.args.files.now c.args.p.0 _
+    (call-is c.kind_of.result (Kind.Number c.in-Number.number) c.args.call c.in-Number.is c.kind_of.ensures)
+    c.requires.may
 
 pub returns-in-Number-clause-call : goal.returns-in-Number-clause-call
 returns-in-Number-clause-call g c time is =
-    call-tries c.args.call (number_call c.in-Number.number) time c.args.p.0 (call-is c.kind_of.result (Kind.Number c.in-Number.number) c.args.call c.in-Number.is c.kind_of.ensures) c.attempt_on_number.result _ _ _ _ (c.attempt_on_number.ensures.call time (time-for c.args.call (number_call c.in-Number.number) c.args.now time (call-is c.kind_of.result (Kind.Number c.in-Number.number) c.args.call c.in-Number.is c.kind_of.ensures) is))
+    call-tries c.args.call (number_call c.in-Number.number) time c.args.p.0
+    (call-is c.kind_of.result (Kind.Number c.in-Number.number) c.args.call c.in-Number.is c.kind_of.ensures)
+    c.attempt_on_number.result _ _ _ _ (c.attempt_on_number.ensures.call time
+    (time-for c.args.call (number_call c.in-Number.number) c.args.now time
+    (call-is c.kind_of.result (Kind.Number c.in-Number.number) c.args.call c.in-Number.is c.kind_of.ensures) is))
 
 pub returns-in-List-clause-call : goal.returns-in-List-clause-call
 returns-in-List-clause-call g c time is =
     rw c.attempt_on_list.ensures.terms_kept
     (call-tries c.args.call (list_call c.in-List.list) time c.args.p.0 (call-is c.kind_of.result (Kind.List c.in-List.list) c.args.call c.in-List.is c.kind_of.ensures) c.attempt_on_list.result _ _ _ _
     (λ m was tied stands kinds. tries-of (list_call c.in-List.list) m was time c.args.p.0 c.attempt_on_list.result _ _ _ _
-    (c.attempt_on_list.ensures.call time _ (time-for c.args.call (list_call c.in-List.list) c.args.now time (call-is c.kind_of.result (Kind.List c.in-List.list) c.args.call c.in-List.is c.kind_of.ensures) is) (length-map _ _ ∙ sym c.args.devices.now.terms.ok.0) m was tied stands kinds)))
+    (c.attempt_on_list.ensures.call time _ (time-for c.args.call (list_call c.in-List.list) c.args.now time
+    (call-is c.kind_of.result (Kind.List c.in-List.list) c.args.call c.in-List.is c.kind_of.ensures) is)
+    (length-map _ _ ∙ sym c.args.devices.now.terms.ok.0) m was tied stands kinds)))
 
 pub returns-in-List-clause-drives_kept : goal.returns-in-List-clause-drives_kept
 returns-in-List-clause-drives_kept g c is =
     let terms = some-terms (vec_len c.args.devices.now.terms) in
-    absurd (never-memory (attempt_calls (list_call c.in-List.list)) (list_call c.in-List.list) c.args.now c.args.p.0 c.attempt_on_list.result terms terms c.args.s.now c.attempt_on_list.new.s c.args.files.now c.attempt_on_list.new.files _ _ c.requires.sound
+    absurd (never-memory (attempt_calls (list_call c.in-List.list)) (list_call c.in-List.list) c.args.now c.args.p.0
+    c.attempt_on_list.result terms terms c.args.s.now c.attempt_on_list.new.s c.args.files.now
+    c.attempt_on_list.new.files _ _ c.requires.sound
     (c.attempt_on_list.ensures.call c.args.now terms (λ _. refl) (length-replicate (vec_len c.args.devices.now.terms) unused_terminal)) is)

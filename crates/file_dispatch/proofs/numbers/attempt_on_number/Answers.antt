@@ -14,12 +14,17 @@ returns-in-Dup-clause-call g c time is m was tied stands kinds =
 
 pub returns-in-Seek-clause-call : goal.returns-in-Seek-clause-call
 returns-in-Seek-clause-call g c time is m was tied stands kinds =
-    number-tries c.args.call Number.Seek m was time c.args.p.0 c.in-Seek.is c.seek_path.result _ _ _ _ (tries-of Call.Seek m was time c.args.p.0 c.seek_path.result _ _ _ _ (c.seek_path.ensures.call time _ _ m was tied stands kinds))
+    number-tries c.args.call Number.Seek m was time c.args.p.0 c.in-Seek.is c.seek_path.result _ _ _ _
+    (tries-of Call.Seek m was time c.args.p.0 c.seek_path.result _ _ _ _ (c.seek_path.ensures.call time _ _ m was
+    tied stands kinds))
 
 pub returns-in-Close-clause-call : goal.returns-in-Close-clause-call
 returns-in-Close-clause-call g c time is m was tied stands kinds =
-    number-tries c.args.call Number.Close m was time c.args.p.0 c.in-Close.is c.attempt_on_device-in-Close.result _ _ _ _ (c.attempt_on_device-in-Close.ensures.call Call.Close m was time tied stands refl)
+    number-tries c.args.call Number.Close m was time c.args.p.0 c.in-Close.is c.attempt_on_device-in-Close.result _ _
+    _ _ (c.attempt_on_device-in-Close.ensures.call Call.Close m was time tied stands refl)
 
 pub returns-in-Use-clause-call : goal.returns-in-Use-clause-call
 returns-in-Use-clause-call g c time is m was tied stands kinds =
-    number-tries c.args.call (Number.Use c.in-Use.used) m was time c.args.p.0 c.in-Use.is c.use_path.result _ _ _ _ (c.use_path.ensures.call time (time-for (number_call c.args.call) (call_of c.in-Use.used) c.args.now time (sym (ap number_call c.in-Use.is)) is) m was tied stands kinds)
+    number-tries c.args.call (Number.Use c.in-Use.used) m was time c.args.p.0 c.in-Use.is c.use_path.result _ _ _ _
+    (c.use_path.ensures.call time (time-for (number_call c.args.call) (call_of c.in-Use.used) c.args.now time
+    (sym (ap number_call c.in-Use.is)) is) m was tied stands kinds)

@@ -18,5 +18,8 @@ returns-in-None-clause-call c now views terms m was tied stands kinds =
     let p = c.args.p.0 in
     let same : c.regs-number.result ≡ regs_at m p = c.regs-number.ensures.regs ∙ regs-tied c.args.s.now m p tied in
     let none : open_file was p (regs_at m p).a ≡ None = subst (λ (r : Regs). open_file was p r.a ≡ None) same (c.in-None.ensures.file views was stands kinds) in
-    uncalled-in Call.Seek m was now p c.seek_nothing.result c.seek_nothing.new.s 0 (seeks_nothing (caller_of m p) was.io) c.args.s.now c.args.files.now _ views terms terms (seeks-on-device m was now p terms none)
-    (lifts-quiet Call.Seek m was now p c.seek_nothing.result c.seek_nothing.new.s c.args.files.now c.seek_nothing.new.io views terms (λ io. seeks_nothing (caller_of m p) io) stands (seeks-on-device m was now p terms none) (seeks-quiet (caller_of m p) was.io) (c.seek_nothing.ensures.call m tied))
+    uncalled-in Call.Seek m was now p c.seek_nothing.result c.seek_nothing.new.s 0 (seeks_nothing (caller_of m p)
+    was.io) c.args.s.now c.args.files.now _ views terms terms (seeks-on-device m was now p terms none)
+    (lifts-quiet Call.Seek m was now p c.seek_nothing.result c.seek_nothing.new.s c.args.files.now
+    c.seek_nothing.new.io views terms (λ io. seeks_nothing (caller_of m p) io) stands (seeks-on-device m was now p
+    terms none) (seeks-quiet (caller_of m p) was.io) (c.seek_nothing.ensures.call m tied))

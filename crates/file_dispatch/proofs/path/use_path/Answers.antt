@@ -12,10 +12,14 @@ returns-in-Some-clause-call g c time is m was tied stands kinds =
 
 pub returns-in-Some-clause-drives_kept : goal.returns-in-Some-clause-drives_kept
 returns-in-Some-clause-drives_kept g c is =
-    absurd (never-memory (attempt_calls (call_of c.args.call)) (call_of c.args.call) c.args.now c.args.p.0 c.use_file.result [] [] c.args.s.now c.use_file.new.s c.args.files.now c.use_file.new.files _ _ c.requires.sound (c.use_file.ensures.call c.args.now [] (λ _. refl)) is)
+    absurd (never-memory (attempt_calls (call_of c.args.call)) (call_of c.args.call) c.args.now c.args.p.0
+    c.use_file.result [] [] c.args.s.now c.use_file.new.s c.args.files.now c.use_file.new.files _ _
+    c.requires.sound (c.use_file.ensures.call c.args.now [] (λ _. refl)) is)
 
 pub returns-in-None-clause-call : goal.returns-in-None-clause-call
 returns-in-None-clause-call g c time is m was tied stands kinds =
     let p = c.args.p.0 in
-    let none = none-named was p (device_of c.args.call) m c.regs.result c.path_number-number.result c.path_number-number.ensures (c.regs.ensures.regs ∙ regs-tied c.args.s.now m p tied) (c.in-None.ensures.file _ was stands kinds) in
+    let none = none-named was p (device_of c.args.call) m c.regs.result c.path_number-number.result
+    c.path_number-number.ensures (c.regs.ensures.regs ∙ regs-tied c.args.s.now m p tied)
+    (c.in-None.ensures.file _ was stands kinds) in
     c.attempt_on_device.ensures.call (call_of c.args.call) m was time tied stands (on-device-as m was time p _ _ c.args.call c.on_device.result c.on_device.ensures none)

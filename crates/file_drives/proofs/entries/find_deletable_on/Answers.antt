@@ -11,4 +11,5 @@ find_deletable-requires-clause-file g c = has-file c.args.kept.now c.in-Some.vol
 pub returns : goal.returns
 returns g c =
     finds-deletable c.args.kept.now c.in-Some.volume c.find_deletable.new.v _ _ c.args.dir c.args.name.now c.args.user c.args.execute c.find_deletable.result c.in-Some.is
-    c.find_deletable.ensures.answer c.find_deletable.ensures.ok c.find_deletable.ensures.media_kept c.find_deletable.ensures.volume_kept c.find_deletable.ensures.mounted c.find_deletable.ensures.counts
+    c.find_deletable.ensures.answer c.find_deletable.ensures.ok c.find_deletable.ensures.media_kept
+    c.find_deletable.ensures.volume_kept c.find_deletable.ensures.mounted c.find_deletable.ensures.counts

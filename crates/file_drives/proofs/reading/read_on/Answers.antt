@@ -17,6 +17,8 @@ returns-clause-ok g c =
 pub returns-clause-drive : goal.returns-clause-drive
 returns-clause-drive g c = record {
   holds = λ v file agrees there.
-      reads-mounted c.args.kept.now c.in-Some.volume c.read_at.new.self _ _ (file_fault c.read_at.result) (read_calls file c.args.at (length c.args.into.now)) c.in-Some.is c.read_at.ensures.media_kept c.read_at.ensures.volume_kept c.read_at.ensures.mounted
+      reads-mounted c.args.kept.now c.in-Some.volume c.read_at.new.self _ _ (file_fault c.read_at.result)
+      (read_calls file c.args.at (length c.args.into.now)) c.in-Some.is c.read_at.ensures.media_kept
+      c.read_at.ensures.volume_kept c.read_at.ensures.mounted
       (c.read_at.ensures.counts v file (mounted-as c.args.kept.now c.in-Some.volume _ v c.in-Some.is agrees).on there);
 }

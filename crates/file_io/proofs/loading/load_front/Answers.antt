@@ -11,4 +11,6 @@ overflow_cast-result g c =
 
 pub returns-in-Ok-clause-ok : goal.returns-in-Ok-clause-ok
 returns-in-Ok-clause-ok g c volumes v file mounted is there =
-    loaded-of file c.args.at c.args.most (take c.args.most c.args.into.now) c.read_at.new.into (drop c.args.most c.args.into.now) c.in-Ok.count (length-take-le c.args.most c.args.into.now c.requires.room) (c.in-Ok.ensures.ok volumes v file mounted is there)
+    loaded-of file c.args.at c.args.most (take c.args.most c.args.into.now) c.read_at.new.into
+    (drop c.args.most c.args.into.now) c.in-Ok.count (length-take-le c.args.most c.args.into.now c.requires.room)
+    (c.in-Ok.ensures.ok volumes v file mounted is there)

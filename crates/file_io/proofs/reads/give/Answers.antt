@@ -24,7 +24,9 @@ returns-clause-call c m tied =
     let n = c.part_length-y.result in
     let room : count ≤ length buffer = omega arith in
     let within : n ≤ length (take count buffer) = subst (λ (b : List ℕ). n ≤ length (take count b)) c.deref.ensures.value c.part_length-y.ensures.within in
-    let part : take n (take count buffer) ≡ part_of kind (take count buffer) = subst (λ (b : List ℕ). take n (take count b) ≡ part_of kind (take count b)) c.deref.ensures.value c.part_length-y.ensures.part in
+    let part : take n (take count buffer) ≡ part_of kind (take count buffer) = subst
+    (λ (b : List ℕ). take n (take count b) ≡ part_of kind (take count b)) c.deref.ensures.value
+    c.part_length-y.ensures.part in
     let given = given-bytes kind buffer count n within part in
     record {
       none = λ e. absurd (c.if-count-eq0.false (omega (arith, e, length-take count buffer, room)));

@@ -25,7 +25,8 @@ end_read-requires-clause-named g c =
 pub end_read-requires-clause-few : goal.end_read-requires-clause-few
 end_read-requires-clause-few g c =
     let has = c.requires.opened.file in
-    loaded-few has.file c.args.opened.now.desc.at c.args.regs.y c.load-loaded.new.s.buffer.items c.load-loaded.result (c.load-loaded.ensures.ok has.volumes has.volume has.file has.mounted has.is has.there)
+    loaded-few has.file c.args.opened.now.desc.at c.args.regs.y c.load-loaded.new.s.buffer.items c.load-loaded.result
+    (c.load-loaded.ensures.ok has.volumes has.volume has.file has.mounted has.is has.there)
 
 pub end_read-requires-clause-fits : goal.end_read-requires-clause-fits
 end_read-requires-clause-fits g c =
@@ -48,6 +49,10 @@ returns-clause-call g c now m was v file terms tied stands is there =
     read-ends c.args.kind m was v file now p opened c.end_read.result c.end_read.new.s mid c.end_read.new.io _ _ terms (read_calls file at (regs_at m p).y)
     (called-more (read_calls file at c.args.regs.y) (read_calls file at (regs_at m p).y) _ _ (omega (arith, ap (λ (r : Regs). read_calls file at r.y) same)) called) is
     (subst (λ (r : Regs). r.y ≢ 0) same c.requires.buffer.some) loaded buffer
-    (has-read c.args.files.now mid _ _ was opened.place file (file_fault loaded) calls stands (file-there was opened.place v file is there) refl refl c.load-loaded.ensures.drive) c.load-loaded.ensures.device
+    (has-read c.args.files.now mid _ _ was opened.place file (file_fault loaded) calls stands
+    (file-there was opened.place v file is there) refl refl c.load-loaded.ensures.drive)
+    c.load-loaded.ensures.device
     (subst (λ (r : Regs). IfOk loaded (IsLoaded file at r.y buffer)) same (c.load-loaded.ensures.ok was.volumes v file stands.mounted is there))
-    (subst (λ (r : Regs). EndsRead loaded c.args.kind buffer r opened m p c.args.files.now.io c.end_read.result c.end_read.new.s c.end_read.new.io) same (c.end_read.ensures.call m (c.load-loaded.ensures.same.represents m tied)))
+    (subst (λ (r : Regs). EndsRead loaded c.args.kind buffer r opened m p c.args.files.now.io c.end_read.result
+    c.end_read.new.s c.end_read.new.io) same (c.end_read.ensures.call m (c.load-loaded.ensures.same.represents m
+    tied)))

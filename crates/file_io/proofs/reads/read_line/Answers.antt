@@ -24,5 +24,7 @@ returns-clause-call g c now terms m was tied stands kinds =
     let it = known-a c.args.files.now _ was p c.args.opened.now stands kinds c.args.s.now m tied c.requires.opened in
     let asker = asker_of m p now in
     let found = found_on c.args.opened.now it.volume it.file in
-    attempts-in m was now p c.read_opened.result _ _ terms Call.ReadLn (read_opened WholeLine (asker_of m p now) was found) (line-step (asker_of m p now) was found it.found) (reading_attempt_calls asker found) _ (ap (λ (o : Option OpenFile). option_map_or (reading_attempt_calls asker) o 0) it.found)
+    attempts-in m was now p c.read_opened.result _ _ terms Call.ReadLn (read_opened WholeLine (asker_of m p now) was
+    found) (line-step (asker_of m p now) was found it.found) (reading_attempt_calls asker found) _
+    (ap (λ (o : Option OpenFile). option_map_or (reading_attempt_calls asker) o 0) it.found)
     (c.read_opened.ensures.call now m was it.volume it.file terms tied stands it.is it.there)

@@ -24,7 +24,14 @@ returns-clause-call c now views terms m was tied stands kinds =
     let same : c.regs-regs.result ≡ regs_at m p = c.regs-regs.ensures.regs ∙ regs-tied c.args.s.now m p tied in
     let at : c.long_of.result ≡ long_of (regs_at m p) = c.long_of.ensures ∙ ap (λ (r : Regs). long_of r) same in
     let new : FileState = record c.args.files.now { io = c.answer_at.new.io } in
-    attempts-in m was now p c.answer_at.result (record { processes = c.args.s.now; files = c.args.files.now; views = views }) (record { processes = c.answer_at.new.s; files = new; views = views }) terms Call.Seek (done (regs_at m p) (with_io was (moved_to was.io opened (long_of (regs_at m p))))) (seek-step asker was found it.found) 0 0 refl
+    attempts-in m was now p c.answer_at.result (record {
+      processes = c.args.s.now;
+      files = c.args.files.now;
+      views =
+          views;
+    }) (record { processes = c.answer_at.new.s; files = new; views = views }) terms Call.Seek
+    (done (regs_at m p) (with_io was (moved_to was.io opened (long_of (regs_at m p)))))
+    (seek-step asker was found it.found) 0 0 refl
     (ends-done m was now p c.answer_at.result c.answer_at.new.s c.args.files.now new.io views terms stands (λ (io : Io). moved_to io opened (long_of (regs_at m p))) (regs_at m p) (record {
       end_is = c.answer_at.ensures.end;
       tied = subst (λ (r : Regs). Represents c.answer_at.new.s (with_regs_of m p r)) same (c.answer_at.ensures.tied m tied);

@@ -21,7 +21,9 @@ unfolding write_opened
 returns-then-not-can_write-clause-call g c m was v file terms tied stands is there =
     let p = c.args.p.0 in
     let new : FileState = record c.args.files.now { io = c.refuse.new.io } in
-    ends-refuses-true m was c.args.now p c.refuse.result c.args.s.now new _ terms (not (can_write c.args.opened.now.desc.mode)) E_BMODE _ (ap (λ (b : Bool). not b) (sym c.can_write.ensures ∙ c.if-not-can_write.true))
+    ends-refuses-true m was c.args.now p c.refuse.result c.args.s.now new _ terms
+    (not (can_write c.args.opened.now.desc.mode)) E_BMODE _
+    (ap (λ (b : Bool). not b) (sym c.can_write.ensures ∙ c.if-not-can_write.true))
     (ends-refused m was c.args.now p c.refuse.result c.args.s.now c.args.files.now new.io _ terms stands E_BMODE (record { end_is = c.refuse.ensures.end; tied = tied; io_is = c.refuse.ensures.io }))
 
 pub returns-then-regs-eq0-clause-call : goal.returns-then-regs-eq0-clause-call
@@ -34,9 +36,20 @@ returns-then-regs-eq0-clause-call g c m was v file terms tied stands is there =
     let same : c.args.regs ≡ regs_at m p = c.requires.regs ∙ regs-tied c.args.s.now m p tied in
     let none : (regs_at m p).y ≡ 0 = subst (λ (r : Regs). r.y ≡ 0) same c.if-regs-eq0.true in
     let new : FileState = record c.args.files.now { io = c.answer.new.io } in
-    ends-refuses-false m was c.args.now p c.answer.result c.answer.new.s new _ terms (not (can_write c.args.opened.now.desc.mode)) E_BMODE _ (ap (λ (b : Bool). not b) (sym c.can_write.ensures ∙ c.if-not-can_write.false))
-    (ends-if-true m was c.args.now p c.answer.result c.answer.new.s new _ terms ((regs_at m p).y == 0) (done (regs_at m p) was) (write_file bytes (record (regs_at m p) { y = length bytes }) asker was found) (eq-eqb (regs_at m p).y 0 none)
-    (ends-done m was c.args.now p c.answer.result c.answer.new.s c.args.files.now new.io _ terms stands (λ (io : Io). io) (regs_at m p) (record { end_is = c.answer.ensures.end; tied = subst (λ (r : Regs). Represents c.answer.new.s (with_regs_of m p r)) same (c.answer.ensures.tied m tied); io_is = c.answer.ensures.io })))
+    ends-refuses-false m was c.args.now p c.answer.result c.answer.new.s new _ terms
+    (not (can_write c.args.opened.now.desc.mode)) E_BMODE _
+    (ap (λ (b : Bool). not b) (sym c.can_write.ensures ∙ c.if-not-can_write.false))
+    (ends-if-true m was c.args.now p c.answer.result c.answer.new.s new _ terms ((regs_at m p).y == 0)
+    (done (regs_at m p) was) (write_file bytes (record (regs_at m p) { y = length bytes }) asker was found)
+    (eq-eqb (regs_at m p).y 0 none)
+    (ends-done m was c.args.now p c.answer.result c.answer.new.s c.args.files.now new.io _ terms stands
+    (λ (io : Io). io) (regs_at m p)
+    (record {
+      end_is = c.answer.ensures.end;
+      tied = subst (λ (r : Regs). Represents c.answer.new.s
+          (with_regs_of m p r)) same (c.answer.ensures.tied m tied);
+      io_is = c.answer.ensures.io;
+    })))
 
 pub write_file-requires-clause-file : goal.write_file-requires-clause-file
 write_file-requires-clause-file g c = c.requires.file (sym c.can_write.ensures ∙ c.if-not-can_write.false)
@@ -53,6 +66,10 @@ returns-clause-call g c m was v file terms tied stands is there =
     let long : length bytes ≡ c.args.count = length-take-le c.args.count c.args.s.now.buffer.items (omega arith) in
     let answered : record c.args.regs { y = c.args.count } ≡ record (regs_at m p) { y = length bytes } =
     ap₂ (λ (r : Regs) (n : ℕ). record r { y = n }) same (sym long) in
-    ends-refuses-false m was c.args.now p c.write_file.result c.write_file.new.s c.write_file.new.files _ terms (not (can_write c.args.opened.now.desc.mode)) E_BMODE _ (ap (λ (b : Bool). not b) (sym c.can_write.ensures ∙ c.if-not-can_write.false))
+    ends-refuses-false m was c.args.now p c.write_file.result c.write_file.new.s c.write_file.new.files _ terms
+    (not (can_write c.args.opened.now.desc.mode)) E_BMODE _
+    (ap (λ (b : Bool). not b) (sym c.can_write.ensures ∙ c.if-not-can_write.false))
     (ends-if-false m was c.args.now p c.write_file.result c.write_file.new.s c.write_file.new.files _ terms ((regs_at m p).y == 0) (done (regs_at m p) was) _ (ne_eqb (regs_at m p).y 0 some)
-    (ends-writes m was c.args.now p c.write_file.result c.write_file.new.s c.write_file.new.files _ terms bytes (record c.args.regs { y = c.args.count }) (record (regs_at m p) { y = length bytes }) found answered (c.write_file.ensures.call m was v file terms tied stands is there)))
+    (ends-writes m was c.args.now p c.write_file.result c.write_file.new.s c.write_file.new.files _ terms bytes
+    (record c.args.regs { y = c.args.count }) (record (regs_at m p) { y = length bytes }) found answered
+    (c.write_file.ensures.call m was v file terms tied stands is there)))

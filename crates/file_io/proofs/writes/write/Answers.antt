@@ -38,7 +38,13 @@ returns-then-not-read_bytes-clause-call g c terms m was tied stands kinds =
     let step = needs (user_bytes (cells_at m p) (regs_at m p).x (regs_at m p).y) E_BPADDR (sends_bytes asker was found) in
     attempts-in m was now p c.refuse.result _ _ terms Call.Write step (write-step asker was found it.found) _ _ refl
     (ends-needs-none m was now p c.refuse.result s new _ terms (user_bytes (cells_at m p) (regs_at m p).x (regs_at m p).y) E_BPADDR (sends_bytes asker was found) absent
-    (ends-refused m was now p c.refuse.result s c.args.files.now new.io _ terms stands E_BPADDR (record { end_is = c.refuse.ensures.end; tied = c.read_bytes.ensures.same.represents m tied; io_is = c.refuse.ensures.io })))
+    (ends-refused m was now p c.refuse.result s c.args.files.now new.io _ terms stands E_BPADDR
+    (record {
+      end_is = c.refuse.ensures.end;
+      tied = c.read_bytes.ensures.same.represents m tied;
+      io_is =
+          c.refuse.ensures.io;
+    })))
 
 pub returns-clause-call : goal.returns-clause-call
 unfolding write_opened

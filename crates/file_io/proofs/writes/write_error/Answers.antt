@@ -34,7 +34,9 @@ returns-then-not-can_write-clause-call g c terms m was tied stands kinds =
     let new : FileState = record c.args.files.now { io = c.refuse.new.io } in
     let next = write_file (error_line (regs_at m p).b) (regs_at m p) asker was found in
     attempts-in m was now p c.refuse.result _ _ terms Call.PErr (refuses (not (can_write c.args.opened.now.desc.mode)) E_BMODE next) (error-step asker was found it.found) _ _ refl
-    (ends-refuses-true m was now p c.refuse.result c.args.s.now new _ terms (not (can_write c.args.opened.now.desc.mode)) E_BMODE next (ap (λ (b : Bool). not b) (sym c.can_write.ensures ∙ c.if-not-can_write.true))
+    (ends-refuses-true m was now p c.refuse.result c.args.s.now new _ terms
+    (not (can_write c.args.opened.now.desc.mode)) E_BMODE next
+    (ap (λ (b : Bool). not b) (sym c.can_write.ensures ∙ c.if-not-can_write.true))
     (ends-refused m was now p c.refuse.result c.args.s.now c.args.files.now new.io _ terms stands E_BMODE (record { end_is = c.refuse.ensures.end; tied = tied; io_is = c.refuse.ensures.io })))
 
 pub returns-clause-call : goal.returns-clause-call
@@ -46,8 +48,14 @@ returns-clause-call g c terms m was tied stands kinds =
     let found = found_on c.args.opened.now it.volume it.file in
     let same : c.regs-regs.result ≡ regs_at m p = c.regs-regs.ensures.regs ∙ regs-tied c.args.s.now m p tied in
     let next = write_file (error_line (regs_at m p).b) (regs_at m p) asker was found in
-    attempts-in m was now p c.write_file.result _ _ terms Call.PErr (refuses (not (can_write c.args.opened.now.desc.mode)) E_BMODE next) (error-step asker was found it.found) (writing_attempt_calls 11 found) _
+    attempts-in m was now p c.write_file.result _ _ terms Call.PErr
+    (refuses (not (can_write c.args.opened.now.desc.mode)) E_BMODE next) (error-step asker was found it.found)
+    (writing_attempt_calls 11 found) _
     (ap (λ (o : Option OpenFile). option_map_or (writing_attempt_calls 11) o 0) it.found)
-    (ends-refuses-false m was now p c.write_file.result c.write_file.new.s c.write_file.new.files _ terms (not (can_write c.args.opened.now.desc.mode)) E_BMODE next (ap (λ (b : Bool). not b) (sym c.can_write.ensures ∙ c.if-not-can_write.false))
-    (ends-write_file m was now p c.write_file.result c.write_file.new.s c.write_file.new.files _ terms _ (error_line (regs_at m p).b) c.regs-regs.result (regs_at m p) found (c.put_error_line.ensures.line ∙ ap (λ (r : Regs). error_line r.b) same) same
+    (ends-refuses-false m was now p c.write_file.result c.write_file.new.s c.write_file.new.files _ terms
+    (not (can_write c.args.opened.now.desc.mode)) E_BMODE next
+    (ap (λ (b : Bool). not b) (sym c.can_write.ensures ∙ c.if-not-can_write.false))
+    (ends-write_file m was now p c.write_file.result c.write_file.new.s c.write_file.new.files _ terms _
+    (error_line (regs_at m p).b) c.regs-regs.result (regs_at m p) found (c.put_error_line.ensures.line ∙ ap
+    (λ (r : Regs). error_line r.b) same) same
     (c.write_file.ensures.call m was it.volume it.file terms (c.put_error_line.ensures.same.represents m tied) stands it.is it.there)))

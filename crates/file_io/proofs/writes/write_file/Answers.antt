@@ -34,7 +34,10 @@ returns-clause-call g c m was v file terms tied stands is there =
     let same : take c.args.count all ≡ bytes = ap (λ (it : List ℕ). take c.args.count it) c.deref.ensures.value in
     let long : length bytes ≡ c.args.count = length-take-le c.args.count c.args.s.now.buffer.items (omega arith) in
     let mid : FileState = record c.args.files.now { disks = c.write_at-written.new.self } in
-    let changed = has-changed-in c.args.files.now mid _ _ was place v file (record { change = writes place.number at (take c.args.count all); user = user_at m p; now = c.args.now }) (file_answer written) (writing_calls place.number at (length (take c.args.count all)) written) stands is there refl refl (c.write_at-written.ensures.changed (user_at m p)) in
+    let changed = has-changed-in c.args.files.now mid _ _ was place v file
+    (record { change = writes place.number at (take c.args.count all); user = user_at m p; now = c.args.now })
+    (file_answer written) (writing_calls place.number at (length (take c.args.count all)) written) stands is there
+    refl refl (c.write_at-written.ensures.changed (user_at m p)) in
     write-ends m was v file c.args.now p opened bytes c.args.regs c.end_write.result c.end_write.new.s mid c.end_write.new.io _ _ terms is there stands.drives c.args.count long written
     (changed-same place.number at (take c.args.count all) bytes (user_at m p) c.args.now written v file place.drive was mid _ _ same changed)
     (subst (λ (n : ℕ). EndsWrite written n c.args.regs opened m p c.args.files.now.io c.end_write.result c.end_write.new.s c.end_write.new.io) (sym long) (c.end_write.ensures.call m tied))

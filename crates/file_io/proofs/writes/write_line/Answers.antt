@@ -36,9 +36,17 @@ returns-in-None-clause-call g c terms m was tied stands kinds =
     let same : c.regs-regs.result ≡ regs_at m p = c.regs-regs.ensures.regs ∙ regs-tied c.args.s.now m p tied in
     let absent : line_at (cells_at m p) (regs_at m p).x (regs_at m p).y ≡ None =
     sym (line-same (cells_at m p) (regs_at m p).x (regs_at m p).y) ∙ subst (λ (r : Regs). User.line_at (cells_at m p) r.x r.y ≡ None) same (c.in-None.ensures.line m tied) in
-    attempts-in m was now p c.refuse.result _ _ terms Call.WritLn (needs (line_at (cells_at m p) (regs_at m p).x (regs_at m p).y) E_BPADDR (sends_bytes asker was found)) (write_line-step asker was found it.found) _ _ refl
+    attempts-in m was now p c.refuse.result _ _ terms Call.WritLn
+    (needs (line_at (cells_at m p) (regs_at m p).x (regs_at m p).y) E_BPADDR (sends_bytes asker was found))
+    (write_line-step asker was found it.found) _ _ refl
     (ends-needs-none m was now p c.refuse.result s new _ terms (line_at (cells_at m p) (regs_at m p).x (regs_at m p).y) E_BPADDR (sends_bytes asker was found) absent
-    (ends-refused m was now p c.refuse.result s c.args.files.now new.io _ terms stands E_BPADDR (record { end_is = c.refuse.ensures.end; tied = c.in-None.ensures.same.represents m tied; io_is = c.refuse.ensures.io })))
+    (ends-refused m was now p c.refuse.result s c.args.files.now new.io _ terms stands E_BPADDR
+    (record {
+      end_is = c.refuse.ensures.end;
+      tied = c.in-None.ensures.same.represents m tied;
+      io_is =
+          c.refuse.ensures.io;
+    })))
 
 pub returns-in-Some-clause-call : goal.returns-in-Some-clause-call
 unfolding write_opened
@@ -57,6 +65,8 @@ returns-in-Some-clause-call g c terms m was tied stands kinds =
     let few : option_map_or (writing_attempt_calls (line_count asker)) (open_file was p (regs_at m p).a) 0 ≡ writing_attempt_calls c.in-Some.count found =
     ap (λ (o : Option OpenFile). option_map_or (writing_attempt_calls (line_count asker)) o 0) it.found
     ∙ ap (λ (o : Option (List ℕ)). writing_attempt_calls (option_map_or (λ (l : List ℕ). length l) o 0) found) present ∙ ap (λ n. writing_attempt_calls n found) long in
-    attempts-in m was now p c.send.result _ _ terms Call.WritLn (needs (line_at (cells_at m p) (regs_at m p).x (regs_at m p).y) E_BPADDR (sends_bytes asker was found)) (write_line-step asker was found it.found) (writing_attempt_calls c.in-Some.count found) _ few
+    attempts-in m was now p c.send.result _ _ terms Call.WritLn
+    (needs (line_at (cells_at m p) (regs_at m p).x (regs_at m p).y) E_BPADDR (sends_bytes asker was found))
+    (write_line-step asker was found it.found) (writing_attempt_calls c.in-Some.count found) _ few
     (ends-needs-some m was now p c.send.result c.send.new.s c.send.new.files _ terms (line_at (cells_at m p) (regs_at m p).x (regs_at m p).y) line E_BPADDR (sends_bytes asker was found) present
     (c.send.ensures.call m was it.volume it.file terms (c.in-Some.ensures.same.represents m tied) stands it.is it.there))

@@ -12,7 +12,8 @@ returns-in-None-clause-creates g c m was list tied stands names next proper term
     let p = c.args.p.0 in
     let now = c.args.now in
     let none : list.names ≡ [] = subst (λ (first : Option ℕ). NamesFrom (cells_at m p) first list.names) c.in-None.is names in
-    refused-at_once m p c.args.files.now _ c.refuse.result c.args.s.now c.refuse.new.io c.refuse.ensures.io _ c.refuse.ensures.end tied was now terms _ (creates_along (asker_of m p now) was list c.args.from)
+    refused-at_once m p c.args.files.now _ c.refuse.result c.args.s.now c.refuse.new.io c.refuse.ensures.io _
+    c.refuse.ensures.end tied was now terms _ (creates_along (asker_of m p now) was list c.args.from)
     (along-nameless (asker_of m p now) was list c.args.from none) stands
 
 pub returns-in-Some-clause-creates : goal.returns-in-Some-clause-creates

@@ -25,7 +25,9 @@ returns-in-None-clause-makes g c m was list dir most before tied read found next
     let name : List ℕ = c.args.last.name in
     let none : new_number was.io.paths p ≡ None = sym (c.next_number.ensures _ _ read.read.stands) ∙ c.in-None.is in
     let making : ℕ = calls_at_place dir.volume dir.file in
-    read-ends m p c.args.files.now _ c.refuse.result c.args.s.now c.refuse.new.io c.refuse.ensures.io _ c.refuse.ensures.end tied was now terms (most + making) (makes_there asker was list name dir) None c.args.last.directory.drive before (ap (λ (at : FilePlace). Some at.drive) found.place_is)
+    read-ends m p c.args.files.now _ c.refuse.result c.args.s.now c.refuse.new.io c.refuse.ensures.io _
+    c.refuse.ensures.end tied was now terms (most + making) (makes_there asker was list name dir) None
+    c.args.last.directory.drive before (ap (λ (at : FilePlace). Some at.drive) found.place_is)
     (read-more most (most + making) None c.args.last.directory.drive was c.args.files.now before _ (within-sum most making) read)
     (well-refused m was now p terms (makes_there asker was list name dir) c.args.last.directory.drive c.args.files.now before _ _ (makes-full asker was list name dir none) read.read)
 
@@ -42,9 +44,14 @@ returns-in-Err-clause-makes g c m was list dir most before tied read found next 
     let numbered : new_number was.io.paths p ≡ Some number = sym (c.next_number.ensures _ _ read.read.stands) ∙ c.in-Some.is in
     let bits : c.regs-attr.result.b ≡ (regs_at m p).b = ap (λ (r : Regs). r.b) (c.regs-attr.ensures.regs ∙ sym (regs-tied c.args.s.now m p tied)) in
     let user : c.args.found.now.user ≡ user_at m p = c.requires.place.user ∙ sym (user-tied c.args.s.now m p tied) in
-    let changed = change-answered m was now p terms list name dir place found number numbered new before views c.args.files.now _ (Err (File c.in-Err.fault)) c.regs-attr.result.b c.args.found.now.user _ read.read refl refl bits user c.in-Err.ensures.changed in
-    let called = change-called m was now p terms list name dir place found number numbered new before views most c.args.files.now _ (Err (File c.in-Err.fault)) _ read refl refl c.in-Err.ensures.changed in
-    refused-ends m p new views c.refuse-in-Err.result c.args.s.now c.refuse-in-Err.new.io c.refuse-in-Err.ensures.io _ (c.refuse-in-Err.ensures.end ∙ ap Error c.number.ensures) tied was now terms (most + calls_at_place dir.volume dir.file) (makes_there asker was list name dir) _ before changed.stands
+    let changed = change-answered m was now p terms list name dir place found number numbered new before views
+    c.args.files.now _ (Err (File c.in-Err.fault)) c.regs-attr.result.b c.args.found.now.user _ read.read refl
+    refl bits user c.in-Err.ensures.changed in
+    let called = change-called m was now p terms list name dir place found number numbered new before views most
+    c.args.files.now _ (Err (File c.in-Err.fault)) _ read refl refl c.in-Err.ensures.changed in
+    refused-ends m p new views c.refuse-in-Err.result c.args.s.now c.refuse-in-Err.new.io c.refuse-in-Err.ensures.io _
+    (c.refuse-in-Err.ensures.end ∙ ap Error c.number.ensures) tied was now terms (most + calls_at_place dir.volume
+    dir.file) (makes_there asker was list name dir) _ before changed.stands
     (make-refused m was now p terms list name dir place found number numbered new before views c.in-Err.fault changed) called
     (make-keeps m was now p terms list name dir place found number numbered new before views c.in-Err.fault changed read.first)
 
@@ -60,7 +67,10 @@ returns-in-Ok-clause-makes g c m was list dir most before tied read found next t
     let numbered : new_number was.io.paths p ≡ Some number = sym (c.next_number.ensures _ _ read.read.stands) ∙ c.in-Some.is in
     let bits : c.regs-attr.result.b ≡ (regs_at m p).b = ap (λ (r : Regs). r.b) (c.regs-attr.ensures.regs ∙ sym (regs-tied c.args.s.now m p tied)) in
     let user : c.args.found.now.user ≡ user_at m p = c.requires.place.user ∙ sym (user-tied c.args.s.now m p tied) in
-    let changed = change-answered m was now p terms list name dir place found number numbered new before views c.args.files.now _ (Ok c.in-Ok.n) c.regs-attr.result.b c.args.found.now.user _ read.read refl refl bits user c.in-Ok.ensures.changed in
+    let changed = change-answered m was now p terms list name dir place found number numbered new before views
+    c.args.files.now _ (Ok c.in-Ok.n) c.regs-attr.result.b c.args.found.now.user _ read.read refl refl bits user
+    c.in-Ok.ensures.changed in
     let called = change-called m was now p terms list name dir place found number numbered new before views most c.args.files.now _ (Ok c.in-Ok.n) _ read refl refl c.in-Ok.ensures.changed in
-    make-ends m was now p terms list name dir place found number numbered new before views c.in-Ok.n changed c.begin_on.result c.begin_on.new.s c.begin_on.new.files (most + calls_at_place dir.volume dir.file) called
+    make-ends m was now p terms list name dir place found number numbered new before views c.in-Ok.n changed
+    c.begin_on.result c.begin_on.new.s c.begin_on.new.files (most + calls_at_place dir.volume dir.file) called
     (c.begin_on.ensures.begins m (with_drives (with_volume was dir.place.drive changed.left) (drive_states views)) now list views tied changed.stands next)

@@ -28,7 +28,9 @@ returns-then-says_directory-clause-creates g c m was list dir most before tied r
     let bits : (regs_at m p).b ≡ c.regs-attr.result.b = ap (λ (r : Regs). r.b) (regs-tied c.args.s.now m p tied ∙ sym c.regs-attr.ensures.regs) in
     let says : says_directory (regs_at m p).b ≡ true = ap says_directory bits ∙ sym c.says_directory.ensures.says ∙ c.if-says_directory.true in
     let all : ℕ = new_file_calls asker name dir.volume dir.file in
-    read-ends m p c.args.files.now _ c.refuse.result c.args.s.now c.refuse.new.io c.refuse.ensures.io _ c.refuse.ensures.end tied was now terms (most + all) (creates_there asker was list name dir) None c.args.last.directory.drive before (ap (λ (at : FilePlace). Some at.drive) found.place_is)
+    read-ends m p c.args.files.now _ c.refuse.result c.args.s.now c.refuse.new.io c.refuse.ensures.io _
+    c.refuse.ensures.end tied was now terms (most + all) (creates_there asker was list name dir) None
+    c.args.last.directory.drive before (ap (λ (at : FilePlace). Some at.drive) found.place_is)
     (read-more most (most + all) None c.args.last.directory.drive was c.args.files.now before _ (within-sum most all) read)
     (well-refused m was now p terms (creates_there asker was list name dir) c.args.last.directory.drive c.args.files.now before _ _ (creates-directory asker was list name dir says) read.read)
 
@@ -46,11 +48,16 @@ returns-in-Err-clause-creates g c m was list dir most before tied read found nex
     let bits : (regs_at m p).b ≡ c.regs-attr.result.b = ap (λ (r : Regs). r.b) (regs-tied c.args.s.now m p tied ∙ sym c.regs-attr.ensures.regs) in
     let says : says_directory (regs_at m p).b ≡ false = ap says_directory bits ∙ sym c.says_directory.ensures.says ∙ c.if-says_directory.false in
     let after = read-on was place dir found c.args.files.now new before _ views most read _ _ refl refl c.in-Err.ensures.drive in
-    let answer = of-found was place dir found c.args.files.now new before _ views most read (λ v file. AnswersPlace file name walker.user walker.execute (Err c.in-Err.error)) c.in-Err.ensures.answer in
+    let answer = of-found was place dir found c.args.files.now new before _ views most read
+    (λ v file. AnswersPlace file name walker.user walker.execute (Err c.in-Err.error)) c.in-Err.ensures.answer in
     let finding : ℕ = place_calls dir.file name walker.user walker.execute in
     let all : ℕ = new_file_calls asker name dir.volume dir.file in
-    read-ends m p new _ c.refuse-in-Err.result c.args.s.now c.refuse-in-Err.new.io c.refuse-in-Err.ensures.io _ (c.refuse-in-Err.ensures.end ∙ ap Error c.number.ensures) tied was now terms (most + all) (creates_there asker was list name dir) _ place.drive before (ap (λ (at : FilePlace). Some at.drive) found.place_is)
-    (read-more (most + finding) (most + all) _ place.drive was new before views (sum-within most finding all (place-within m now p dir.volume dir.file name walker.user walker.execute who.user who.execute)) after)
+    read-ends m p new _ c.refuse-in-Err.result c.args.s.now c.refuse-in-Err.new.io c.refuse-in-Err.ensures.io _
+    (c.refuse-in-Err.ensures.end ∙ ap Error c.number.ensures) tied was now terms (most + all)
+    (creates_there asker was list name dir) _ place.drive before (ap (λ (at : FilePlace). Some at.drive)
+    found.place_is)
+    (read-more (most + finding) (most + all) _ place.drive was new before views (sum-within most finding all
+    (place-within m now p dir.volume dir.file name walker.user walker.execute who.user who.execute)) after)
     (place-refused m was now p terms list name dir place found new before views says proper c.in-Err.error
     (answered-to m p dir.file name walker.user walker.execute (Err c.in-Err.error) who.user who.execute answer) after.read)
 
@@ -69,7 +76,9 @@ returns-in-Ok-clause-creates g c m was list dir most before tied read found next
     let bits : (regs_at m p).b ≡ c.regs-attr.result.b = ap (λ (r : Regs). r.b) (regs-tied c.args.s.now m p tied ∙ sym c.regs-attr.ensures.regs) in
     let says : says_directory (regs_at m p).b ≡ false = ap says_directory bits ∙ sym c.says_directory.ensures.says ∙ c.if-says_directory.false in
     let after = read-on was place dir found c.args.files.now new before _ views most read None _ refl refl c.in-Ok.ensures.drive in
-    let answer = of-found was place dir found c.args.files.now new before _ views most read (λ v file. AnswersPlace file name walker.user walker.execute (Ok c.in-Ok.found.place)) c.in-Ok.ensures.answer in
+    let answer = of-found was place dir found c.args.files.now new before _ views most read
+    (λ v file. AnswersPlace file name walker.user walker.execute (Ok c.in-Ok.found.place)) c.in-Ok.ensures.answer
+    in
     let is = answered-to m p dir.file name walker.user walker.execute (Ok c.in-Ok.found.place) who.user who.execute answer in
     let finding : ℕ = place_calls dir.file name walker.user walker.execute in
     let making : ℕ = calls_at_place dir.volume dir.file in

@@ -30,8 +30,12 @@ returns-in-Err-clause-call g c terms many m was tied stands kinds =
     let refusal_is : c.mode_refusal-refusal.result ≡ mode_refusal (can_write (regs_at m p).a) =
     c.mode_refusal-refusal.ensures ∙ ap mode_refusal (c.can_write.ensures ∙ ap (λ (r : Regs). can_write r.a) (c.regs.ensures.regs ∙ sym same)) in
     attempts-by _ Call.Create m was now p c.refuse.result terms _ _ (refused number) _
-    (ap (i_create asker was) many ∙ creates-refused asker was count c.mode_refusal-refusal.result (walker_at c.args.s.now c.args.p).execute refusal_is (ap (λ (r : Regs). is_for_execution r.a) (sym same)) number (c.in-Err.ensures.route m was now tied stands)) refl
-    (refused-at_once m p c.args.files.now _ c.refuse.result c.find_way.new.s c.refuse.new.io c.refuse.ensures.io number c.refuse.ensures.end (c.find_way.ensures.same.represents m tied) was now terms _ (refused number) refl stands)
+    (ap (i_create asker was) many ∙ creates-refused asker was count c.mode_refusal-refusal.result
+    (walker_at c.args.s.now c.args.p).execute refusal_is (ap (λ (r : Regs). is_for_execution r.a) (sym same))
+    number (c.in-Err.ensures.route m was now tied stands)) refl
+    (refused-at_once m p c.args.files.now _ c.refuse.result c.find_way.new.s c.refuse.new.io c.refuse.ensures.io
+    number c.refuse.ensures.end (c.find_way.ensures.same.represents m tied) was now terms _ (refused number) refl
+    stands)
 
 pub returns-in-Device-clause-call : goal.returns-in-Device-clause-call
 returns-in-Device-clause-call g c terms many m was tied stands kinds =
@@ -44,7 +48,9 @@ returns-in-Device-clause-call g c terms many m was tied stands kinds =
     c.mode_refusal-refusal.ensures ∙ ap mode_refusal (c.can_write.ensures ∙ ap (λ (r : Regs). can_write r.a) (c.regs.ensures.regs ∙ sym same)) in
     let route = c.in-Ok.ensures.route m was now tied stands in
     attempts-by _ Call.Create m was now p c.i_create.result terms _ _ (creates_on_device asker was (length terms)) _
-    (ap (i_create asker was) many ∙ creates-routed asker was count c.mode_refusal-refusal.result (walker_at c.args.s.now c.args.p).execute refusal_is (ap (λ (r : Regs). is_for_execution r.a) (sym same)) (cells_at m p) c.in-Ok.route Device route c.in-Device.is ∙ sym (ap (creates_on_device asker was) many)) refl
+    (ap (i_create asker was) many ∙ creates-routed asker was count c.mode_refusal-refusal.result
+    (walker_at c.args.s.now c.args.p).execute refusal_is (ap (λ (r : Regs). is_for_execution r.a) (sym same))
+    (cells_at m p) c.in-Ok.route Device route c.in-Device.is ∙ sym (ap (creates_on_device asker was) many)) refl
     (device-ends _ IoCall.Create m was now p c.args.files.now _ (vec_len c.args.devices.now.drives) c.i_create.result c.i_create.new.s c.i_create.new.io terms stands
     (as-many c.args.files.now _ was stands ∙ views-many _ c.args.devices.now.drives.items ∙ sym c.args.devices.now.drives.ok.0)
     (c.i_create.ensures.call m terms (c.find_way.ensures.same.represents m tied) many))
@@ -62,8 +68,12 @@ returns-in-Along-clause-call g c terms many m was tied stands kinds =
     c.mode_refusal-refusal.ensures ∙ ap mode_refusal (c.can_write.ensures ∙ ap (λ (r : Regs). can_write r.a) (c.regs.ensures.regs ∙ sym same)) in
     let route = c.in-Ok.ensures.route m was now tied stands in
     attempts-by _ Call.Create m was now p c.create_along.result terms _ _ (creates_along asker was route.list from) _
-    (ap (i_create asker was) many ∙ creates-routed asker was count c.mode_refusal-refusal.result (walker_at c.args.s.now c.args.p).execute refusal_is (ap (λ (r : Regs). is_for_execution r.a) (sym same)) (cells_at m p) c.in-Ok.route (Along from first) route c.in-Along.is)
-    (create-calls (cells_at m p) asker was count c.mode_refusal-refusal.result (walker_at c.args.s.now c.args.p).execute (ap (λ (r : Regs). is_for_execution r.a) (sym same)) c.in-Ok.route from first route c.in-Along.is ∙ sym (ap (i_create_calls asker was) many))
+    (ap (i_create asker was) many ∙ creates-routed asker was count c.mode_refusal-refusal.result
+    (walker_at c.args.s.now c.args.p).execute refusal_is (ap (λ (r : Regs). is_for_execution r.a) (sym same))
+    (cells_at m p) c.in-Ok.route (Along from first) route c.in-Along.is)
+    (create-calls (cells_at m p) asker was count c.mode_refusal-refusal.result
+    (walker_at c.args.s.now c.args.p).execute (ap (λ (r : Regs). is_for_execution r.a) (sym same)) c.in-Ok.route
+    from first route c.in-Along.is ∙ sym (ap (i_create_calls asker was) many))
     (c.create_along.ensures.creates m was route.list (c.find_way.ensures.same.represents m tied) stands
     (subst (λ (way : Way). NamesOn (cells_at m p) way route.list.names) c.in-Along.is route.route_is.names) (sym route.route_is.next_is)
     (new-proper asker was count c.mode_refusal-refusal.result (walker_at c.args.s.now c.args.p).execute route.list _ route.read route.comes_to) terms)

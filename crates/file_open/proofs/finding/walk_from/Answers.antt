@@ -7,4 +7,6 @@ use Rattle.file_open.proofs.finding.walk_from.Goals as goal
 pub invariant_of-s-clause-primaries : goal.invariant_of-s-clause-primaries
 invariant_of-s-clause-primaries g c =
     let s = c.args.s.now in
-    ArePrimaries-kept s.own.items (modules_of s.memory) (modules_of c.walk.new.memory) (λ n. ap (λ (modules : List (Option ModuleEntry)). is_some (module_entry_at modules n)) c.walk.ensures.same.modules) s.primaries
+    ArePrimaries-kept s.own.items (modules_of s.memory) (modules_of c.walk.new.memory)
+    (λ n. ap (λ (modules : List (Option ModuleEntry)). is_some (module_entry_at modules n))
+    c.walk.ensures.same.modules) s.primaries

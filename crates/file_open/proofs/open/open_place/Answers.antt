@@ -19,8 +19,14 @@ returns-in-Err-clause-opens g c now m was list found most before tied read it ne
     let p = c.args.p.0 in
     let new : FileState = record c.args.files.now { disks = c.fd.new.self } in
     let after = read-on was c.args.place found it c.args.files.now new before _ _ most read _ _ refl refl c.in-Err.ensures.drive in
-    read-ends m p new _ c.refuse.result c.args.s.now c.refuse.new.io c.refuse.ensures.io _ (c.refuse.ensures.end ∙ ap Error c.number.ensures) tied was now terms (most + 1) (opens_there (asker_of m p now) was list found) _ c.args.place.drive before (ap (λ (at : FilePlace). Some at.drive) it.place_is) after
-    (fault-does was c.args.place found it c.args.files.now new before _ _ most read m now p terms (opens_there (asker_of m p now) was list found) (ap (λ (at : FilePlace). Some at.drive) it.place_is) (λ v. found-stays (asker_of m p now) was v list found) Fd c.in-Err.fault _ c.in-Err.ensures.device refl refl c.in-Err.ensures.drive)
+    read-ends m p new _ c.refuse.result c.args.s.now c.refuse.new.io c.refuse.ensures.io _
+    (c.refuse.ensures.end ∙ ap Error c.number.ensures) tied was now terms (most + 1)
+    (opens_there (asker_of m p now) was list found) _ c.args.place.drive before
+    (ap (λ (at : FilePlace). Some at.drive) it.place_is) after
+    (fault-does was c.args.place found it c.args.files.now new before _ _ most read m now p terms
+    (opens_there (asker_of m p now) was list found) (ap (λ (at : FilePlace). Some at.drive) it.place_is)
+    (λ v. found-stays (asker_of m p now) was v list found) Fd c.in-Err.fault _ c.in-Err.ensures.device refl refl
+    c.in-Err.ensures.drive)
 
 pub returns-in-Ok-clause-opens : goal.returns-in-Ok-clause-opens
 returns-in-Ok-clause-opens g c now m was list found most before tied read it next terms =
@@ -28,6 +34,10 @@ returns-in-Ok-clause-opens g c now m was list found most before tied read it nex
     let new : FileState = record c.args.files.now { disks = c.fd.new.self } in
     let views = drive_views (λ table. (g.dyn-1.0.entry table).1) c.fd.new.devices.drives.items in
     let after = read-on was c.args.place found it c.args.files.now new before _ views most read None _ refl refl c.in-Ok.ensures.drive in
-    late-ends m was now p c.open_found.result c.open_found.new.s c.open_found.new.files before views terms (most + 1) (opens_there (asker_of m p now) was list found) (opens_found (asker_of m p now) (with_drives was (drive_states views)) list found) (with_drives was (drive_states views)) c.args.place.drive new (late-found was (drive_states views) (asker_of m p now) list found) (ap (λ (at : FilePlace). Some at.drive) it.place_is) after
+    late-ends m was now p c.open_found.result c.open_found.new.s c.open_found.new.files before views terms (most + 1)
+    (opens_there (asker_of m p now) was list found) (opens_found (asker_of m p now)
+    (with_drives was (drive_states views)) list found) (with_drives was (drive_states views)) c.args.place.drive
+    new (late-found was (drive_states views) (asker_of m p now) list found)
+    (ap (λ (at : FilePlace). Some at.drive) it.place_is) after
     (c.open_found.ensures.opens m (with_drives was (drive_states views)) now list found views tied after.read.stands it.place_is
     (of-found was c.args.place found it c.args.files.now new before _ views most read (λ v file. IsFdOf file c.in-Ok.fd) c.in-Ok.ensures.ok) next)

@@ -11,7 +11,9 @@ use Rattle.file_routes.proofs.calls.call_walk_to_last.Goals as goal
 pub invariant_of-s-clause-primaries : goal.invariant_of-s-clause-primaries
 invariant_of-s-clause-primaries g c =
     let s = c.args.s.now in
-    ArePrimaries-kept s.own.items (modules_of s.memory) (modules_of c.walk_to_last.new.memory) (λ n. ap (λ (modules : List (Option ModuleEntry)). is_some (module_entry_at modules n)) c.walk_to_last.ensures.same.modules) s.primaries
+    ArePrimaries-kept s.own.items (modules_of s.memory) (modules_of c.walk_to_last.new.memory)
+    (λ n. ap (λ (modules : List (Option ModuleEntry)). is_some (module_entry_at modules n))
+    c.walk_to_last.ensures.same.modules) s.primaries
 
 pub returns-clause-walks : goal.returns-clause-walks
 returns-clause-walks g c m names tied stand =

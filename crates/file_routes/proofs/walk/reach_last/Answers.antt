@@ -35,7 +35,9 @@ returns-in-Err-clause-reaches g c names stand =
     let cells : Cells = cells_of c.args.memory.now c.args.walker.process.0 in
     let so_far = c.names.invariant.walked names stand in
     walk-stopped cells c.args.walker c.args.from c.names.directory names c.names.at c.args.disks.now _ c.names.disks _ c.step.new.disks _ c.names.invariant.there so_far c.in-Err.error
-    (steps-of (cells_of c.names.memory c.args.walker.process.0) cells c.args.walker c.names.directory c.names.at c.step.result (Err c.in-Err.error) c.names.disks _ c.step.new.disks _ (c.names.invariant.same.cells c.args.walker.process.0) c.in-Err.is c.step.ensures.steps so_far.rest so_far.stand)
+    (steps-of (cells_of c.names.memory c.args.walker.process.0) cells c.args.walker c.names.directory c.names.at
+    c.step.result (Err c.in-Err.error) c.names.disks _ c.step.new.disks _ (c.names.invariant.same.cells
+    c.args.walker.process.0) c.in-Err.is c.step.ensures.steps so_far.rest so_far.stand)
 
 pub returns-in-Err-clause-same : goal.returns-in-Err-clause-same
 returns-in-Err-clause-same g c =
@@ -49,7 +51,9 @@ returns-in-Ok-Last-clause-reaches g c names stand =
     in
     let so_far = c.names.invariant.walked names stand in
     walk-ended cells c.args.walker c.args.from c.names.directory names c.names.at c.args.disks.now _ c.names.disks _ c.step.new.disks _ c.names.invariant.there so_far
-    (steps-of (cells_of c.names.memory c.args.walker.process.0) cells c.args.walker c.names.directory c.names.at c.step.result (Ok Last) c.names.disks _ c.step.new.disks _ (c.names.invariant.same.cells c.args.walker.process.0) is c.step.ensures.steps so_far.rest so_far.stand)
+    (steps-of (cells_of c.names.memory c.args.walker.process.0) cells c.args.walker c.names.directory c.names.at
+    c.step.result (Ok Last) c.names.disks _ c.step.new.disks _ (c.names.invariant.same.cells
+    c.args.walker.process.0) is c.step.ensures.steps so_far.rest so_far.stand)
 
 pub returns-in-Ok-Last-clause-same : goal.returns-in-Ok-Last-clause-same
 returns-in-Ok-Last-clause-same g c =
@@ -63,13 +67,19 @@ names-preserved g c =
     in
     let up = subst (λ (result : Result Stepped DirError). IfOk result (GoesUp c.names.at)) is c.step.ensures.up in
     let first = c.names.invariant.walked c.requires.names.names c.requires.names.stand in
-    let steps = steps-of (cells_of c.names.memory c.args.walker.process.0) cells c.args.walker c.names.directory c.names.at c.step.result (Ok (Onward c.in-Ok-Onward.place c.in-Ok-Onward.next)) c.names.disks _ c.step.new.disks _ (c.names.invariant.same.cells c.args.walker.process.0) is c.step.ensures.steps in
+    let steps = steps-of (cells_of c.names.memory c.args.walker.process.0) cells c.args.walker c.names.directory
+    c.names.at c.step.result (Ok (Onward c.in-Ok-Onward.place c.in-Ok-Onward.next)) c.names.disks _
+    c.step.new.disks _ (c.names.invariant.same.cells c.args.walker.process.0) is c.step.ensures.steps in
     record {
       walked = λ names stand.
           let so_far = c.names.invariant.walked names stand in
-          walk-onward cells c.args.walker c.args.from c.names.directory names c.names.at c.args.disks.now _ c.names.disks _ c.step.new.disks _ c.names.invariant.there so_far c.in-Ok-Onward.place c.in-Ok-Onward.next (steps so_far.rest so_far.stand);
+          walk-onward cells c.args.walker c.args.from c.names.directory names c.names.at c.args.disks.now _
+          c.names.disks _ c.step.new.disks _ c.names.invariant.there so_far c.in-Ok-Onward.place
+          c.in-Ok-Onward.next (steps so_far.rest so_far.stand);
       there =
-          there-onward cells c.args.walker c.args.from c.names.directory c.requires.names.names c.names.at c.args.disks.now _ c.names.disks _ c.step.new.disks _ c.names.invariant.there first c.in-Ok-Onward.place c.in-Ok-Onward.next (steps first.rest first.stand);
+          there-onward cells c.args.walker c.args.from c.names.directory c.requires.names.names c.names.at
+          c.args.disks.now _ c.names.disks _ c.step.new.disks _ c.names.invariant.there first c.in-Ok-Onward.place
+          c.in-Ok-Onward.next (steps first.rest first.stand);
       within = up.1;
       same = same-still c.args.memory.now c.names.memory c.step.new.memory c.names.invariant.same c.step.ensures.same;
       terms = c.step.ensures.terms_kept ∙ c.names.invariant.terms;

@@ -8,8 +8,13 @@ use Rattle.file_routes.proofs.walk.reach_last.Given as goal
 
 abbrev pub invariant-names : goal.invariant-names
 invariant-names g l = record {
-  walked : (names : List (List ℕ)) → NamesStand (cells_of l.initial.memory l.walker.process.0) l.first names → IsWalkedTo (cells_of l.initial.memory l.walker.process.0) l.walker l.fn.from names l.directory l.at l.initial.disks (drive_views (λ table. (g.dyn-1.0.entry table).1) l.initial.devices.drives.items) l.disks (drive_views (λ table. (g.dyn-1.0.entry table).1) l.devices.drives.items);
-  there : IsThere l.fn.from l.directory l.initial.disks (drive_views (λ table. (g.dyn-1.0.entry table).1) l.initial.devices.drives.items) l.disks (drive_views (λ table. (g.dyn-1.0.entry table).1) l.devices.drives.items);
+  walked : (names : List (List ℕ)) → NamesStand (cells_of l.initial.memory l.walker.process.0) l.first names
+      → IsWalkedTo (cells_of l.initial.memory l.walker.process.0) l.walker l.fn.from names l.directory l.at
+      l.initial.disks (drive_views (λ table. (g.dyn-1.0.entry table).1) l.initial.devices.drives.items) l.disks
+      (drive_views (λ table. (g.dyn-1.0.entry table).1) l.devices.drives.items);
+  there : IsThere l.fn.from l.directory l.initial.disks (drive_views (λ table. (g.dyn-1.0.entry table).1)
+      l.initial.devices.drives.items) l.disks (drive_views (λ table. (g.dyn-1.0.entry table).1)
+      l.devices.drives.items);
   within : l.at < 65536;
   same : IsSame l.initial.memory l.memory;
   terms : l.devices.terms ≡ l.initial.devices.terms;

@@ -11,9 +11,11 @@ pub returns-in-Err-clause-walks : goal.returns-in-Err-clause-walks
 returns-in-Err-clause-walks g c names stand =
     let there = from-some (cells_of c.args.memory.now c.args.walker.process.0) names c.args.first c.in-Some.at c.in-Some.is stand in
     let walks = c.in-Err.ensures.walks names there in
-    stops-before c.args.walker c.args.from names c.in-Err.error c.args.disks.now _ c.walk_to_last.new.disks _ (some-stand (cells_of c.args.memory.now c.args.walker.process.0) c.in-Some.at names there) walks.walks
+    stops-before c.args.walker c.args.from names c.in-Err.error c.args.disks.now _ c.walk_to_last.new.disks _
+    (some-stand (cells_of c.args.memory.now c.args.walker.process.0) c.in-Some.at names there) walks.walks
 
 pub returns-in-Ok-clause-walks : goal.returns-in-Ok-clause-walks
 returns-in-Ok-clause-walks g c names stand =
     let there = from-some (cells_of c.args.memory.now c.args.walker.process.0) names c.args.first c.in-Some.at c.in-Some.is stand in
-    walks-last c.args.walker c.args.from names c.in-Ok.last c.walk_by.result c.args.disks.now _ c.walk_to_last.new.disks _ c.walk_by.new.disks _ (c.in-Ok.ensures.walks names there) c.walk_by.ensures.walks
+    walks-last c.args.walker c.args.from names c.in-Ok.last c.walk_by.result c.args.disks.now _
+    c.walk_to_last.new.disks _ c.walk_by.new.disks _ (c.in-Ok.ensures.walks names there) c.walk_by.ensures.walks

@@ -23,8 +23,12 @@ pub returns-in-Ok-clause-names : goal.returns-in-Ok-clause-names
 returns-in-Ok-clause-names g c =
     let cells : Cells = cells_of c.args.memory.now c.args.query.process.0 in
     let read = read-list (path_list cells c.args.query.at) c.in-Ok.list (sym c.in-Ok.ensures.list) in
-    unless-refused c.args.query.refusal c.route_of.result c.unless_refused-in-Ok.result (λ route. HasNames cells route.way) c.unless_refused-in-Ok.ensures (c.route_of.ensures.names cells read.0 read.1 read.2)
+    unless-refused c.args.query.refusal c.route_of.result c.unless_refused-in-Ok.result
+    (λ route. HasNames cells route.way) c.unless_refused-in-Ok.ensures (c.route_of.ensures.names cells read.0
+    read.1 read.2)
 
 pub returns-in-Ok-clause-start : goal.returns-in-Ok-clause-start
 returns-in-Ok-clause-start g c views volumes mounted there =
-    unless-refused c.args.query.refusal c.route_of.result c.unless_refused-in-Ok.result (λ route. StartsOn c.args.disks.now views route.way) c.unless_refused-in-Ok.ensures (c.route_of.ensures.start views volumes mounted there)
+    unless-refused c.args.query.refusal c.route_of.result c.unless_refused-in-Ok.result
+    (λ route. StartsOn c.args.disks.now views route.way) c.unless_refused-in-Ok.ensures
+    (c.route_of.ensures.start views volumes mounted there)

@@ -12,7 +12,9 @@ loop-i-preserved c =
 pub returns-then-has_name : goal.returns-then-has_name
 returns-then-has_name c = (
   c.loop-i.i,
-  found_at c.args.directory.now c.args.name.now c.loop-i.i _ (first_here (entry_has_name c.args.name.now) c.args.directory.now _ _ c.loop-i.i _ c.loop-i-test.true c.loop-i.invariant c.entry_at-entry.ensures c.has_name.ensures c.if-has_name.true)
+  found_at c.args.directory.now c.args.name.now c.loop-i.i _ (first_here (entry_has_name c.args.name.now)
+      c.args.directory.now _ _ c.loop-i.i _ c.loop-i-test.true c.loop-i.invariant c.entry_at-entry.ensures
+      c.has_name.ensures c.if-has_name.true)
       (c.read_entry.ensures.lsn ∙ ap descriptor_field c.entry_at-entry.ensures),
 )
 

@@ -26,7 +26,9 @@ loop-n-preserved g c =
     let there = c.requires.there in
     let was = length-map c.args.devices.now.drives.items (boxed_drive_view (λ table. (g.dyn-1.0.entry table).1)) in
     record {
-      so_far = mounted-one c.loop-n.n c.args.drives c.args.state.now c.loop-n.state c.mount_one.new.state _ _ _ c.loop-n-test.true (omega (arith, there, was)) c.loop-n.invariant.so_far c.in-Ok.ensures.mounts.read c.in-Ok.ensures.mounts.mounted c.in-Ok.ensures.mounts.moves;
+      so_far = mounted-one c.loop-n.n c.args.drives c.args.state.now c.loop-n.state c.mount_one.new.state _ _ _
+          c.loop-n-test.true (omega (arith, there, was)) c.loop-n.invariant.so_far c.in-Ok.ensures.mounts.read
+          c.in-Ok.ensures.mounts.mounted c.in-Ok.ensures.mounts.moves;
       terms = c.in-Ok.ensures.terms_kept ∙ c.loop-n.invariant.terms;
     }
 
@@ -36,7 +38,8 @@ returns-in-Err-clause-mounts g c =
     let was = length-map c.args.devices.now.drives.items (boxed_drive_view (λ table. (g.dyn-1.0.entry table).1)) in
     record {
       mounted = λ volumes many hold has. tt;
-      read = mounted-read-all c.loop-n.n c.args.drives c.args.state.now c.loop-n.state c.mount_one.new.state _ _ _ c.loop-n-test.true (omega (arith, there, was)) c.loop-n.invariant.so_far c.in-Err.ensures.mounts.read;
+      read = mounted-read-all c.loop-n.n c.args.drives c.args.state.now c.loop-n.state c.mount_one.new.state _ _ _
+          c.loop-n-test.true (omega (arith, there, was)) c.loop-n.invariant.so_far c.in-Err.ensures.mounts.read;
       moves = moves-then {A = Unit {0}} (Err c.in-Err.fault) _ _ _ c.loop-n.invariant.so_far.none c.in-Err.ensures.mounts.moves;
       among = fails-among {A = Unit {0}} (Err c.in-Err.fault) c.loop-n.n c.args.drives c.loop-n-test.true c.in-Err.ensures.mounts.fails;
     }

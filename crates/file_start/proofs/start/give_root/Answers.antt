@@ -10,7 +10,9 @@ returns-in-Err-clause-gives g c = record {
   read = λ files v stands is.
       root-reads c.args.state.now.disks _ c.args.root c.requires.root c.find_commands.new.disks _ _ c.requires.first c.in-Err.ensures.drive files.volumes v stands.mounted is;
   moves =
-      moves-as (Option FilePlace) (Unit {0}) c.in-Err.fault _ _ (root-moves c.args.state.now.disks _ c.args.root c.requires.root c.find_commands.new.disks _ {A = Option FilePlace} (Err c.in-Err.fault) c.in-Err.ensures.failed c.in-Err.ensures.drive);
+      moves-as (Option FilePlace) (Unit {0}) c.in-Err.fault _ _ (root-moves c.args.state.now.disks _ c.args.root
+      c.requires.root c.find_commands.new.disks _ {A = Option FilePlace} (Err c.in-Err.fault)
+      c.in-Err.ensures.failed c.in-Err.ensures.drive);
   fails =
       fails-as (Option FilePlace) (Unit {0}) c.in-Err.fault 0 (subst (λ d. FailsOn {A = Option FilePlace} d (Err c.in-Err.fault)) c.requires.first c.in-Err.ensures.failed);
 }

@@ -9,7 +9,12 @@ pub returns-in-Err-clause-drives : goal.returns-in-Err-clause-drives
 returns-in-Err-clause-drives g c =
     let views = length-map c.args.devices.now.drives.items (boxed_drive_view (λ table. (g.dyn-1.0.entry table).1)) in
     let few = c.requires.few in
-    starts-drives {A = FileState} (Err c.in-Err.fault) c.mount_first.new.state c.args.drives _ _ _ c.requires.volumes (λ volumes many hold. c.in_ok-mount_first.ensures.mounts.mounted volumes many hold (c.in_ok-state.ensures.state _ (omega (arith, few, views)))) c.in_ok-mount_first.ensures.mounts.read c.in_ok-mount_first.ensures.mounts.moves c.in-Err.ensures.gives.read (moves-as (Unit {0}) FileState c.in-Err.fault _ _ c.in-Err.ensures.gives.moves) (λ volumes has. among-as (Unit {0}) FileState c.in-Err.fault _ (c.in-Err.ensures.gives.among volumes has))
+    starts-drives {A = FileState} (Err c.in-Err.fault) c.mount_first.new.state c.args.drives _ _ _ c.requires.volumes
+    (λ volumes many hold. c.in_ok-mount_first.ensures.mounts.mounted volumes many hold
+    (c.in_ok-state.ensures.state _ (omega (arith, few, views)))) c.in_ok-mount_first.ensures.mounts.read
+    c.in_ok-mount_first.ensures.mounts.moves c.in-Err.ensures.gives.read (moves-as (Unit {0}) FileState
+    c.in-Err.fault _ _ c.in-Err.ensures.gives.moves) (λ volumes has. among-as (Unit {0}) FileState c.in-Err.fault
+    _ (c.in-Err.ensures.gives.among volumes has))
 
 pub returns-in-Ok-clause-started : goal.returns-in-Ok-clause-started
 returns-in-Ok-clause-started g c images at =
@@ -23,4 +28,8 @@ pub returns-in-Ok-clause-drives : goal.returns-in-Ok-clause-drives
 returns-in-Ok-clause-drives g c =
     let views = length-map c.args.devices.now.drives.items (boxed_drive_view (λ table. (g.dyn-1.0.entry table).1)) in
     let few = c.requires.few in
-    starts-drives {A = FileState} (Ok c.give_directories.new.state) c.mount_first.new.state c.args.drives _ _ _ c.requires.volumes (λ volumes many hold. c.in_ok-mount_first.ensures.mounts.mounted volumes many hold (c.in_ok-state.ensures.state _ (omega (arith, few, views)))) c.in_ok-mount_first.ensures.mounts.read c.in_ok-mount_first.ensures.mounts.moves c.in-Ok.ensures.gives.read c.in-Ok.ensures.gives.moves (λ volumes has. tt)
+    starts-drives {A = FileState} (Ok c.give_directories.new.state) c.mount_first.new.state c.args.drives _ _ _
+    c.requires.volumes (λ volumes many hold. c.in_ok-mount_first.ensures.mounts.mounted volumes many hold
+    (c.in_ok-state.ensures.state _ (omega (arith, few, views)))) c.in_ok-mount_first.ensures.mounts.read
+    c.in_ok-mount_first.ensures.mounts.moves c.in-Ok.ensures.gives.read c.in-Ok.ensures.gives.moves
+    (λ volumes has. tt)

@@ -18,5 +18,6 @@ returns-else-fd-opened-clause-call g c now m was it terms tied stands open_is =
 
 pub returns-in-Err-clause-call : goal.returns-in-Err-clause-call
 returns-in-Err-clause-call g c now m was it terms tied stands open_is =
-    end-failed m was now c.args.p.0 c.refuse-in-Err.result c.args.s.now c.args.files.now c.refuse-in-Err.new.files _ _ terms c.fd.new.self c.args.opened.now it stands open_is c.refuse-in-Err.ensures.files
+    end-failed m was now c.args.p.0 c.refuse-in-Err.result c.args.s.now c.args.files.now c.refuse-in-Err.new.files _ _
+    terms c.fd.new.self c.args.opened.now it stands open_is c.refuse-in-Err.ensures.files
     c.in-Err.fault c.in-Err.ensures.drive c.in-Err.ensures.device (c.refuse-in-Err.ensures.end ∙ ap (λ n. CallEnd.Error n) c.number.ensures) tied

@@ -8,7 +8,8 @@ pub returns-in_default-clause-call : goal.returns-in_default-clause-call
 returns-in_default-clause-call g c m was it terms tied stands open_is =
     let code = (regs_at m c.args.p.0).b in
     let same : c.regs-regs.result.b ≡ code = ap (λ (r : Regs). r.b) (c.regs-regs.ensures.tied m tied) in
-    setting-unknown m was c.args.now c.args.p.0 c.refuse.result c.args.s.now c.args.files.now c.refuse.new.files _ terms it c.regs-regs.result (c.regs-regs.ensures.tied m tied) stands c.refuse.ensures.files _ code
+    setting-unknown m was c.args.now c.args.p.0 c.refuse.result c.args.s.now c.args.files.now c.refuse.new.files _
+    terms it c.regs-regs.result (c.regs-regs.ensures.tied m tied) stands c.refuse.ensures.files _ code
     (λ e. absurd (omega arith)) (λ e. absurd (omega arith)) c.refuse.ensures.end tied
 
 pub returns-in-2-clause-call : goal.returns-in-2-clause-call
@@ -23,4 +24,5 @@ returns-in-28-clause-call g c m was it terms tied stands open_is =
     let code = (regs_at m c.args.p.0).b in
     let same : c.regs-regs.result.b ≡ code = ap (λ (r : Regs). r.b) (c.regs-regs.ensures.tied m tied) in
     let known : 28 ≡ code = omega arith in
-    set-by-code m was c.args.now c.args.p.0 c.set_attributes.result c.set_attributes.new.s c.set_attributes.new.files _ _ terms it 28 code known (c.set_attributes.ensures.call m was it terms tied stands open_is)
+    set-by-code m was c.args.now c.args.p.0 c.set_attributes.result c.set_attributes.new.s c.set_attributes.new.files
+    _ _ terms it 28 code known (c.set_attributes.ensures.call m was it terms tied stands open_is)

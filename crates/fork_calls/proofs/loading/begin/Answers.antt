@@ -9,4 +9,6 @@ store-requires-clause-fits c =
     let size = c.args.program.pages * 256 in
     let bytes = c.args.parameters.now in
     subst (λ (n : ℕ). FitsIn (cells_of c.start.new.self c.args.p.0) (size - n) (length bytes)) c.requires.whole
-    (end-fits (cells_of c.start.new.self c.args.p.0) (8192 * c.blocks_of_pages.result) size (length bytes) c.in_ok-start.ensures.area (omega (arith, c.blocks_of_pages.ensures)) (omega (arith, c.requires.whole, c.args.program.fits)))
+    (end-fits (cells_of c.start.new.self c.args.p.0) (8192 * c.blocks_of_pages.result) size (length bytes)
+    c.in_ok-start.ensures.area (omega (arith, c.blocks_of_pages.ensures))
+    (omega (arith, c.requires.whole, c.args.program.fits)))

@@ -18,7 +18,9 @@ returns-in-Ok-clause-loaded c m entry tied is =
     let program : Program = meant c.args.program entry bytes in
     let long : length bytes ≡ count = length-take-le count buffer (omega arith) in
     loaded-ok m p program _ (le-ltb most_pages c.args.program.pages c.if-program-gt-MOST_PAGES.false) c.beginning_of-start.result
-    (subst (λ (all : List ℕ). AnswersMemory {T = Unit {0}} (begun m.memory p (meant c.args.program entry (take count all))) m.memory (Ok tt) c.begin.new.memory) c.deref.ensures.value (c.in-Ok.ensures.begun m.memory entry tied.memory))
+    (subst (λ (all : List ℕ). AnswersMemory {T = Unit {0}}
+    (begun m.memory p (meant c.args.program entry (take count all))) m.memory (Ok tt) c.begin.new.memory)
+    c.deref.ensures.value (c.in-Ok.ensures.begun m.memory entry tied.memory))
     (λ memory stands. record { memory = stands; is = ap (λ (s : Inner). with_memory s memory) tied.is })
     (c.beginning_of-start.ensures.regs m.memory entry bytes tied.memory is long)
     (c.beginning_of-start.ensures.own m.memory entry bytes tied.memory is)
@@ -29,7 +31,9 @@ returns-in-Err-clause-loaded c m entry tied is =
     let count = c.args.program.parameters in
     let program : Program = meant c.args.program entry (take count c.args.s.now.buffer.items) in
     let answers : AnswersMemory {T = Unit {0}} (begun m.memory p program) m.memory (Err c.in-Err.fault) c.begin.new.memory =
-    subst (λ (all : List ℕ). AnswersMemory {T = Unit {0}} (begun m.memory p (meant c.args.program entry (take count all))) m.memory (Err c.in-Err.fault) c.begin.new.memory) c.deref.ensures.value (c.in-Err.ensures.begun m.memory entry tied.memory) in
+    subst (λ (all : List ℕ). AnswersMemory {T = Unit {0}}
+    (begun m.memory p (meant c.args.program entry (take count all))) m.memory (Err c.in-Err.fault)
+    c.begin.new.memory) c.deref.ensures.value (c.in-Err.ensures.begun m.memory entry tied.memory) in
     subst (IsNotLoaded m p program _) (sym c.memory_error.ensures)
     (loaded-refused m p program _ (le-ltb most_pages c.args.program.pages c.if-program-gt-MOST_PAGES.false) c.in-Err.fault answers
     (λ memory stands. record { memory = stands; is = ap (λ (s : Inner). with_memory s memory) tied.is }))

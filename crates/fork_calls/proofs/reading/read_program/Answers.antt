@@ -51,10 +51,14 @@ returns-in_err-id-clause-read c m tied =
     let stood = read-stands c.args.s.now _ c.read_name-name.ensures.same refl refl refl refl m tied in
     let after = c.read_bytes.ensures.same.represents m stood in
     let bytes : List ℕ = take c.regs-regs.result.y c.read_bytes.new.self.buffer.items in
-    let passed : user_bytes (cells_at m p) (regs_at m p).u (regs_at m p).y ≡ Some bytes = ap (λ (r : Regs). user_bytes (cells_at m p) r.u r.y) (sym regs_are) ∙ c.if-not-read_bytes.ensures.read m stood in
+    let passed : user_bytes (cells_at m p) (regs_at m p).u (regs_at m p).y ≡ Some bytes = ap
+    (λ (r : Regs). user_bytes (cells_at m p) r.u r.y) (sym regs_are) ∙ c.if-not-read_bytes.ensures.read m stood in
     let number = c.in_err-id.field-0.0 in
     let gave = err_from_is_err_and c.from_residual.result c.from_residual.ensures.1 in
-    let unfound : IsUnfound m.memory.modules (regs_at m p).a (module_name c.read_name-name.result) number = subst (λ (r : Regs). IsUnfound m.memory.modules r.a (module_name c.read_name-name.result) number) regs_are (subst (λ (read : Option (List ℕ)). IsUnfound m.memory.modules c.regs-regs.result.a read number) c.module_name.ensures (c.in_err-id.ensures.found m.memory after.memory)) in
+    let unfound : IsUnfound m.memory.modules (regs_at m p).a (module_name c.read_name-name.result) number = subst
+    (λ (r : Regs). IsUnfound m.memory.modules r.a (module_name c.read_name-name.result) number) regs_are
+    (subst (λ (read : Option (List ℕ)). IsUnfound m.memory.modules c.regs-regs.result.a read number)
+    c.module_name.ensures (c.in_err-id.ensures.found m.memory after.memory)) in
     rw (gave.1, gave.2) (read-unfound m p c.read_name-name.result name there bytes passed number unfound)
 
 pub returns-clause-read : goal.returns-clause-read
@@ -68,10 +72,17 @@ returns-clause-read c m tied =
     let after = c.read_bytes.ensures.same.represents m stood in
     let buffer : List ℕ = c.read_bytes.new.self.buffer.items in
     let bytes : List ℕ = take regs.y buffer in
-    let passed : user_bytes (cells_at m p) (regs_at m p).u (regs_at m p).y ≡ Some bytes = ap (λ (r : Regs). user_bytes (cells_at m p) r.u r.y) (sym regs_are) ∙ c.if-not-read_bytes.ensures.read m stood in
-    let found : IsFound m.memory.modules (regs_at m p).a (module_name c.read_name-name.result) c.in_ok-id.id.0 c.in_ok-id.count = subst (λ (r : Regs). IsFound m.memory.modules r.a (module_name c.read_name-name.result) c.in_ok-id.id.0 c.in_ok-id.count) regs_are (subst (λ (read : Option (List ℕ)). IsFound m.memory.modules regs.a read c.in_ok-id.id.0 c.in_ok-id.count) c.module_name.ensures (c.in_ok-id.ensures.found m.memory after.memory)) in
+    let passed : user_bytes (cells_at m p) (regs_at m p).u (regs_at m p).y ≡ Some bytes = ap
+    (λ (r : Regs). user_bytes (cells_at m p) r.u r.y) (sym regs_are) ∙ c.if-not-read_bytes.ensures.read m stood in
+    let found : IsFound m.memory.modules (regs_at m p).a (module_name c.read_name-name.result) c.in_ok-id.id.0
+    c.in_ok-id.count = subst (λ (r : Regs). IsFound m.memory.modules r.a (module_name c.read_name-name.result)
+    c.in_ok-id.id.0 c.in_ok-id.count) regs_are (subst (λ (read : Option (List ℕ)). IsFound m.memory.modules regs.a
+    read c.in_ok-id.id.0 c.in_ok-id.count) c.module_name.ensures (c.in_ok-id.ensures.found m.memory after.memory))
+    in
     let long : length bytes ≡ regs.y = length-take-le regs.y buffer (omega arith) in
-    read-found m p c.read_name-name.result name there bytes passed _ buffer (subst (IsFound m.memory.modules (regs_at m p).a (module_name c.read_name-name.result) c.in_ok-id.id.0) (sym c.from.ensures) found)
+    read-found m p c.read_name-name.result name there bytes passed _ buffer
+    (subst (IsFound m.memory.modules (regs_at m p).a (module_name c.read_name-name.result) c.in_ok-id.id.0)
+    (sym c.from.ensures) found)
     (λ entry is.
     let info_is : entry.info ≡ c.info-info.result = same_Some _ _ (sym (ap (option_map (λ (e : ModuleEntry). e.info)) is) ∙ c.info-info.ensures.tied m.memory after.memory) in
     c.area_pages.ensures.pages entry (ap (λ (i : ModuleInfo). i.storage) info_is)

@@ -34,7 +34,8 @@ returns-clause-boots c =
 pub returns-clause-free : goal.returns-clause-free
 returns-clause-free c =
     let file : c.deref.result.now ≡ stress_file c.args.load.now = c.deref.ensures.value ∙ c.in_ok-file.ensures in
-    subst (λ (file : List ℕ). IfOk c.boot_image.result (λ image. length (free_clusters (image_geometry image.items) (boot_volume file)) ≡ 4096 - used_sectors (length file))) file c.boot_image.ensures.free
+    subst (λ (file : List ℕ). IfOk c.boot_image.result (λ image. length (free_clusters (image_geometry image.items)
+    (boot_volume file)) ≡ 4096 - used_sectors (length file))) file c.boot_image.ensures.free
 
 pub returns-clause-accepted : goal.returns-clause-accepted
 returns-clause-accepted c = accepted c.args.load.now c.requires

@@ -11,11 +11,16 @@ returns-in-Dup-clause-memory g c m tied is =
 
 pub returns-in-Create-clause-memory : goal.returns-in-Create-clause-memory
 returns-in-Create-clause-memory g c m tied is =
-    absurd (has-memory Call.Create m c.args.io.now (vec_len c.args.devices.now.drives) c.args.p.0 c.i_create.result c.i_create.new.s c.i_create.new.io _ _ (c.i_create.ensures.call m (replicate (vec_len c.args.devices.now.terms) (driver_with [] [] 0)) tied (length-replicate (vec_len c.args.devices.now.terms) (driver_with [] [] 0))) is)
+    absurd (has-memory Call.Create m c.args.io.now (vec_len c.args.devices.now.drives) c.args.p.0 c.i_create.result
+    c.i_create.new.s c.i_create.new.io _ _
+    (c.i_create.ensures.call m (replicate (vec_len c.args.devices.now.terms) (driver_with [] [] 0)) tied
+    (length-replicate (vec_len c.args.devices.now.terms) (driver_with [] [] 0))) is)
 
 pub returns-in-Open-clause-memory : goal.returns-in-Open-clause-memory
 returns-in-Open-clause-memory g c m tied is =
-    absurd (has-memory Call.Open m c.args.io.now (vec_len c.args.devices.now.drives) c.args.p.0 c.i_open.result c.i_open.new.s c.i_open.new.io _ _ (c.i_open.ensures.call m (replicate (vec_len c.args.devices.now.terms) (driver_with [] [] 0)) tied (length-replicate (vec_len c.args.devices.now.terms) (driver_with [] [] 0))) is)
+    absurd (has-memory Call.Open m c.args.io.now (vec_len c.args.devices.now.drives) c.args.p.0 c.i_open.result
+    c.i_open.new.s c.i_open.new.io _ _ (c.i_open.ensures.call m (replicate (vec_len c.args.devices.now.terms)
+    (driver_with [] [] 0)) tied (length-replicate (vec_len c.args.devices.now.terms) (driver_with [] [] 0))) is)
 
 pub returns-in-Close-clause-memory : goal.returns-in-Close-clause-memory
 returns-in-Close-clause-memory g c m tied is =

@@ -13,4 +13,6 @@ returns-clause-terminal g c =
     let load = c.load_in_box.ensures in
     let old = boxed_terminal_state (λ table. (g.dyn-2.0.entry table).1) c.index_mut.result.now in
     let new = boxed_terminal_state (λ table. (g.dyn-2.0.entry table).1) c.load_in_box.new.term in
-    ChangesOne-set _ _ c.args.devices.now.terms.items c.args.n c.index_mut.result.now c.load_in_box.new.term (omega (arith, c.args.devices.now.terms.ok.0)) c.index_mut.ensures.value (is-loaded c.args.keys.items old new load.loaded load.put_kept load.faults_kept)
+    ChangesOne-set _ _ c.args.devices.now.terms.items c.args.n c.index_mut.result.now c.load_in_box.new.term
+    (omega (arith, c.args.devices.now.terms.ok.0)) c.index_mut.ensures.value (is-loaded c.args.keys.items old new
+    load.loaded load.put_kept load.faults_kept)

@@ -29,16 +29,23 @@ pub returns-then-first-ne-PROGRAM-clause-call : goal.returns-then-first-ne-PROGR
 returns-then-first-ne-PROGRAM-clause-call c m file tied front params =
     let p = c.args.p.0 in
     let at = it (goal.at.returns-then-first-ne-PROGRAM-clause-call c).Start m file tied front in
-    let other : (at.loaded.first.entry.info.kind == program_kind) ≡ false = ap (λ (entry : ModuleEntry). entry.info.kind == program_kind) at.first_is ∙ ne_eqb c.args.first.kind program_kind c.if-first-ne-PROGRAM.true in
+    let other : (at.loaded.first.entry.info.kind == program_kind) ≡ false = ap
+    (λ (entry : ModuleEntry). entry.info.kind == program_kind) at.first_is ∙ ne_eqb c.args.first.kind program_kind
+    c.if-first-ne-PROGRAM.true in
     goes-refused m file (starts_first chains m p) c.args.s.now at.loaded at.loads E_NEMOD (other-kind chains m p file at.loaded other) tied
 
 -- its first module is a program
-is-program : (c : Start) (m : Inner) (file : ProgramFile) (at : IsReady m.memory file.bytes c.args.read.size c.args.first) → c.args.first.kind ≡ program_kind → starts_first chains m c.args.p.0 file at.loaded ≡ chains (with_memory m at.loaded.memory) c.args.p.0 (loaded_program m c.args.p.0 file at.loaded.first)
+is-program : (c : Start) (m : Inner) (file : ProgramFile) (at : IsReady m.memory file.bytes c.args.read.size
+    c.args.first) → c.args.first.kind ≡ program_kind → starts_first chains m c.args.p.0 file at.loaded ≡ chains
+    (with_memory m at.loaded.memory) c.args.p.0 (loaded_program m c.args.p.0 file at.loaded.first)
 is-program c m file at kind =
     right-kind chains m c.args.p.0 file at.loaded (ap (λ (entry : ModuleEntry). entry.info.kind == program_kind) at.first_is ∙ eq-eqb c.args.first.kind program_kind kind)
 
 -- its pages, by the header that was read
-pages-are : (c : Start) (m : Inner) (file : ProgramFile) (at : IsReady m.memory file.bytes c.args.read.size c.args.first) (regs : Regs) (pages : ℕ) → regs ≡ regs_at m c.args.p.0 → ((entry : ModuleEntry) → entry.info.storage ≡ c.args.first.storage → pages ≡ area_pages entry regs.b regs.y) → pages ≡ area_pages at.loaded.first.entry (regs_at m c.args.p.0).b (regs_at m c.args.p.0).y
+pages-are : (c : Start) (m : Inner) (file : ProgramFile) (at : IsReady m.memory file.bytes c.args.read.size
+    c.args.first) (regs : Regs) (pages : ℕ) → regs ≡ regs_at m c.args.p.0
+    → ((entry : ModuleEntry) → entry.info.storage ≡ c.args.first.storage → pages ≡ area_pages entry regs.b regs.y)
+    → pages ≡ area_pages at.loaded.first.entry (regs_at m c.args.p.0).b (regs_at m c.args.p.0).y
 pages-are c m file at regs pages same is =
     is at.loaded.first.entry (ap (λ (entry : ModuleEntry). entry.info.storage) at.first_is) ∙ ap (λ (r : Regs). area_pages at.loaded.first.entry r.b r.y) same
 
@@ -53,7 +60,8 @@ returns-in-Some-clause-call c m file tied front params =
     let refused : start_refusal m.memory p (file_blocks file.bytes) program.pages ≡ Some c.in-Some.number =
     (λ i. start_refusal m.memory p (sym (c.blocks_of.ensures.blocks ∙ at.blocks_are) i) (sym pages i)) ∙ sym (c.in-Some.ensures m.memory tied.memory) in
     goes-refused m file (starts_first chains m p) c.args.s.now at.loaded at.loads c.in-Some.number
-    (is-program start m file at c.if-first-ne-PROGRAM.false ∙ start-refused m p file.bytes at.loaded at.it c.args.first at.first_is program refl c.in-Some.number refused (anew-next later p program)) tied
+    (is-program start m file at c.if-first-ne-PROGRAM.false ∙ start-refused m p file.bytes at.loaded at.it
+    c.args.first at.first_is program refl c.in-Some.number refused (anew-next later p program)) tied
 
 pub returns-in-None-clause-call : goal.returns-in-None-clause-call
 returns-in-None-clause-call c m file tied front params =

@@ -20,7 +20,9 @@ returns-in-Err-clause-call g c now m was tied stands kinds =
     let p = c.args.p.0 in
     let same = c.names_program.ensures.same.represents m tied in
     let test_is : refuses_by c.program_refusal-refusal.result ≡ tests_program m p = fun_ext (λ (step : Step ProgramFile). c.program_refusal-refusal.ensures m step same) in
-    start-by-file chains f_chain m p now was (vec_len c.args.devices.now.terms) _ _ _ (sym (c.names_program.ensures.named m tied) ∙ c.if-names_program.false) (refuses_by c.program_refusal-refusal.result) test_is _ _
+    start-by-file chains f_chain m p now was (vec_len c.args.devices.now.terms) _ _ _
+    (sym (c.names_program.ensures.named m tied) ∙ c.if-names_program.false)
+    (refuses_by c.program_refusal-refusal.result) test_is _ _
     (c.in-Err.ensures.call m was now same stands)
     (λ read. file-refused _ _ m _ was p _ _ _ _ c.in-Err.number _ read (c.read_program.ensures.same.represents m same))
 

@@ -28,7 +28,9 @@ returns-in-End c = record {
 pub unreachable-requires : goal.unreachable-requires
 unreachable-requires c =
     let can = c.requires.can in
-    none-broken c.args.file.now can.group c.args.id.0 c.args.start can.m c.loop-info.from c.loop-info.memory (c.loop-info.invariant.progress can.m can.group can.represents can.of_group) can.after _ _ (sym c.in-Fault.ensures.step) can.enters
+    none-broken c.args.file.now can.group c.args.id.0 c.args.start can.m c.loop-info.from c.loop-info.memory
+    (c.loop-info.invariant.progress can.m can.group can.represents can.of_group) can.after _ _
+    (sym c.in-Fault.ensures.step) can.enters
 
 pub enter_beside-requires-clause-entered : goal.enter_beside-requires-clause-entered
 enter_beside-requires-clause-entered c =
@@ -38,7 +40,9 @@ enter_beside-requires-clause-entered c =
 pub enter_beside-requires-clause-inside : goal.enter_beside-requires-clause-inside
 enter_beside-requires-clause-inside c =
     let can = c.requires.can in
-    next-inside c.args.file.now can.group c.args.id.0 c.args.start can.m c.loop-info.from c.loop-info.memory (here (goal.at.enter_beside-requires-clause-inside c).In-Module) c.in-Module.info can.room (lies (goal.at.enter_beside-requires-clause-inside c).In-Module).in_file
+    next-inside c.args.file.now can.group c.args.id.0 c.args.start can.m c.loop-info.from c.loop-info.memory
+    (here (goal.at.enter_beside-requires-clause-inside c).In-Module) c.in-Module.info can.room
+    (lies (goal.at.enter_beside-requires-clause-inside c).In-Module).in_file
 
 pub enter_beside-requires-clause-runs : goal.enter_beside-requires-clause-runs
 enter_beside-requires-clause-runs c = (lies (goal.at.enter_beside-requires-clause-runs c).In-Module).enters
@@ -58,5 +62,8 @@ loop-info-preserved c =
       within = omega (arith, it.in_file, c.from.ensures);
       progress = λ m group tied of.
           subst (λ (size : ℕ). Progress c.args.file.now group c.args.id.0 c.args.start m (c.in-Module.info.at + size) c.enter_beside.new.self) (sym c.from.ensures)
-          (progress-more c.args.file.now group c.args.id.0 c.args.start m c.loop-info.from c.loop-info.memory (c.loop-info.invariant.progress m group tied of) c.in-Module.info c.enter_beside.new.self (sym c.in-Module.ensures.step) (takes (goal.at.loop-info-preserved c).In-Module) c.enter_beside.ensures.enters);
+          (progress-more c.args.file.now group c.args.id.0 c.args.start m c.loop-info.from c.loop-info.memory
+          (c.loop-info.invariant.progress m group tied of) c.in-Module.info c.enter_beside.new.self
+          (sym c.in-Module.ensures.step) (takes (goal.at.loop-info-preserved c).In-Module)
+          c.enter_beside.ensures.enters);
     }

@@ -89,7 +89,8 @@ returns-clause-entered c =
     let loaded = loads-ok it.0 file tried.loaded tried.loads in
     let after = (goal.at.returns-clause-entered c).After-enter_others in
     rw (number-is after it.0 tried.loaded it.1 loaded)
-    (some-here c.enter_others.new.memory tried.loaded.memory (stands after it.0 tried.loaded it.1 loaded) tried.loaded.first.number tried.loaded.first.entry (first-there it.0 file tried.loaded loaded))
+    (some-here c.enter_others.new.memory tried.loaded.memory (stands after it.0 tried.loaded it.1 loaded)
+    tried.loaded.first.number tried.loaded.first.entry (first-there it.0 file tried.loaded loaded))
 
 pub returns-clause-stay : goal.returns-clause-stay
 returns-clause-stay c =

@@ -12,7 +12,8 @@ returns-in-Err-clause-call g c now m was tied stands kinds =
     let terms = vec_len c.args.devices.now.terms in
     let asker = asker_of m p now in
     let read = c.in-Err.ensures.call m was now tied stands in
-    let by = file-refused (program_file asker was terms (λ step. step)) (program_calls asker was terms None) m (links_first m p) was p _ _ _ _ c.in-Err.number _ read (c.read_program.ensures.same.represents m tied) in
+    let by = file-refused (program_file asker was terms (λ step. step)) (program_calls asker was terms None) m
+    (links_first m p) was p _ _ _ _ c.in-Err.number _ read (c.read_program.ensures.same.represents m tied) in
     record {
       result = by.result;
       left = read.left;

@@ -55,4 +55,6 @@ returns-clause-call c m file tied front =
     let count_is : c.saturating_sub.result ≡ count = omega (arith, c.saturating_sub.ensures, c.from.ensures, front.next_is, x_is) in
     let answers = c.link_module.ensures.call later loaded.first.entry entered.stands (ap (module_entry_at loaded.memory.modules) entered.number_is ∙ first-there m.memory file.bytes loaded at.it) in
     goes-done m file (links_first m p) c.link_module.new.s loaded at.loads c.link_module.result later placed.0 (links_entered later p loaded.first count) (sym first) (first ∙ placed.1)
-    (subst (λ (call : CallResult). Answers later call c.link_module.result c.link_module.new.s) (λ i. links_entered later p (record { number = entered.number_is i; entry = loaded.first.entry }) (count_is i)) answers)
+    (subst (λ (call : CallResult). Answers later call c.link_module.result c.link_module.new.s)
+    (λ i. links_entered later p (record { number = entered.number_is i; entry = loaded.first.entry })
+    (count_is i)) answers)

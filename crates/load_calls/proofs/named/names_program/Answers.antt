@@ -9,7 +9,9 @@ use Rattle.file_rules.specs.Program.{named_program}
 use Rattle.load_calls.proofs.named.names_program.Goals as goal
 
 -- by the name that was read
-by-name : (m : Inner) (p : ℕ) (regs : Regs) (name : ProgramName) → regs ≡ regs_at m p → name ≡ program_name (cells_at m p) regs.x → option_and_then (λ (name : List ℕ). found_entry m.memory.modules name regs.a) (module_name name) ≡ named_program m p
+by-name : (m : Inner) (p : ℕ) (regs : Regs) (name : ProgramName) → regs ≡ regs_at m p → name ≡ program_name
+    (cells_at m p) regs.x → option_and_then (λ (name : List ℕ). found_entry m.memory.modules name regs.a)
+    (module_name name) ≡ named_program m p
 by-name m p regs name same is = λ i.
     option_and_then (λ (name : List ℕ). found_entry m.memory.modules name (same i).a)
     (module_name ((is ∙ ap (λ (r : Regs). program_name (cells_at m p) r.x) same) i))

@@ -18,7 +18,8 @@ returns-clause-enters c m file loaded tied front loads params =
     let p = c.args.p.0 in
     let regs = c.regs-regs.result in
     let buffer : List ℕ = c.read_bytes.new.self.buffer.items in
-    let at = ready m.memory file.bytes (take c.args.read.size c.args.s.now.buffer.items) c.args.read.size c.args.first front.size_is front.bytes_are (c.requires.tried m.memory tied.memory) c.requires.first in
+    let at = ready m.memory file.bytes (take c.args.read.size c.args.s.now.buffer.items) c.args.read.size c.args.first
+    front.size_is front.bytes_are (c.requires.tried m.memory tied.memory) c.requires.first in
     let first_is = ready-first m.memory file.bytes c.args.read.size c.args.first at loaded loads in
     let entered = c.enter_front-id.ensures.loads m loaded tied (subst (λ (bytes : List ℕ). Loads m.memory bytes (Ok loaded)) (sym front.bytes_are) loads) in
     let later : Inner = with_memory m loaded.memory in

@@ -41,7 +41,9 @@ returns-in-Some c = record {
   tried = λ entries group alike.
       let p = c.loop-fault.invariant.progress entries group alike in (
         c.in-Module.info.at,
-        refused-next c.args.file.now group c.args.dir.now entries c.loop-fault.tried c.loop-fault.count c.loop-fault.from p c.in-Module.info c.in-Some.number (sym c.in-Module.ensures.step) (sym c.in-Some.ensures.refusal),
+        refused-next c.args.file.now group c.args.dir.now entries c.loop-fault.tried c.loop-fault.count
+            c.loop-fault.from p c.in-Module.info c.in-Some.number (sym c.in-Module.ensures.step)
+            (sym c.in-Some.ensures.refusal),
       );
 }
 
@@ -75,5 +77,7 @@ loop-fault-preserved c =
       progress = λ entries group alike.
           let p = c.loop-fault.invariant.progress entries group alike in
           subst (λ (size : ℕ). Progress c.args.file.now group c.args.dir.now entries (slice_set tried count (Some c.in-Module.info)) (count + 1) (c.in-Module.info.at + size)) (sym c.from.ensures)
-          (entered-next c.args.file.now group c.args.dir.now entries tried count c.loop-fault.from p c.in-Module.info (sym c.in-Module.ensures.step) (sym c.in-None.ensures.refusal) (omega (arith, low, c.loop-fault.invariant.size)) (c.loop-fault.invariant.free count (omega arith)));
+          (entered-next c.args.file.now group c.args.dir.now entries tried count c.loop-fault.from p c.in-Module.info
+          (sym c.in-Module.ensures.step) (sym c.in-None.ensures.refusal)
+          (omega (arith, low, c.loop-fault.invariant.size)) (c.loop-fault.invariant.free count (omega arith)));
     }

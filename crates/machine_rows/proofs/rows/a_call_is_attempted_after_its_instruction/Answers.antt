@@ -16,7 +16,27 @@ pub returns-clause-last : goal.returns-clause-last
 unfolding step_of window reading row outcome_of effect_of base_page ten_page
 returns-clause-last c = record {
   shows = first-second 11 refl;
-  slice = (_, _, (_, refl, refl), refl, (refl, (omega arith, Ran, (event-is at_start (at_choice asks_for_id) 2 refl refl executes Ran refl tt refl), (omega arith, Ran, (event-is at_start (after_events at_start 1 (at_choice asks_for_id)) 2 refl refl executes Ran refl tt refl), (refl, refl)))));
+  slice = (
+    _,
+    _,
+    (_, refl, refl),
+    refl,
+    (
+      refl,
+      (
+        omega arith,
+        Ran,
+        (event-is at_start (at_choice asks_for_id) 2 refl refl executes Ran refl tt refl),
+        (
+          omega arith,
+          Ran,
+          (event-is at_start (after_events at_start 1 (at_choice asks_for_id)) 2 refl refl executes Ran
+              refl tt refl),
+          (refl, refl),
+        ),
+      ),
+    ),
+  );
   chosen = refl;
   does = refl;
 }
@@ -25,7 +45,28 @@ pub returns-clause-next : goal.returns-clause-next
 unfolding step_of window reading row outcome_of effect_of base_page ten_page
 returns-clause-next c = record {
   shows = first-second 12 refl;
-  slice = (_, _, (_, refl, refl), refl, (refl, (omega arith, Ran, (event-is at_start (at_choice (after_slice at_start 2 asks_for_id)) 2 refl refl (attempts F_ID) Ran refl (tt, first-second 12 refl) refl), (omega arith, Ran, (event-is at_start (after_events at_start 1 (at_choice (after_slice at_start 2 asks_for_id))) 2 refl refl executes Ran refl tt refl), (refl, refl)))));
+  slice = (
+    _,
+    _,
+    (_, refl, refl),
+    refl,
+    (
+      refl,
+      (
+        omega arith,
+        Ran,
+        (event-is at_start (at_choice (after_slice at_start 2 asks_for_id)) 2 refl refl
+            (attempts F_ID) Ran refl (tt, first-second 12 refl) refl),
+        (
+          omega arith,
+          Ran,
+          (event-is at_start (after_events at_start 1 (at_choice (after_slice at_start 2 asks_for_id)))
+              2 refl refl executes Ran refl tt refl),
+          (refl, refl),
+        ),
+      ),
+    ),
+  );
   chosen = refl;
   does = refl;
 }
@@ -34,7 +75,39 @@ pub returns-clause-within : goal.returns-clause-within
 unfolding step_of window reading row outcome_of effect_of base_page ten_page
 returns-clause-within c = record {
   shows = first-second 11 refl;
-  slice = (_, _, (_, refl, refl), refl, (refl, (omega arith, Ran, (event-is at_start (at_choice asks_for_id) 2 refl refl executes Ran refl tt refl), (omega arith, Ran, (event-is at_start (after_events at_start 1 (at_choice asks_for_id)) 2 refl refl executes Ran refl tt refl), (omega arith, Ran, (event-is at_start (after_events at_start 2 (at_choice asks_for_id)) 2 refl refl (attempts F_ID) Ran refl (tt, first-second 11 refl) refl), (omega arith, Ran, (event-is at_start (after_events at_start 3 (at_choice asks_for_id)) 2 refl refl executes Ran refl tt refl), (refl, refl)))))));
+  slice = (
+    _,
+    _,
+    (_, refl, refl),
+    refl,
+    (
+      refl,
+      (
+        omega arith,
+        Ran,
+        (event-is at_start (at_choice asks_for_id) 2 refl refl executes Ran refl tt refl),
+        (
+          omega arith,
+          Ran,
+          (event-is at_start (after_events at_start 1 (at_choice asks_for_id)) 2 refl refl executes Ran
+              refl tt refl),
+          (
+            omega arith,
+            Ran,
+            (event-is at_start (after_events at_start 2 (at_choice asks_for_id)) 2 refl
+                refl (attempts F_ID) Ran refl (tt, first-second 11 refl) refl),
+            (
+              omega arith,
+              Ran,
+              (event-is at_start (after_events at_start 3 (at_choice asks_for_id)) 2 refl refl executes Ran
+                  refl tt refl),
+              (refl, refl),
+            ),
+          ),
+        ),
+      ),
+    ),
+  );
   chosen = refl;
   does = refl;
 }

@@ -16,7 +16,34 @@ pub returns : goal.returns
 unfolding step_of window reading row outcome_of effect_of base_page ten_page
 returns c = record {
   shows = first-second 11 refl;
-  slice = (_, _, (_, refl, refl), refl, (refl, (omega arith, Ran, (event-is at_start (at_choice signalled_in_call) 2 refl refl (attempts F_ID) Ran refl (tt, first-second 11 refl) refl), (omega arith, Ran, (event-is at_start (after_events at_start 1 (at_choice signalled_in_call)) 2 refl refl (delivers 7) Ran refl tt refl), (omega arith, Ran, (event-is at_start (after_events at_start 2 (at_choice signalled_in_call)) 2 refl refl executes Ran refl tt refl), (refl, refl))))));
+  slice = (
+    _,
+    _,
+    (_, refl, refl),
+    refl,
+    (
+      refl,
+      (
+        omega arith,
+        Ran,
+        (event-is at_start (at_choice signalled_in_call) 2 refl refl (attempts F_ID) Ran refl
+            (tt, first-second 11 refl) refl),
+        (
+          omega arith,
+          Ran,
+          (event-is at_start (after_events at_start 1 (at_choice signalled_in_call)) 2 refl refl
+              (delivers 7) Ran refl tt refl),
+          (
+            omega arith,
+            Ran,
+            (event-is at_start (after_events at_start 2 (at_choice signalled_in_call)) 2 refl refl
+                executes Ran refl tt refl),
+            (refl, refl),
+          ),
+        ),
+      ),
+    ),
+  );
   chosen = refl;
   does = refl;
 }

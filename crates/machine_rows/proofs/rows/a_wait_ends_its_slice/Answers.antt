@@ -16,7 +16,27 @@ pub returns-clause-waits : goal.returns-clause-waits
 unfolding step_of window reading row outcome_of effect_of base_page ten_page
 returns-clause-waits c = record {
   shows = first-second 11 refl;
-  slice = (_, _, (_, refl, refl), refl, (refl, (omega arith, Ran, (event-is at_start (at_choice falls_asleep) 2 refl refl executes Ran refl tt refl), (omega arith, Waits, (event-is at_start (after_events at_start 1 (at_choice falls_asleep)) 2 refl refl (attempts F_SLEEP) Waits refl (tt, first-second 11 refl) refl), (refl, refl)))));
+  slice = (
+    _,
+    _,
+    (_, refl, refl),
+    refl,
+    (
+      refl,
+      (
+        omega arith,
+        Ran,
+        (event-is at_start (at_choice falls_asleep) 2 refl refl executes Ran refl tt refl),
+        (
+          omega arith,
+          Waits,
+          (event-is at_start (after_events at_start 1 (at_choice falls_asleep)) 2 refl refl
+              (attempts F_SLEEP) Waits refl (tt, first-second 11 refl) refl),
+          (refl, refl),
+        ),
+      ),
+    ),
+  );
   chosen = refl;
   does = refl;
 }

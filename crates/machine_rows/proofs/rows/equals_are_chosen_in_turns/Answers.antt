@@ -33,7 +33,22 @@ pub returns-clause-first_again : goal.returns-clause-first_again
 unfolding step_of window reading row outcome_of effect_of base_page ten_page
 returns-clause-first_again c = record {
   shows = first-second 13 refl;
-  slice = (_, _, (_, refl, refl), refl, (refl, (omega arith, Ran, (event-is at_start (at_choice (after_slice at_start 1 (after_slice at_start 1 two_running))) 2 refl refl executes Ran refl tt refl), (refl, refl))));
+  slice = (
+    _,
+    _,
+    (_, refl, refl),
+    refl,
+    (
+      refl,
+      (
+        omega arith,
+        Ran,
+        (event-is at_start (at_choice (after_slice at_start 1 (after_slice at_start 1 two_running))) 2 refl refl
+            executes Ran refl tt refl),
+        (refl, refl),
+      ),
+    ),
+  );
   chosen = refl;
   does = refl;
 }

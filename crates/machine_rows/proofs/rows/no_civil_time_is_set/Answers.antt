@@ -17,7 +17,34 @@ pub returns-clause-does : goal.returns-clause-does
 unfolding step_of window reading row outcome_of effect_of base_page ten_page
 returns-clause-does c = record {
   shows = first-second 11 refl;
-  slice = (_, _, (_, refl, refl), refl, (refl, (omega arith, Ran, (event-is at_start (at_choice (sets_time (at 93 2 29 23 59 59))) 2 refl refl executes Ran refl tt refl), (omega arith, Ran, (event-is at_start (after_events at_start 1 (at_choice (sets_time (at 93 2 29 23 59 59)))) 2 refl refl (attempts F_STIME) Ran refl (tt, first-second 11 refl) refl), (omega arith, Ran, (event-is at_start (after_events at_start 2 (at_choice (sets_time (at 93 2 29 23 59 59)))) 2 refl refl executes Ran refl tt refl), (refl, refl))))));
+  slice = (
+    _,
+    _,
+    (_, refl, refl),
+    refl,
+    (
+      refl,
+      (
+        omega arith,
+        Ran,
+        (event-is at_start (at_choice (sets_time (at 93 2 29 23 59 59))) 2 refl refl executes
+            Ran refl tt refl),
+        (
+          omega arith,
+          Ran,
+          (event-is at_start (after_events at_start 1 (at_choice (sets_time (at 93 2 29 23 59 59)))) 2 refl refl
+              (attempts F_STIME) Ran refl (tt, first-second 11 refl) refl),
+          (
+            omega arith,
+            Ran,
+            (event-is at_start (after_events at_start 2 (at_choice (sets_time (at 93 2 29 23 59 59)))) 2
+                refl refl executes Ran refl tt refl),
+            (refl, refl),
+          ),
+        ),
+      ),
+    ),
+  );
   chosen = refl;
   does = refl;
 }

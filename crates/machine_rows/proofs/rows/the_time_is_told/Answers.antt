@@ -17,7 +17,34 @@ pub returns-clause-one_second : goal.returns-clause-one_second
 unfolding step_of window reading row outcome_of effect_of base_page ten_page
 returns-clause-one_second c = record {
   shows = one-second;
-  slice = (_, _, (_, refl, refl), refl, (refl, (omega arith, Ran, (event-is (at 90 1 1 0 0 1) (at_choice (asks_for_time 118)) 2 refl refl executes Ran refl tt refl), (omega arith, Ran, (event-is (at 90 1 1 0 0 1) (after_events (at 90 1 1 0 0 1) 1 (at_choice (asks_for_time 118))) 2 refl refl (attempts F_TIME) Ran refl (tt, one-second) refl), (omega arith, Ran, (event-is (at 90 1 1 0 0 1) (after_events (at 90 1 1 0 0 1) 2 (at_choice (asks_for_time 118))) 2 refl refl executes Ran refl tt refl), (refl, refl))))));
+  slice = (
+    _,
+    _,
+    (_, refl, refl),
+    refl,
+    (
+      refl,
+      (
+        omega arith,
+        Ran,
+        (event-is (at 90 1 1 0 0 1) (at_choice (asks_for_time 118)) 2 refl refl executes Ran
+            refl tt refl),
+        (
+          omega arith,
+          Ran,
+          (event-is (at 90 1 1 0 0 1) (after_events (at 90 1 1 0 0 1) 1
+              (at_choice (asks_for_time 118))) 2 refl refl (attempts F_TIME) Ran refl (tt, one-second) refl),
+          (
+            omega arith,
+            Ran,
+            (event-is (at 90 1 1 0 0 1) (after_events (at 90 1 1 0 0 1) 2
+                (at_choice (asks_for_time 118))) 2 refl refl executes Ran refl tt refl),
+            (refl, refl),
+          ),
+        ),
+      ),
+    ),
+  );
   chosen = refl;
   does = refl;
 }
@@ -26,7 +53,34 @@ pub returns-clause-two_seconds : goal.returns-clause-two_seconds
 unfolding step_of window reading row outcome_of effect_of base_page ten_page
 returns-clause-two_seconds c = record {
   shows = two-seconds;
-  slice = (_, _, (_, refl, refl), refl, (refl, (omega arith, Ran, (event-is (at 90 1 1 0 0 2) (at_choice (asks_for_time 119)) 2 refl refl executes Ran refl tt refl), (omega arith, Ran, (event-is (at 90 1 1 0 0 2) (after_events (at 90 1 1 0 0 2) 1 (at_choice (asks_for_time 119))) 2 refl refl (attempts F_TIME) Ran refl (tt, two-seconds) refl), (omega arith, Ran, (event-is (at 90 1 1 0 0 2) (after_events (at 90 1 1 0 0 2) 2 (at_choice (asks_for_time 119))) 2 refl refl executes Ran refl tt refl), (refl, refl))))));
+  slice = (
+    _,
+    _,
+    (_, refl, refl),
+    refl,
+    (
+      refl,
+      (
+        omega arith,
+        Ran,
+        (event-is (at 90 1 1 0 0 2) (at_choice (asks_for_time 119)) 2 refl refl executes Ran
+            refl tt refl),
+        (
+          omega arith,
+          Ran,
+          (event-is (at 90 1 1 0 0 2) (after_events (at 90 1 1 0 0 2) 1
+              (at_choice (asks_for_time 119))) 2 refl refl (attempts F_TIME) Ran refl (tt, two-seconds) refl),
+          (
+            omega arith,
+            Ran,
+            (event-is (at 90 1 1 0 0 2) (after_events (at 90 1 1 0 0 2) 2
+                (at_choice (asks_for_time 119))) 2 refl refl executes Ran refl tt refl),
+            (refl, refl),
+          ),
+        ),
+      ),
+    ),
+  );
   chosen = refl;
   does = refl;
 }

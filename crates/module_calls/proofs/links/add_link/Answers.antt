@@ -12,6 +12,11 @@ returns-clause-tied c =
     let p = c.args.p.0 in
     let slot = c.args.slot in
     let memory = linked m.memory c.args.id.0 in
-    let own_is : c.own-own.result ≡ own_at m p = c.own-own.ensures.tied (with_memory m memory) (record { memory = c.link.ensures.links m.memory tied.memory; is = ap (λ (s : Inner). with_memory s memory) tied.is }) in
+    let own_is : c.own-own.result ≡ own_at m p = c.own-own.ensures.tied (with_memory m memory)
+    (record {
+      memory = c.link.ensures.links m.memory tied.memory;
+      is = ap (λ (s : Inner). with_memory s memory)
+          tied.is;
+    }) in
     subst (λ (own : Own). Represents c.set_own.new.self (with_own (with_memory m memory) p (with_links_at own slot (links_at own slot + 1)))) own_is
     (c.set_own.ensures.tied (with_memory m memory) (record { memory = c.link.ensures.links m.memory tied.memory; is = ap (λ (s : Inner). with_memory s memory) tied.is }))

@@ -38,8 +38,11 @@ returns-clause-call c =
     let mapped_is : mapped_group m.memory p (group_at m.memory id) ≡ Some mapped = ap (mapped_group m.memory p) group_is ∙ there.is in
     let added = c.add_link.ensures.tied (with_memory m mapped.memory) (c.map_group.ensures.tied m mapped tied mapped_is) in
     let info_is : entry.info ≡ c.info-info.result = same_Some _ _ (sym (ap (option_map (λ (entry : ModuleEntry). entry.info)) is) ∙ c.info-info.ensures.tied m.memory tied.memory) in
-    let regs_are : c.linked_regs.result ≡ linked_regs (regs_at m p) entry (header_address slot entry) count = c.linked_regs.ensures entry info_is ∙ ap (λ (regs : Regs). linked_regs regs entry (header_address slot entry) count) (c.regs-regs.ensures.tied _ added) in
+    let regs_are : c.linked_regs.result ≡ linked_regs (regs_at m p) entry (header_address slot entry) count =
+    c.linked_regs.ensures entry info_is ∙ ap (λ (regs : Regs). linked_regs regs entry (header_address slot entry)
+    count) (c.regs-regs.ensures.tied _ added) in
     done-answers m (links_entered m p found count) (after_link m p found mapped count) c.set_regs.new.self there.goes
-    (subst (Represents c.set_regs.new.self) (λ i. with_regs_of (with_own (with_memory m (linked mapped.memory id)) p (with_links_at (own_at m p) (sym there.slot_is i) (links_at (own_at m p) (sym there.slot_is i) + 1))) p
+    (subst (Represents c.set_regs.new.self) (λ i. with_regs_of (with_own (with_memory m (linked mapped.memory id)) p
+    (with_links_at (own_at m p) (sym there.slot_is i) (links_at (own_at m p) (sym there.slot_is i) + 1))) p
     ((regs_are ∙ (λ j. linked_regs (regs_at m p) entry (header_address (sym there.slot_is j) entry) count)) i))
     (c.set_regs.ensures.tied _ added))

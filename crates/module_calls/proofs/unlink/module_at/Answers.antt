@@ -7,7 +7,9 @@ use Rattle.module_calls.proofs.unlink.module_at.Goals as goal
 pub returns-then-is_at-clause-found : goal.returns-then-is_at-clause-found
 returns-then-is_at-clause-found c =
     λ m tied.
-    sym (first-passing c.args.s.now.memory m.memory tied.memory (is_at (map_at m.memory c.args.p.0) c.args.address) c.loop-number.number (omega arith) (sym c.if-is_at.true ∙ c.is_at.ensures.tied m tied) (c.loop-number.invariant m tied))
+    sym (first-passing c.args.s.now.memory m.memory tied.memory (is_at (map_at m.memory c.args.p.0) c.args.address)
+    c.loop-number.number (omega arith) (sym c.if-is_at.true ∙ c.is_at.ensures.tied m tied)
+    (c.loop-number.invariant m tied))
 
 pub returns-clause-found : goal.returns-clause-found
 returns-clause-found c =

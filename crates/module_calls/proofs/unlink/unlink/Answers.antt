@@ -17,7 +17,8 @@ returns-clause-call c =
     λ m tied.
     let p = c.args.p.0 in
     let number = c.in-Some.id.0 in
-    let there = unlinked-at m p number (ap (λ (regs : Regs). position (passes (is_at (map_at m.memory p) regs.u)) m.memory.modules) (sym (c.regs-regs.ensures.tied m tied)) ∙ sym (c.in-Some.ensures.found m tied)) in
+    let there = unlinked-at m p number (ap (λ (regs : Regs). position (passes (is_at (map_at m.memory p) regs.u))
+    m.memory.modules) (sym (c.regs-regs.ensures.tied m tied)) ∙ sym (c.in-Some.ensures.found m tied)) in
     let found : Entered = record { number = number; entry = there.entry } in
     done-answers m (f_unlink m p) (after_unlink m p found) c.unlink_module.new.self there.goes
     (subst (Represents c.unlink_module.new.self) (λ i. without_module_link (option_map_or (without_group_link m p (there.group_is i)) (group_slot (map_at m.memory p) (there.group_is i)) m) number)

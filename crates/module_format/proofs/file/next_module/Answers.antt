@@ -9,8 +9,11 @@ returns-in-Ok-clause-step c =
     (rw rest_is at c.in-Ok.ensures.fault) (rw rest_is at c.in-Ok.ensures.fields)
 
 pub returns-in-Ok-clause-end : goal.returns-in-Ok-clause-end
-returns-in-Ok-clause-end c =
-    (λ e. absurd cc, λ all. absurd (not_all_zeros c.args.bytes.now c.args.from c.next_place-at.result c.next_place-at.ensures.from_there (omega arith) (c.next_place-at.ensures.other (omega arith)) all))
+returns-in-Ok-clause-end c = (
+  λ e. absurd cc,
+  λ all. absurd (not_all_zeros c.args.bytes.now c.args.from c.next_place-at.result
+      c.next_place-at.ensures.from_there (omega arith) (c.next_place-at.ensures.other (omega arith)) all),
+)
 
 pub returns-in-Ok-clause-module : goal.returns-in-Ok-clause-module
 returns-in-Ok-clause-module c =
@@ -26,5 +29,8 @@ returns-in-Err-clause-step c =
     (rw rest_is at c.in-Err.ensures.fault)
 
 pub returns-in-Err-clause-end : goal.returns-in-Err-clause-end
-returns-in-Err-clause-end c =
-    (λ e. absurd cc, λ all. absurd (not_all_zeros c.args.bytes.now c.args.from c.next_place-at.result c.next_place-at.ensures.from_there (omega arith) (c.next_place-at.ensures.other (omega arith)) all))
+returns-in-Err-clause-end c = (
+  λ e. absurd cc,
+  λ all. absurd (not_all_zeros c.args.bytes.now c.args.from c.next_place-at.result
+      c.next_place-at.ensures.from_there (omega arith) (c.next_place-at.ensures.other (omega arith)) all),
+)

@@ -11,9 +11,13 @@ returns-clause-module c =
     let bytes : c.push_crc.new.bytes.items ≡ made_module c.args.name.now c.args.header c.args.code.now = grind (arith, common_steps, append_assoc) in
     let kind_fits : c.args.header.kind < 256 = omega arith in
     let attr_fits : c.args.header.attr < 256 = omega arith in
-    subst IsModule (sym bytes) (made_module-is c.args.name.now c.args.header.kind c.args.header.attr c.args.header.entry c.args.header.storage c.args.code.now c.push_name.ensures.name c.requires.begins c.requires.short kind_fits attr_fits)
+    subst IsModule (sym bytes) (made_module-is c.args.name.now c.args.header.kind c.args.header.attr
+    c.args.header.entry c.args.header.storage c.args.code.now c.push_name.ensures.name c.requires.begins
+    c.requires.short kind_fits attr_fits)
 
 pub returns-clause-info : goal.returns-clause-info
 returns-clause-info c =
     let bytes : c.push_crc.new.bytes.items ≡ made_module c.args.name.now c.args.header c.args.code.now = grind (arith, common_steps, append_assoc) in
-    subst (λ b. info_at 0 b ≡ made_info c.args.name.now c.args.header c.args.code.now) (sym bytes) (made_info-is c.args.name.now c.args.header.kind c.args.header.attr c.args.header.entry c.args.header.storage c.args.code.now c.push_name.ensures.name)
+    subst (λ b. info_at 0 b ≡ made_info c.args.name.now c.args.header c.args.code.now) (sym bytes)
+    (made_info-is c.args.name.now c.args.header.kind c.args.header.attr c.args.header.entry c.args.header.storage
+    c.args.code.now c.push_name.ensures.name)

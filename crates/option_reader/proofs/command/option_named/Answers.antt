@@ -15,6 +15,8 @@ returns c =
     record {
       rule = others
           ∙ ap (λ p. record (rule_of c.action.result) { parser = p }) (parser.1 ∙ ap Some parser.2)
-          ∙ ap (λ (r : Rule). record r { parser = Some NonEmptyString }) (set ∙ ap (λ (r : Rule). record r { action = Some Set }) (long ∙ ap (λ (r : Rule). record r { long = Some name.now }) c.new.ensures.rule));
+          ∙ ap (λ (r : Rule). record r { parser = Some NonEmptyString })
+          (set ∙ ap (λ (r : Rule). record r { action = Some Set })
+          (long ∙ ap (λ (r : Rule). record r { long = Some name.now }) c.new.ensures.rule));
       local = ap (λ (a : Arg). a.global) c.value_parser.ensures.others ∙ ap (λ (a : Arg). a.global) c.action.ensures ∙ ap (λ (a : Arg). a.global) c.long.ensures ∙ c.new.ensures.optional.1;
     }

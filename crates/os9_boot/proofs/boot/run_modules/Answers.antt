@@ -12,19 +12,32 @@ use Rattle.os9_boot.proofs.boot.run_modules.Goals as goal
 
 pub returns-in-Err-clause-call : goal.returns-in-Err-clause-call
 returns-in-Err-clause-call g c =
-    stopped-call (RunCommand c.args.run.now) _ _ _ (λ input. tt) (c.in-Err.ensures.ended (outside (λ table. (g.dyn-1.0.entry table).1) c.args.devices.now.drives.items (λ table. (g.dyn-2.0.entry table).1) c.args.devices.now.terms.items))
+    stopped-call (RunCommand c.args.run.now) _ _ _ (λ input. tt)
+    (c.in-Err.ensures.ended (outside (λ table. (g.dyn-1.0.entry table).1) c.args.devices.now.drives.items
+    (λ table. (g.dyn-2.0.entry table).1) c.args.devices.now.terms.items))
 
 pub returns-in-Err-read_texts-clause-call : goal.returns-in-Err-read_texts-clause-call
 returns-in-Err-read_texts-clause-call g c =
     let devices = outside (λ table. (g.dyn-1.0.entry table).1) c.args.devices.now.drives.items (λ table. (g.dyn-2.0.entry table).1) c.args.devices.now.terms.items in
-    let count : c.len-terminals.result ≡ length (terminal_states (λ table. (g.dyn-2.0.entry table).1) c.args.devices.now.terms.items) = rw length-map (omega (arith, c.len-terminals.ensures, c.args.devices.now.terms.ok.0)) in
-    run-texts-refused _ c.args.run.now c.in-Ok.files c.in-Ok.ensures.contents _ (c.in-Ok.ensures.kept devices) c.len-terminals.result c.in-Err-read_texts.end count (rw (c.as_slice.ensures.value, c.as_slice-2.ensures.value) at c.in-Err-read_texts.ensures.refused)
+    let count : c.len-terminals.result ≡ length (terminal_states (λ table. (g.dyn-2.0.entry table).1)
+    c.args.devices.now.terms.items) = rw length-map
+    (omega (arith, c.len-terminals.ensures, c.args.devices.now.terms.ok.0)) in
+    run-texts-refused _ c.args.run.now c.in-Ok.files c.in-Ok.ensures.contents _ (c.in-Ok.ensures.kept devices)
+    c.len-terminals.result c.in-Err-read_texts.end count
+    (rw (c.as_slice.ensures.value, c.as_slice-2.ensures.value) at c.in-Err-read_texts.ensures.refused)
 
 pub returns-clause-call : goal.returns-clause-call
 returns-clause-call g c =
     let devices = outside (λ table. (g.dyn-1.0.entry table).1) c.args.devices.now.drives.items (λ table. (g.dyn-2.0.entry table).1) c.args.devices.now.terms.items in
-    let count : c.len-terminals.result ≡ length (terminal_states (λ table. (g.dyn-2.0.entry table).1) c.args.devices.now.terms.items) = rw length-map (omega (arith, c.len-terminals.ensures, c.args.devices.now.terms.ok.0)) in
-    rw c.end_of_run.ensures (run-ended _ c.args.run.now c.in-Ok.files c.in-Ok.ensures.contents c.in-Ok-read_texts.texts.keys.items c.in-Ok-read_texts.texts.slices.items (rw (c.as_slice.ensures.value, count) at c.in-Ok-read_texts.ensures.keys) (rw c.as_slice-2.ensures.value at c.in-Ok-read_texts.ensures.slices) _ _ c.run_images.result (runs-after _ _ _ _ _ _ (c.in-Ok.ensures.kept devices) (rw c.none-images.ensures at c.run_images.ensures.run)))
+    let count : c.len-terminals.result ≡ length (terminal_states (λ table. (g.dyn-2.0.entry table).1)
+    c.args.devices.now.terms.items) = rw length-map
+    (omega (arith, c.len-terminals.ensures, c.args.devices.now.terms.ok.0)) in
+    rw c.end_of_run.ensures (run-ended _ c.args.run.now c.in-Ok.files c.in-Ok.ensures.contents
+    c.in-Ok-read_texts.texts.keys.items c.in-Ok-read_texts.texts.slices.items
+    (rw (c.as_slice.ensures.value, count) at c.in-Ok-read_texts.ensures.keys) (rw c.as_slice-2.ensures.value at
+    c.in-Ok-read_texts.ensures.slices) _ _ c.run_images.result
+    (runs-after _ _ _ _ _ _ (c.in-Ok.ensures.kept devices) (rw c.none-images.ensures at
+    c.run_images.ensures.run)))
 
 pub returns-clause-drives : goal.returns-clause-drives
 returns-clause-drives g c = c.run_images.ensures.run.drives
@@ -37,7 +50,9 @@ returns-in-Err-clause-noted g c = names-stopped (RunCommand c.args.run.now) _ _ 
 pub returns-in-Err-read_texts-clause-noted : goal.returns-in-Err-read_texts-clause-noted
 returns-in-Err-read_texts-clause-noted g c =
     let refused = c.in-Err-read_texts.ensures.refused in
-    names-read (RunCommand c.args.run.now) c.in-Err-read_texts.end _ _ (behind-texts c.len-terminals.result c.as_slice.result.now c.as_slice-2.result.now c.in-Err-read_texts.end refused) c.in-Ok.ensures.noted _ refl refl
+    names-read (RunCommand c.args.run.now) c.in-Err-read_texts.end _ _ (behind-texts c.len-terminals.result
+    c.as_slice.result.now c.as_slice-2.result.now c.in-Err-read_texts.end refused) c.in-Ok.ensures.noted _ refl
+    refl
 
 pub returns-clause-noted : goal.returns-clause-noted
 returns-clause-noted g c =

@@ -17,11 +17,15 @@ returns-clause-call g c devices = out-of-memory (CheckCommand c.args.image.now) 
 
 pub returns-in-Err-Fault-clause-call : goal.returns-in-Err-Fault-clause-call
 returns-in-Err-Fault-clause-call g c devices =
-    image-faulted _ _ c.args.image.now c.in-Ok.bytes.items c.in-Ok.ensures.contents c.in-Err-Fault.fault (subst (λ image. IsFault image c.in-Err-Fault.fault.rule c.in-Err-Fault.fault.lsn) c.as_slice.ensures.value (rw c.in-Err-Fault.field-0-is at c.in-Err-Fault.ensures.fault)) (c.in-Ok.ensures.kept devices)
+    image-faulted _ _ c.args.image.now c.in-Ok.bytes.items c.in-Ok.ensures.contents c.in-Err-Fault.fault
+    (subst (λ image. IsFault image c.in-Err-Fault.fault.rule c.in-Err-Fault.fault.lsn) c.as_slice.ensures.value
+    (rw c.in-Err-Fault.field-0-is at c.in-Err-Fault.ensures.fault)) (c.in-Ok.ensures.kept devices)
 
 pub returns-in-Ok-check-clause-call : goal.returns-in-Ok-check-clause-call
 returns-in-Ok-check-clause-call g c devices =
-    counts-printed _ _ c.args.image.now c.in-Ok.bytes.items c.in-Ok.ensures.contents c.in-Ok-check.tree (subst (λ image. IsTreeOf image c.in-Ok-check.tree) c.as_slice.ensures.value c.in-Ok-check.ensures.tree) _ (printed-after _ _ _ _ _ (c.in-Ok.ensures.kept devices) (c.print_counts.ensures.call devices))
+    counts-printed _ _ c.args.image.now c.in-Ok.bytes.items c.in-Ok.ensures.contents c.in-Ok-check.tree
+    (subst (λ image. IsTreeOf image c.in-Ok-check.tree) c.as_slice.ensures.value c.in-Ok-check.ensures.tree) _
+    (printed-after _ _ _ _ _ (c.in-Ok.ensures.kept devices) (c.print_counts.ensures.call devices))
 
 -- ---- the names
 
@@ -39,4 +43,6 @@ returns-in-Err-Fault-clause-noted g c =
 
 pub returns-in-Ok-check-clause-noted : goal.returns-in-Ok-check-clause-noted
 returns-in-Ok-check-clause-noted g c =
-    names-read (CheckCommand c.args.image.now) c.print_counts.result _ _ (behind-print _ _ _ _ (c.print_counts.ensures.call (record { drives = []; terms = [] }))) c.in-Ok.ensures.noted _ refl c.print_counts.ensures.notes_kept
+    names-read (CheckCommand c.args.image.now) c.print_counts.result _ _
+    (behind-print _ _ _ _ (c.print_counts.ensures.call (record { drives = []; terms = [] })))
+    c.in-Ok.ensures.noted _ refl c.print_counts.ensures.notes_kept

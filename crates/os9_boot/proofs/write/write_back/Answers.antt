@@ -8,7 +8,8 @@ returns-in-Ok-clause-ended g c devices =
 
 pub returns-in-Err-Image-clause-ended : goal.returns-in-Err-Image-clause-ended
 returns-in-Err-Image-clause-ended g c devices =
-    rw c.in-Err-Image.number-is (image-unwritten c.args.names.now c.args.images.now c.args.end c.in-Err-Image.number _ _ c.in-Ended.is (rw c.in-Err-Image.field-0-is at (c.in-Err-Image.ensures.wrote devices)))
+    rw c.in-Err-Image.number-is (image-unwritten c.args.names.now c.args.images.now c.args.end c.in-Err-Image.number _
+    _ c.in-Ended.is (rw c.in-Err-Image.field-0-is at (c.in-Err-Image.ensures.wrote devices)))
 
 pub returns-in-Err-OutOfMemory-clause-ended : goal.returns-in-Err-OutOfMemory-clause-ended
 returns-in-Err-OutOfMemory-clause-ended g c devices =

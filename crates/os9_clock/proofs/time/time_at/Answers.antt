@@ -29,4 +29,6 @@ returns c =
     let fits : FitsSigned w64 (pos c.args.seconds) = omega (arith, signed_arith) in
     let nanos : signed_nanos c.from_secs.result ≡ pos c.args.seconds *ℤ pos 1_000_000_000 = simp to_z-of_z at (rw c.from.ensures at c.from_secs.ensures) in
     let sum : civil_nanos c.unwrap-later.result ≡ civil_nanos c.civil_time.result +ℤ signed_nanos c.from_secs.result = rw c.unwrap-later.ensures at c.checked_add.ensures.value in
-    after-is c.args.base c.args.seconds c.civil_time.result c.unwrap-later.result c.packet_of.result c.civil_time.ensures.date c.civil_time.ensures.time (sum ∙ ap (λ n. civil_nanos c.civil_time.result +ℤ n) nanos) c.packet_of.ensures
+    after-is c.args.base c.args.seconds c.civil_time.result c.unwrap-later.result c.packet_of.result
+    c.civil_time.ensures.date c.civil_time.ensures.time (sum ∙ ap (λ n. civil_nanos c.civil_time.result +ℤ n)
+    nanos) c.packet_of.ensures

@@ -17,17 +17,23 @@ returns-in_err-script-clause-ended g c =
 pub returns-in_err-slices-clause-ended : goal.returns-in_err-slices-clause-ended
 returns-in_err-slices-clause-ended g c =
     let gave = err_from_is_err_and c.from_residual-in_err-slices.result c.from_residual-in_err-slices.ensures.1 in
-    rw (gave.1, gave.2) (λ devices. stops-after (debug_file_name c.args.debug.now) _ _ _ _ (c.in_ok-script.ensures.kept devices) (c.in_err-slices.ensures.ended devices (debug_file_name c.args.debug.now) refl))
+    rw (gave.1, gave.2) (λ devices. stops-after (debug_file_name c.args.debug.now) _ _ _ _
+    (c.in_ok-script.ensures.kept devices) (c.in_err-slices.ensures.ended devices
+    (debug_file_name c.args.debug.now) refl))
 
 pub returns-in_err-commands-clause-ended : goal.returns-in_err-commands-clause-ended
 returns-in_err-commands-clause-ended g c =
     let gave = err_from_is_err_and c.from_residual-in_err-commands.result c.from_residual-in_err-commands.ensures.1 in
-    rw (gave.1, gave.2) (λ devices. stops-after (debug_file_name c.args.debug.now) _ _ _ _ (c.in_ok-slices.ensures.kept devices ∙ c.in_ok-script.ensures.kept devices) (c.in_err-commands.ensures.ended devices (debug_file_name c.args.debug.now) refl))
+    rw (gave.1, gave.2) (λ devices. stops-after (debug_file_name c.args.debug.now) _ _ _ _
+    (c.in_ok-slices.ensures.kept devices ∙ c.in_ok-script.ensures.kept devices) (c.in_err-commands.ensures.ended
+    devices (debug_file_name c.args.debug.now) refl))
 
 pub returns-in_err-modules-clause-ended : goal.returns-in_err-modules-clause-ended
 returns-in_err-modules-clause-ended g c =
     let gave = err_from_is_err_and c.from_residual-in_err-modules.result c.from_residual-in_err-modules.ensures.1 in
-    rw (gave.1, gave.2) (λ devices. stops-after (debug_file_name c.args.debug.now) _ _ _ _ (c.in_ok-commands.ensures.kept devices ∙ c.in_ok-slices.ensures.kept devices ∙ c.in_ok-script.ensures.kept devices) (c.in_err-modules.ensures.ended devices (debug_file_name c.args.debug.now) c.word.ensures))
+    rw (gave.1, gave.2) (λ devices. stops-after (debug_file_name c.args.debug.now) _ _ _ _
+    (c.in_ok-commands.ensures.kept devices ∙ c.in_ok-slices.ensures.kept devices ∙ c.in_ok-script.ensures.kept
+    devices) (c.in_err-modules.ensures.ended devices (debug_file_name c.args.debug.now) c.word.ensures))
 
 pub returns-clause-contents : goal.returns-clause-contents
 returns-clause-contents g c =
@@ -51,21 +57,27 @@ returns-in_err-script-clause-stopped g c =
     let debug = c.args.debug.now in
     let run = debug.run in
     let gave = err_from_is_err_and c.from_residual.result c.from_residual.ensures.1 in
-    rw (gave.1, gave.2) (stop-before (debug_file_name debug) _ _ (script_names run) (run.slices ∷ debug.commands ∷ run.files) _ (notes-so debug (script_names run) _ _ _ c.in_err-script.ensures.stopped))
+    rw (gave.1, gave.2) (stop-before (debug_file_name debug) _ _ (script_names run) (run.slices ∷ debug.commands ∷
+    run.files) _ (notes-so debug (script_names run) _ _ _ c.in_err-script.ensures.stopped))
 
 pub returns-in_err-slices-clause-stopped : goal.returns-in_err-slices-clause-stopped
 returns-in_err-slices-clause-stopped g c =
     let debug = c.args.debug.now in
     let run = debug.run in
     let gave = err_from_is_err_and c.from_residual-in_err-slices.result c.from_residual-in_err-slices.ensures.1 in
-    rw (gave.1, gave.2) (stop-behind (debug_file_name debug) _ _ _ (script_names run) (run.slices ∷ debug.commands ∷ run.files) _ c.in_ok-script.ensures.noted (stop-before (debug_file_name debug) _ _ (run.slices ∷ []) (debug.commands ∷ run.files) _ (c.in_err-slices.ensures.stopped (debug_file_name debug) refl)))
+    rw (gave.1, gave.2) (stop-behind (debug_file_name debug) _ _ _ (script_names run) (run.slices ∷ debug.commands ∷
+    run.files) _ c.in_ok-script.ensures.noted (stop-before (debug_file_name debug) _ _ (run.slices ∷ [])
+    (debug.commands ∷ run.files) _ (c.in_err-slices.ensures.stopped (debug_file_name debug) refl)))
 
 pub returns-in_err-commands-clause-stopped : goal.returns-in_err-commands-clause-stopped
 returns-in_err-commands-clause-stopped g c =
     let debug = c.args.debug.now in
     let run = debug.run in
     let gave = err_from_is_err_and c.from_residual-in_err-commands.result c.from_residual-in_err-commands.ensures.1 in
-    rw (gave.1, gave.2) (stop-behind (debug_file_name debug) _ _ _ (script_names run) (run.slices ∷ debug.commands ∷ run.files) _ c.in_ok-script.ensures.noted (stop-behind (debug_file_name debug) _ _ _ (run.slices ∷ []) (debug.commands ∷ run.files) _ c.in_ok-slices.ensures.noted (stop-before (debug_file_name debug) _ _ (debug.commands ∷ []) run.files _ (c.in_err-commands.ensures.stopped (debug_file_name debug) refl))))
+    rw (gave.1, gave.2) (stop-behind (debug_file_name debug) _ _ _ (script_names run) (run.slices ∷ debug.commands ∷
+    run.files) _ c.in_ok-script.ensures.noted (stop-behind (debug_file_name debug) _ _ _ (run.slices ∷ [])
+    (debug.commands ∷ run.files) _ c.in_ok-slices.ensures.noted (stop-before (debug_file_name debug) _ _
+    (debug.commands ∷ []) run.files _ (c.in_err-commands.ensures.stopped (debug_file_name debug) refl))))
 
 pub returns-in_err-modules-clause-stopped : goal.returns-in_err-modules-clause-stopped
 returns-in_err-modules-clause-stopped g c =
@@ -73,11 +85,18 @@ returns-in_err-modules-clause-stopped g c =
     let run = debug.run in
     let only = only-one run.files c.word.result.now c.requires c.word.ensures in
     let gave = err_from_is_err_and c.from_residual-in_err-modules.result c.from_residual-in_err-modules.ensures.1 in
-    rw (gave.1, gave.2) (stop-behind (debug_file_name debug) _ _ _ (script_names run) (run.slices ∷ debug.commands ∷ run.files) _ c.in_ok-script.ensures.noted (stop-behind (debug_file_name debug) _ _ _ (run.slices ∷ []) (debug.commands ∷ run.files) _ c.in_ok-slices.ensures.noted (stop-behind (debug_file_name debug) _ _ _ (debug.commands ∷ []) run.files _ c.in_ok-commands.ensures.noted (stop-only (debug_file_name debug) run.files c.word.result.now only _ _ _ (c.in_err-modules.ensures.stopped (debug_file_name debug) c.word.ensures)))))
+    rw (gave.1, gave.2) (stop-behind (debug_file_name debug) _ _ _ (script_names run) (run.slices ∷ debug.commands ∷
+    run.files) _ c.in_ok-script.ensures.noted (stop-behind (debug_file_name debug) _ _ _ (run.slices ∷ [])
+    (debug.commands ∷ run.files) _ c.in_ok-slices.ensures.noted (stop-behind (debug_file_name debug) _ _ _
+    (debug.commands ∷ []) run.files _ c.in_ok-commands.ensures.noted (stop-only (debug_file_name debug) run.files
+    c.word.result.now only _ _ _ (c.in_err-modules.ensures.stopped (debug_file_name debug) c.word.ensures)))))
 
 pub returns-clause-noted : goal.returns-clause-noted
 returns-clause-noted g c =
     let debug = c.args.debug.now in
     let run = debug.run in
     let only = only-one run.files c.word.result.now c.requires c.word.ensures in
-    read-then (script_names run) (run.slices ∷ debug.commands ∷ run.files) _ _ _ c.in_ok-script.ensures.noted (read-then (run.slices ∷ []) (debug.commands ∷ run.files) _ _ _ c.in_ok-slices.ensures.noted (read-then (debug.commands ∷ []) run.files _ _ _ c.in_ok-commands.ensures.noted (read-only (debug_file_name debug) run.files c.word.result.now only _ _ c.in_ok-modules.ensures.noted)))
+    read-then (script_names run) (run.slices ∷ debug.commands ∷ run.files) _ _ _ c.in_ok-script.ensures.noted
+    (read-then (run.slices ∷ []) (debug.commands ∷ run.files) _ _ _ c.in_ok-slices.ensures.noted
+    (read-then (debug.commands ∷ []) run.files _ _ _ c.in_ok-commands.ensures.noted
+    (read-only (debug_file_name debug) run.files c.word.result.now only _ _ c.in_ok-modules.ensures.noted)))

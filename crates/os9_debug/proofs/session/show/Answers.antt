@@ -10,7 +10,9 @@ use Rattle.os9_debug.proofs.session.show.Goals as goal
 pub returns-clause-session : goal.returns-clause-session
 returns-clause-session g c =
     let before = world_of g.H.Host c.args.host.now (outside (λ table. (g.dyn-1.0.entry table).1) c.args.devices.now.drives.items (λ table. (g.dyn-2.0.entry table).1) c.args.devices.now.terms.items) in
-    let mid = world_of g.H.Host c.debug-answer.new.host (outside (λ table. (g.dyn-1.0.entry table).1) c.debug-answer.new.devices.drives.items (λ table. (g.dyn-2.0.entry table).1) c.debug-answer.new.devices.terms.items) in
+    let mid = world_of g.H.Host c.debug-answer.new.host (outside (λ table. (g.dyn-1.0.entry table).1)
+    c.debug-answer.new.devices.drives.items (λ table. (g.dyn-2.0.entry table).1)
+    c.debug-answer.new.devices.terms.items) in
     let left = outside (λ table. (g.dyn-1.0.entry table).1) c.eject_images.new.devices.drives.items (λ table. (g.dyn-2.0.entry table).1) c.eject_images.new.devices.terms.items in
     let terms = ap (λ terms. terminal_states (λ table. (g.dyn-2.0.entry table).1) terms.items) c.eject_images.ensures.terms_kept in
     record {
@@ -22,5 +24,7 @@ returns-clause-session g c =
 pub returns-clause-drives : goal.returns-clause-drives
 returns-clause-drives g c =
     let view = boxed_drive_view (λ table. (g.dyn-1.0.entry table).1) in
-    let items : length c.debug-answer.new.devices.drives.items ≡ length c.args.devices.now.drives.items = omega (arith, c.debug-answer.ensures.drives, c.debug-answer.new.devices.drives.ok.0, c.args.devices.now.drives.ok.0) in
+    let items : length c.debug-answer.new.devices.drives.items ≡ length c.args.devices.now.drives.items = omega
+    (arith, c.debug-answer.ensures.drives, c.debug-answer.new.devices.drives.ok.0, c.args.devices.now.drives.ok.0)
+    in
     empty-again _ _ _ (length-map c.debug-answer.new.devices.drives.items view ∙ items ∙ sym (length-map c.args.devices.now.drives.items view)) c.eject_images.ensures.taken.left

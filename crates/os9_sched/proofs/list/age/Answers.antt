@@ -10,4 +10,6 @@ returns c =
     let d : Turn = record { process = record { 0 = 0 }; age = 0 } in
     ext_get_or d c.loop-turn.order (map (aged (is_active_in c.args.members.now) (priority_in c.args.members.now)) c.args.order.now)
     (omega (arith, length-map c.args.order.now (aged (is_active_in c.args.members.now) (priority_in c.args.members.now)), c.loop-turn.auto.order))
-    (λ k h. c.loop-turn.invariant.done k d (omega (arith, c.loop-turn.auto.order)) ∙ sym (get_or-map (aged (is_active_in c.args.members.now) (priority_in c.args.members.now)) c.args.order.now k d d (omega (arith, c.loop-turn.auto.order))))
+    (λ k h. c.loop-turn.invariant.done k d (omega (arith, c.loop-turn.auto.order)) ∙ sym
+    (get_or-map (aged (is_active_in c.args.members.now) (priority_in c.args.members.now)) c.args.order.now k d d
+    (omega (arith, c.loop-turn.auto.order))))

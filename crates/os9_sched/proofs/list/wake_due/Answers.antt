@@ -7,4 +7,6 @@ pub returns : goal.returns
 returns c =
     ext_get_or None c.loop-place.members (map (option_map (woken_at c.args.tick)) c.args.members.now)
     (omega (arith, length-map c.args.members.now (option_map (woken_at c.args.tick)), c.loop-place.auto.members))
-    (λ k h. c.loop-place.invariant.done k (omega (arith, c.loop-place.auto.members)) ∙ sym (get_or-map (option_map (woken_at c.args.tick)) c.args.members.now k None None (omega (arith, c.loop-place.auto.members))))
+    (λ k h. c.loop-place.invariant.done k (omega (arith, c.loop-place.auto.members)) ∙ sym
+    (get_or-map (option_map (woken_at c.args.tick)) c.args.members.now k None None
+    (omega (arith, c.loop-place.auto.members))))

@@ -21,7 +21,10 @@ other command words not_run not_boot not_check not_stress not_vol not_asm not_de
 no_command : (words : List (String Global)) (command : String Global) → 1 ≤ length words → command ≡ get_or words 0 command → string_bytes command ≢ codes "run" → string_bytes command ≢ codes "boot" → string_bytes command ≢ codes "check" → string_bytes command ≢ codes "stress" → string_bytes command ≢ codes "vol" → string_bytes command ≢ codes "asm" → string_bytes command ≢ codes "debug" → command_of (map string_bytes words) ≡ None
 no_command [] command some is not_run not_boot not_check not_stress not_vol not_asm not_debug = absurd (omega (arith, some))
 no_command (word ∷ words) command some is not_run not_boot not_check not_stress not_vol not_asm not_debug =
-    other (string_bytes word) (map string_bytes words) (λ e. not_run (ap string_bytes is ∙ e)) (λ e. not_boot (ap string_bytes is ∙ e)) (λ e. not_check (ap string_bytes is ∙ e)) (λ e. not_stress (ap string_bytes is ∙ e)) (λ e. not_vol (ap string_bytes is ∙ e)) (λ e. not_asm (ap string_bytes is ∙ e)) (λ e. not_debug (ap string_bytes is ∙ e))
+    other (string_bytes word) (map string_bytes words) (λ e. not_run (ap string_bytes is ∙ e))
+    (λ e. not_boot (ap string_bytes is ∙ e)) (λ e. not_check (ap string_bytes is ∙ e))
+    (λ e. not_stress (ap string_bytes is ∙ e)) (λ e. not_vol (ap string_bytes is ∙ e))
+    (λ e. not_asm (ap string_bytes is ∙ e)) (λ e. not_debug (ap string_bytes is ∙ e))
 
 pub returns-in_default-as_str-clause-refused : goal.returns-in_default-as_str-clause-refused
 returns-in_default-as_str-clause-refused c =

@@ -4,4 +4,15 @@ use Rattle.os9_words.proofs.stress_counts.put_stress_counts.Goals as goal
 
 pub returns : goal.returns
 returns g c =
-    simp append_assoc (simp (c.as_bytes.ensures.value, c.as_bytes-2.ensures.value, c.as_bytes-3.ensures.value, c.as_bytes-4.ensures.value, c.as_bytes-5.ensures.value, c.format.ensures.text, c.format-2.ensures.text, c.format-3.ensures.text, c.format-4.ensures.text, c.format-5.ensures.text) at c.put_pieces.ensures)
+    simp append_assoc (simp (
+      c.as_bytes.ensures.value,
+      c.as_bytes-2.ensures.value,
+      c.as_bytes-3.ensures.value,
+      c.as_bytes-4.ensures.value,
+      c.as_bytes-5.ensures.value,
+      c.format.ensures.text,
+      c.format-2.ensures.text,
+      c.format-3.ensures.text,
+      c.format-4.ensures.text,
+      c.format-5.ensures.text,
+    ) at c.put_pieces.ensures)

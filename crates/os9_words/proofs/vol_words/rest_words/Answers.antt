@@ -10,6 +10,7 @@ pub returns : goal.returns
 returns c =
     let within : c.loop-place.place ≤ c.args.count = c.loop-place.auto.place-end c.requires.least in
     elim c.loop-place-test.branch [
-      | else-loop-place-test w ↦ let same : c.loop-place.place ≡ c.args.count = omega (arith, within) in c.of.ensures ∙ c.loop-place.invariant.copied ∙ ap (λ (n : ℕ). drop 2 (take n c.args.given.now.arguments)) same
+      | else-loop-place-test w ↦ let same : c.loop-place.place ≡ c.args.count = omega (arith, within) in c.of.ensures
+          ∙ c.loop-place.invariant.copied ∙ ap (λ (n : ℕ). drop 2 (take n c.args.given.now.arguments)) same
       | then-loop-place-test+in-None w ↦ c.of.ensures ∙ c.loop-place.invariant.copied ∙ rest-all c.args.given.now.arguments c.loop-place.place c.args.count (sym w.in-None.ensures) within
     ]

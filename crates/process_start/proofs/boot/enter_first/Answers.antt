@@ -23,5 +23,6 @@ returns-clause-entered c = λ blocks tied.
 pub returns-clause-booting : goal.returns-clause-booting
 returns-clause-booting c =
     let (blocks, least, tied) = c.requires.empty in
-    let begins = begins-boot c.args.memory.now c.enter.new.self c.args.boot.now c.args.info c.requires.short c.requires.empty c.enter.result c.enter.ensures.enters c.in-Ok.id.0 blocks tied c.in-Ok.ensures.number in
+    let begins = begins-boot c.args.memory.now c.enter.new.self c.args.boot.now c.args.info c.requires.short
+    c.requires.empty c.enter.result c.enter.ensures.enters c.in-Ok.id.0 blocks tied c.in-Ok.ensures.number in
     (with_boot_module c.args.boot.now (boot_memory c.args.boot.now blocks no_entries) c.args.info, begins.represents, begins.has)

@@ -24,7 +24,8 @@ pub returns-in-Ok-clause-accepted : goal.returns-in-Ok-clause-accepted
 returns-in-Ok-clause-accepted c = λ fault refuses.
     let found = c.in_ok-first.ensures.found c.args.blocks c.in_ok-processes.ensures in
     let memory = boot_memory c.args.boot.now c.args.blocks found.entries in
-    let (m, starts, stands) = starts-so c.args.boot.now c.args.blocks c.in_ok-first.first.0 c.load_boot.new.processes c.begin.new.processes found (c.in-Ok.ensures.begun memory found.entry found.represents found.has.is) in
+    let (m, starts, stands) = starts-so c.args.boot.now c.args.blocks c.in_ok-first.first.0 c.load_boot.new.processes
+    c.begin.new.processes found (c.in-Ok.ensures.begun memory found.entry found.represents found.has.is) in
     never-both c.args.boot.now c.args.blocks m fault starts refuses
 
 pub returns-in-Ok-clause-count : goal.returns-in-Ok-clause-count
@@ -37,4 +38,5 @@ pub returns-in-Err-clause-refused : goal.returns-in-Err-clause-refused
 returns-in-Err-clause-refused c = λ _.
     let found = c.in_ok-first.ensures.found c.args.blocks c.in_ok-processes.ensures in
     let memory = boot_memory c.args.boot.now c.args.blocks found.entries in
-    refuses-so c.args.boot.now c.args.blocks c.in_ok-first.first.0 c.load_boot.new.processes c.begin.new.processes found c.in-Err.field-0 (c.in-Err.ensures.begun memory found.entry found.represents found.has.is)
+    refuses-so c.args.boot.now c.args.blocks c.in_ok-first.first.0 c.load_boot.new.processes c.begin.new.processes
+    found c.in-Err.field-0 (c.in-Err.ensures.begun memory found.entry found.represents found.has.is)

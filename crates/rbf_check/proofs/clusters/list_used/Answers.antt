@@ -20,11 +20,13 @@ files_of c =
 
 pub note_file-requires-clause-file : goal.note_file-requires-clause-file
 note_file-requires-clause-file c =
-    file_on c.args.survey.now.image c.deref-file-items.result.now c.loop-file.file-index c.file-item.result (files_of (goal.at.note_file-requires-clause-file c).In-loop-file).read (omega arith) c.file-item.is
+    file_on c.args.survey.now.image c.deref-file-items.result.now c.loop-file.file-index c.file-item.result
+    (files_of (goal.at.note_file-requires-clause-file c).In-loop-file).read (omega arith) c.file-item.is
 
 pub note_file-requires-clause-reached : goal.note_file-requires-clause-reached
 note_file-requires-clause-reached c =
-    file_reached c.args.survey.now.image c.deref-file-items.result.now c.loop-file.file-index c.file-item.result (files_of (goal.at.note_file-requires-clause-reached c).In-loop-file) (omega arith) c.file-item.is
+    file_reached c.args.survey.now.image c.deref-file-items.result.now c.loop-file.file-index c.file-item.result
+    (files_of (goal.at.note_file-requires-clause-reached c).In-loop-file) (omega arith) c.file-item.is
 
 pub loop-file-preserved : goal.loop-file-preserved
 loop-file-preserved c =

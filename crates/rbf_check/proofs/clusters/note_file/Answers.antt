@@ -21,4 +21,8 @@ note_segments-requires-clause-within c k d low =
 
 pub returns : goal.returns
 returns c =
-    notes_owner (geometry_of c.args.survey.now.image.ident) (sector c.args.survey.now.image.bytes.now) c.args.file.now.number c.from-cluster.result c.system_count.result c.args.file.now.fd.segs c.args.used.now.items c.note_sectors.new.used.items c.note_sectors-2.new.used.items c.note_segments.new.used.items (omega arith) c.system_count.ensures.count c.requires.file.fd.segs c.note_sectors.ensures c.note_sectors-2.ensures c.note_segments.ensures
+    notes_owner (geometry_of c.args.survey.now.image.ident) (sector c.args.survey.now.image.bytes.now)
+    c.args.file.now.number c.from-cluster.result c.system_count.result c.args.file.now.fd.segs
+    c.args.used.now.items c.note_sectors.new.used.items c.note_sectors-2.new.used.items
+    c.note_segments.new.used.items (omega arith) c.system_count.ensures.count c.requires.file.fd.segs
+    c.note_sectors.ensures c.note_sectors-2.ensures c.note_segments.ensures

@@ -19,7 +19,12 @@ without_dots-requires-clause-after c =
 
 pub loop-file-preserved : goal.loop-file-preserved
 loop-file-preserved c =
-    least_next (λ k. IsWithoutDots (disk_of (geometry_of c.args.image.now.ident) (sector c.args.image.now.bytes.now)) (get_or (found_numbers c.args.files.now) k 0)) c.loop-file.file-index c.loop-file.least c.without_dots.result c.least_of-least.result c.loop-file.invariant (at_number (λ n. IsLeast (IsWithoutDots (disk_of (geometry_of c.args.image.now.ident) (sector c.args.image.now.bytes.now)) n) c.without_dots.result) c.args.files.now c.loop-file.file-index c.file-item.result (omega arith) c.file-item.is c.without_dots.ensures) c.least_of-least.ensures
+    least_next (λ k. IsWithoutDots (disk_of (geometry_of c.args.image.now.ident) (sector c.args.image.now.bytes.now))
+    (get_or (found_numbers c.args.files.now) k 0)) c.loop-file.file-index c.loop-file.least c.without_dots.result
+    c.least_of-least.result c.loop-file.invariant
+    (at_number (λ n. IsLeast (IsWithoutDots (disk_of (geometry_of c.args.image.now.ident)
+    (sector c.args.image.now.bytes.now)) n) c.without_dots.result) c.args.files.now c.loop-file.file-index
+    c.file-item.result (omega arith) c.file-item.is c.without_dots.ensures) c.least_of-least.ensures
 
 pub returns-clause-decided : goal.returns-clause-decided
 returns-clause-decided c =
@@ -27,4 +32,6 @@ returns-clause-decided c =
 
 pub returns-clause-least : goal.returns-clause-least
 returns-clause-least c =
-    least_without (geometry_of c.args.image.now.ident) (sector c.args.image.now.bytes.now) (found_numbers c.args.files.now) c.loop-file.file-index c.loop-file.least c.requires.files.found (omega (arith, as_many c.args.files.now)) c.loop-file.invariant
+    least_without (geometry_of c.args.image.now.ident) (sector c.args.image.now.bytes.now)
+    (found_numbers c.args.files.now) c.loop-file.file-index c.loop-file.least c.requires.files.found
+    (omega (arith, as_many c.args.files.now)) c.loop-file.invariant

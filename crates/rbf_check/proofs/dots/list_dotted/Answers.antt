@@ -20,7 +20,9 @@ loop-link-init c =
     let P : ℕ → Type 0 = λ n. MatchBool answer (BeginsWithDots (listed c.args.image.now n) n root) (BeginsWithDots (listed c.args.image.now n) n root → ⊥) in
     let said = subst P (c.directory_of-root.ensures.number ∙ c.read_file.ensures.number) c.begins_with_dots.ensures in
     let Dots = BeginsWithDots (listed c.args.image.now root) root root in
-    dotted_root g disk c.args.links.now none _ answer (header_of c.args.image.now).root_below size (nothing_marked c.args.image.now.ident.total none filled) refl (λ e. answer_true answer Dots (Dots → ⊥) said e) (λ d. answer_must answer Dots said d)
+    dotted_root g disk c.args.links.now none _ answer (header_of c.args.image.now).root_below size
+    (nothing_marked c.args.image.now.ident.total none filled) refl (λ e. answer_true answer Dots (Dots → ⊥) said
+    e) (λ d. answer_must answer Dots said d)
 
 pub mark_dots-requires-clause-number : goal.mark_dots-requires-clause-number
 mark_dots-requires-clause-number c =
@@ -28,7 +30,9 @@ mark_dots-requires-clause-number c =
 
 pub loop-link-preserved : goal.loop-link-preserved
 loop-link-preserved c =
-    dotted_more (geometry_of c.args.image.now.ident) (sector c.args.image.now.bytes.now) c.args.links.now c.loop-link.dotted.items c.mark_dots.new.dotted.items c.loop-link.link-index c.requires (omega arith) c.loop-link.invariant c.mark_dots.ensures
+    dotted_more (geometry_of c.args.image.now.ident) (sector c.args.image.now.bytes.now) c.args.links.now
+    c.loop-link.dotted.items c.mark_dots.new.dotted.items c.loop-link.link-index c.requires (omega arith)
+    c.loop-link.invariant c.mark_dots.ensures
 
 pub returns : goal.returns
 returns c =

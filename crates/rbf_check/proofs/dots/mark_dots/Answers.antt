@@ -12,4 +12,7 @@ returns c =
     let answer = c.begins_with_dots.result in
     let P : ℕ → Type 0 = λ n. MatchBool answer (BeginsWithDots (listed image n) n link.directory) (BeginsWithDots (listed image n) n link.directory → ⊥) in
     let Dots = BeginsWithDots (listed image link.descriptor) link.descriptor link.directory in
-    marks_one (listed image link.descriptor) image.ident.root link c.args.dotted.now.items (omega arith) c.if-link-image.false (answer_true answer Dots (Dots → ⊥) (subst P (c.directory_of-dir.ensures.number ∙ c.read_file.ensures.number) c.begins_with_dots.ensures) c.if-not-begins_with_dots.false)
+    marks_one (listed image link.descriptor) image.ident.root link c.args.dotted.now.items (omega arith)
+    c.if-link-image.false (answer_true answer Dots (Dots → ⊥)
+    (subst P (c.directory_of-dir.ensures.number ∙ c.read_file.ensures.number) c.begins_with_dots.ensures)
+    c.if-not-begins_with_dots.false)

@@ -14,8 +14,11 @@ loop-i-preserved c =
     let short = c.len-i-end.ensures.name.short in
     let low : c.loop-i.i < 29 = omega (arith, short) in
     let at : c.from.result ≡ c.loop-i.i = omega arith in
-    let is = c.lower.ensures ∙ ap lower (sym (get_or_from_slice_get name c.loop-i.i c.byte.result 0 c.byte.ensures)) in
-    (size_more name c.loop-i.key c.loop-i.i c.from.result c.lower.result before.0 before.1 before.2 at low is, same_more name c.loop-i.key c.loop-i.i c.from.result c.lower.result before.0 before.1 before.2 at low is, behind_more name c.loop-i.key c.loop-i.i c.from.result c.lower.result before.0 before.1 before.2 at low is)
+    let is = c.lower.ensures ∙ ap lower (sym (get_or_from_slice_get name c.loop-i.i c.byte.result 0 c.byte.ensures)) in (
+      size_more name c.loop-i.key c.loop-i.i c.from.result c.lower.result before.0 before.1 before.2 at low is,
+      same_more name c.loop-i.key c.loop-i.i c.from.result c.lower.result before.0 before.1 before.2 at low is,
+      behind_more name c.loop-i.key c.loop-i.i c.from.result c.lower.result before.0 before.1 before.2 at low is,
+    )
 
 pub returns : goal.returns
 returns c =

@@ -16,7 +16,9 @@ returns c =
     let all : c.loop-k.k ≡ length links = omega arith in
     let P : ℕ → Type 0 = λ k. AreFirsts links c.loop-k.firsts.items k in
     let Q : ℕ → Type 0 = λ k. IsLeast (Before (IsNamedAgain links root) k) c.loop-k.least in
-    least_again (geometry_of c.args.image.now.ident) (sector c.args.image.now.bytes.now) (header_of c.args.image.now) links c.requires c.loop-k.firsts.items (subst P all c.loop-k.invariant.1) c.loop-k.least (subst Q all c.loop-k.invariant.2)
+    least_again (geometry_of c.args.image.now.ident) (sector c.args.image.now.bytes.now) (header_of c.args.image.now)
+    links c.requires c.loop-k.firsts.items (subst P all c.loop-k.invariant.1) c.loop-k.least
+    (subst Q all c.loop-k.invariant.2)
 
 pub loop-k-init : goal.loop-k-init
 loop-k-init c =
@@ -34,5 +36,6 @@ loop-k-preserved c =
     let again = c.named_again.ensures in (
       again.size ∙ c.loop-k.invariant.0,
       again.firsts,
-      least_next (IsNamedAgain c.args.links.now c.args.image.now.ident.root) c.loop-k.k c.loop-k.least c.named_again.result c.least_of-least.result c.loop-k.invariant.2 again.again c.least_of-least.ensures,
+      least_next (IsNamedAgain c.args.links.now c.args.image.now.ident.root) c.loop-k.k c.loop-k.least
+          c.named_again.result c.least_of-least.result c.loop-k.invariant.2 again.again c.least_of-least.ensures,
     )

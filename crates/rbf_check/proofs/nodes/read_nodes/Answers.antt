@@ -28,7 +28,9 @@ loop-n-preserved c =
     elim c.match-place_of.branch [
       | in-Some+in_ok-read_node+in_ok-push w ↦
           let node = w.in_ok-read_node in
-          let tells = node_tells survey n w.in-Some.place.parent w.in-Some.place.name node.field-0 w.in-Some.ensures.file w.in-Some.ensures.place node.ensures.number node.ensures.parent node.ensures.name node.ensures.tells in
+          let tells = node_tells survey n w.in-Some.place.parent w.in-Some.place.name node.field-0
+          w.in-Some.ensures.file w.in-Some.ensures.place node.ensures.number node.ensures.parent node.ensures.name
+          node.ensures.tells in
           subst P (sym w.nodes-is) (nodes_more survey c.loop-n.nodes.items n c.loop-n.invariant node.field-0 w.push.new.self.items w.in_ok-push.ensures.items node.ensures.number tells)
       | in_default w ↦
           subst P (sym w.nodes-is) (nodes_past survey c.loop-n.nodes.items n c.loop-n.invariant (w.in_default.ensures.none refl))

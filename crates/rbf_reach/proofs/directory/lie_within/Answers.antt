@@ -12,7 +12,8 @@ returns-then-not-is_segment_within c =
     let p = is_within (geometry_of c.args.ident.now) in
     let segs = c.args.segs.now in
     let here = get_or_from_slice_get segs c.loop-i.i c.run-run.result (0, 0) c.run-run.ensures.pair in
-    sym (list_all_at p segs c.loop-i.i (0, 0) (slice_get_within segs c.loop-i.i c.run-run.result c.run-run.ensures.pair) (ap p here ∙ sym c.is_segment_within.ensures ∙ c.if-not-is_segment_within.true))
+    sym (list_all_at p segs c.loop-i.i (0, 0) (slice_get_within segs c.loop-i.i c.run-run.result
+    c.run-run.ensures.pair) (ap p here ∙ sym c.is_segment_within.ensures ∙ c.if-not-is_segment_within.true))
 
 pub loop-i-preserved : goal.loop-i-preserved
 loop-i-preserved c =

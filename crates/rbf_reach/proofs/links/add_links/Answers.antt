@@ -19,7 +19,8 @@ loop-i-preserved c =
     let P : Vec Link Global → Type 0 = λ v. AreAdded g contents d old v.items (c.loop-i.i + 1) in
     elim c.match-named.branch [
       | in-Some+in_ok-push w ↦
-          subst P (sym w.links-is) (added_more g contents d old c.loop-i.links.items c.loop-i.i c.loop-i.invariant w.in-Some.n w.push.new.self.items w.in-Some.ensures.0 w.in-Some.ensures.1 w.in_ok-push.ensures.items)
+          subst P (sym w.links-is) (added_more g contents d old c.loop-i.links.items c.loop-i.i c.loop-i.invariant
+          w.in-Some.n w.push.new.self.items w.in-Some.ensures.0 w.in-Some.ensures.1 w.in_ok-push.ensures.items)
       | in_default w ↦
           subst P (sym w.links-is) (added_past g contents d old c.loop-i.links.items c.loop-i.i c.loop-i.invariant (λ m names number. w.in_default.ensures m names number))
     ]

@@ -16,4 +16,6 @@ loop-i-preserved c =
     let i = c.loop-i.i in
     let pair = c.run-lsn.result in
     let at = get_or_from_slice_get segs i pair (0, 0) c.run-lsn.ensures.pair in
-    listed_more c.args.dir.now.entries segs c.loop-i.ranges.items i c.loop-i.left c.loop-i.invariant c.push.new.self.items pair c.min-count.result (omega arith) (omega arith) c.run-lsn.ensures.segment.some at (omega (arith, c.min-count.ensures, c.from.ensures)) c.in_ok-push.ensures.items
+    listed_more c.args.dir.now.entries segs c.loop-i.ranges.items i c.loop-i.left c.loop-i.invariant
+    c.push.new.self.items pair c.min-count.result (omega arith) (omega arith) c.run-lsn.ensures.segment.some at
+    (omega (arith, c.min-count.ensures, c.from.ensures)) c.in_ok-push.ensures.items

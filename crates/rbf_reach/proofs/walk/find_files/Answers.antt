@@ -30,7 +30,9 @@ loop-search-init c =
     )
 
 -- the number that is read next
-next_is : (c : After-row_known-in-loop-search-1) → (length c.loop-search.files.items < length c.loop-search.search.found.items) × (c.index.result.now ≡ get_or c.loop-search.search.found.items (length c.loop-search.files.items) 0)
+next_is : (c : After-row_known-in-loop-search-1)
+    → (length c.loop-search.files.items < length c.loop-search.search.found.items) × (c.index.result.now ≡ get_or
+    c.loop-search.search.found.items (length c.loop-search.files.items) 0)
 next_is c =
     let found = c.loop-search.search.found in
     let files = c.loop-search.files in
@@ -61,7 +63,9 @@ loop-search-preserved c =
     let pushed = c.in_ok-push.ensures.items in
     let count : length more ≡ length files + 1 = ap length pushed ∙ length_push files file.result in (
       visited.searching,
-      subst (λ n. IsWalked g dirs new n) (sym count) (walked_more g dirs old new (length files) c.directory_of.result.number c.loop-search.invariant.1 next.0 (c.directory_of.ensures.number ∙ here) visited.visited),
+      subst (λ n. IsWalked g dirs new n) (sym count) (walked_more g dirs old new (length files)
+          c.directory_of.result.number c.loop-search.invariant.1 next.0 (c.directory_of.ensures.number ∙ here)
+          visited.visited),
       first_files_more c.args.image.now old new files more file.result c.loop-search.invariant.2 visited.visited.extends next.0 here file.ensures.file pushed,
     )
 

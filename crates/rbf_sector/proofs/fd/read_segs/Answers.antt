@@ -7,7 +7,8 @@ use Rattle.rbf_sector.proofs.fd.read_segs.Goals as goal
 
 pub returns-then-count-eq0 : goal.returns-then-count-eq0
 returns-then-count-eq0 c =
-    c.loop-i.invariant.0 ∙ sym (segments-stop c.args.b.now c.loop-i.i c.loop-i-test.true c.loop-i.invariant.1 (is_segment-none c.args.b.now c.loop-i.i c.u16_at-count.result c.u16_at-count.ensures c.if-count-eq0.true))
+    c.loop-i.invariant.0 ∙ sym (segments-stop c.args.b.now c.loop-i.i c.loop-i-test.true c.loop-i.invariant.1
+    (is_segment-none c.args.b.now c.loop-i.i c.u16_at-count.result c.u16_at-count.ensures c.if-count-eq0.true))
 
 pub unwrap-requires : goal.unwrap-requires
 unwrap-requires c =
@@ -19,8 +20,12 @@ loop-i-preserved c =
     let b = c.args.b.now in
     let i = c.loop-i.i in
     let P : Result (Unit {0}) SegsFull → Type 0 = λ r. OnOk r (c.add_run.new.self ≡ c.loop-i.segs ++ (c.u24_at.result, c.u16_at-count.result) ∷ []) in
-    let added = subst P c.unwrap.ensures c.add_run.ensures.ok in
-    (added ∙ ap (λ segs. segs ++ (c.u24_at.result, c.u16_at-count.result) ∷ []) c.loop-i.invariant.0 ∙ sym (segments-more b i c.u24_at.result c.u16_at-count.result c.u24_at.ensures.value c.u16_at-count.ensures), below_more (λ k. has_sectors (segment_field b k) ≡ true) i c.loop-i.invariant.1 (is_segment-some b i c.u16_at-count.result c.u16_at-count.ensures c.if-count-eq0.false))
+    let added = subst P c.unwrap.ensures c.add_run.ensures.ok in (
+      added ∙ ap (λ segs. segs ++ (c.u24_at.result, c.u16_at-count.result) ∷ []) c.loop-i.invariant.0 ∙ sym
+          (segments-more b i c.u24_at.result c.u16_at-count.result c.u24_at.ensures.value c.u16_at-count.ensures),
+      below_more (λ k. has_sectors (segment_field b k) ≡ true) i c.loop-i.invariant.1
+          (is_segment-some b i c.u16_at-count.result c.u16_at-count.ensures c.if-count-eq0.false),
+    )
 
 pub returns : goal.returns
 returns c =

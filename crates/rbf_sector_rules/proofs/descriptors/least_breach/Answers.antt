@@ -15,8 +15,15 @@ breach_of-requires c = file_on c.args.image.now c.args.files.now c.loop-file.fil
 
 pub loop-file-preserved : goal.loop-file-preserved
 loop-file-preserved c =
-    least_next (λ k. BreaksOwnAt c.args.rule (disk_of (geometry_of c.args.image.now.ident) (sector c.args.image.now.bytes.now)) (get_or (found_numbers c.args.files.now) k 0)) c.loop-file.file-index c.loop-file.least c.breach_of.result c.least_of-least.result c.loop-file.invariant (at_number (λ n. IsLeast (BreaksOwnAt c.args.rule (disk_of (geometry_of c.args.image.now.ident) (sector c.args.image.now.bytes.now)) n) c.breach_of.result) c.args.files.now c.loop-file.file-index c.file-item.result (omega arith) c.file-item.is c.breach_of.ensures) c.least_of-least.ensures
+    least_next (λ k. BreaksOwnAt c.args.rule (disk_of (geometry_of c.args.image.now.ident)
+    (sector c.args.image.now.bytes.now)) (get_or (found_numbers c.args.files.now) k 0)) c.loop-file.file-index
+    c.loop-file.least c.breach_of.result c.least_of-least.result c.loop-file.invariant
+    (at_number (λ n. IsLeast (BreaksOwnAt c.args.rule (disk_of (geometry_of c.args.image.now.ident)
+    (sector c.args.image.now.bytes.now)) n) c.breach_of.result) c.args.files.now c.loop-file.file-index
+    c.file-item.result (omega arith) c.file-item.is c.breach_of.ensures) c.least_of-least.ensures
 
 pub returns : goal.returns
 returns c =
-    least_own (geometry_of c.args.image.now.ident) (sector c.args.image.now.bytes.now) c.args.rule (found_numbers c.args.files.now) c.loop-file.file-index c.loop-file.least c.requires.found (omega (arith, as_many c.args.files.now)) c.loop-file.invariant
+    least_own (geometry_of c.args.image.now.ident) (sector c.args.image.now.bytes.now) c.args.rule
+    (found_numbers c.args.files.now) c.loop-file.file-index c.loop-file.least c.requires.found
+    (omega (arith, as_many c.args.files.now)) c.loop-file.invariant

@@ -27,8 +27,14 @@ pub loop-file-preserved : goal.loop-file-preserved
 loop-file-preserved c =
     let g = geometry_of c.args.image.now.ident in
     let disk = sector c.args.image.now.bytes.now in
-    least_next (λ k. IsUnmarkedIn (disk_of g disk) (used_by (disk_of g disk) (get_or (found_numbers c.args.files.now) k 0))) c.loop-file.file-index c.loop-file.least c.in_ok-one.one c.least_of-least.result c.loop-file.invariant (at_number (λ n. IsLeast (IsUnmarkedIn (disk_of g disk) (used_by (disk_of g disk) n)) c.in_ok-one.one) c.args.files.now c.loop-file.file-index c.file-item.result (omega arith) c.file-item.is c.in_ok-one.ensures) c.least_of-least.ensures
+    least_next (λ k. IsUnmarkedIn (disk_of g disk) (used_by (disk_of g disk) (get_or (found_numbers c.args.files.now)
+    k 0))) c.loop-file.file-index c.loop-file.least c.in_ok-one.one c.least_of-least.result c.loop-file.invariant
+    (at_number (λ n. IsLeast (IsUnmarkedIn (disk_of g disk) (used_by (disk_of g disk) n)) c.in_ok-one.one)
+    c.args.files.now c.loop-file.file-index c.file-item.result (omega arith) c.file-item.is c.in_ok-one.ensures)
+    c.least_of-least.ensures
 
 pub returns : goal.returns
 returns c =
-    least_unmarked_is (geometry_of c.args.image.now.ident) (sector c.args.image.now.bytes.now) (found_numbers c.args.files.now) c.requires.files.found c.loop-file.file-index (omega (arith, as_many c.args.files.now)) c.loop-file.least c.loop-file.invariant
+    least_unmarked_is (geometry_of c.args.image.now.ident) (sector c.args.image.now.bytes.now)
+    (found_numbers c.args.files.now) c.requires.files.found c.loop-file.file-index
+    (omega (arith, as_many c.args.files.now)) c.loop-file.least c.loop-file.invariant

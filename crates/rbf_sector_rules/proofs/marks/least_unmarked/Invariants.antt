@@ -9,4 +9,6 @@ use Rattle.rbf_sector_rules.proofs.marks.least_unmarked.Given as goal
 
 abbrev pub invariant-loop-file : goal.invariant-loop-file
 invariant-loop-file l =
-    IsLeast (Before (λ k. IsUnmarkedIn (disk_of (geometry_of l.image.ident) (sector l.image.bytes.now)) (used_by (disk_of (geometry_of l.image.ident) (sector l.image.bytes.now)) (get_or (found_numbers l.files) k 0))) l.file-index) l.least
+    IsLeast (Before (λ k. IsUnmarkedIn (disk_of (geometry_of l.image.ident) (sector l.image.bytes.now))
+    (used_by (disk_of (geometry_of l.image.ident) (sector l.image.bytes.now)) (get_or (found_numbers l.files) k
+    0))) l.file-index) l.least

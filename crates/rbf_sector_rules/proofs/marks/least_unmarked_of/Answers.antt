@@ -13,7 +13,8 @@ use Rattle.rbf_sector_rules.proofs.Unmarked.{unmarked_none, unmarked_more}
 use Rattle.rbf_sector_rules.proofs.marks.least_unmarked_of.Goals as goal
 use Rattle.rbf_sector_rules.proofs.marks.least_unmarked_of.Goals.{In_ok-list_segments}
 
-runs_of : (c : In_ok-list_segments) (segments : List (ℕ × ℕ)) → segments ≡ c.list_segments.new.segments.items → AreRuns (geometry_of c.args.image.now.ident) (sector c.args.image.now.bytes.now) c.args.file.now.number segments
+runs_of : (c : In_ok-list_segments) (segments : List (ℕ × ℕ)) → segments ≡ c.list_segments.new.segments.items
+    → AreRuns (geometry_of c.args.image.now.ident) (sector c.args.image.now.bytes.now) c.args.file.now.number segments
 runs_of c segments is =
     let listed = c.in_ok-list_segments.ensures in
     runs_are c.args.image.now c.args.file.now.number c.list_segments.new.segments.items segments c.requires.segments c.requires.map c.requires.reached listed.sectors listed.segments is
@@ -49,7 +50,9 @@ loop-first-preserved c =
     let within = segments.within i (0, 0) low in
     let size = c.requires.nexts.size in
     let some = (segments.segments i (0, 0) low).some in
-    let here = least_of_run (IsUnmarked (disk_of g disk)) g.total c.args.nexts.now r.0 c.from.result c.next_in_range.result c.requires.nexts (omega (arith, some, c.from.ensures)) (omega (arith, within, size, c.from.ensures)) c.next_in_range.ensures in
+    let here = least_of_run (IsUnmarked (disk_of g disk)) g.total c.args.nexts.now r.0 c.from.result
+    c.next_in_range.result c.requires.nexts (omega (arith, some, c.from.ensures))
+    (omega (arith, within, size, c.from.ensures)) c.next_in_range.ensures in
     let P : ℕ → Type 0 = λ count. IsLeast (IsUnmarkedIn (disk_of g disk) (range_with_len r.0 count)) c.next_in_range.result in
     unmarked_more g disk items i c.next_in_range.result c.loop-first.least c.least_of-least.result low c.loop-first.invariant (subst P c.from.ensures here) c.least_of-least.ensures
 

@@ -11,7 +11,9 @@ use Rattle.rbf_sector_rules.proofs.marks.list_next_unmarked.Goals.{then-not-is_s
 
 pub loop-s-init : goal.loop-s-init
 loop-s-init c =
-    filled_none (IsUnmarked (disk_of (geometry_of c.args.image.now.ident) (sector c.args.image.now.bytes.now))) c.args.image.now.ident.total c.in_ok-nexts.nexts.items (search (rules, c.in_ok-nexts.ensures.len, c.in_ok-nexts.nexts.ok.0))
+    filled_none (IsUnmarked (disk_of (geometry_of c.args.image.now.ident) (sector c.args.image.now.bytes.now)))
+    c.args.image.now.ident.total c.in_ok-nexts.nexts.items
+    (search (rules, c.in_ok-nexts.ensures.len, c.in_ok-nexts.nexts.ok.0))
 
 pub loop-s-preserved : goal.loop-s-preserved
 loop-s-preserved c =
@@ -23,7 +25,9 @@ loop-s-preserved c =
     let here : IsNextSuch B total (s - 1) next = elim c.if-not-is_sector_marked.branch [
       | then-not-is_sector_marked w ↦ subst P (sym w.next-is) (next_with B total (s - 1) (omega arith) (sym c.is_sector_marked.ensures ∙ w.if-not-is_sector_marked.true))
       | else-not-is_sector_marked w ↦
-          subst P (sym w.next-is) (next_without B total s c.loop-s.next (omega arith) c.loop-s.invariant.here (λ unmarked. both_ways c.is_sector_marked.result (c.is_sector_marked.ensures ∙ unmarked) w.if-not-is_sector_marked.false))
+          subst P (sym w.next-is) (next_without B total s c.loop-s.next (omega arith) c.loop-s.invariant.here
+          (λ unmarked. both_ways c.is_sector_marked.result (c.is_sector_marked.ensures ∙ unmarked)
+          w.if-not-is_sector_marked.false))
     ] in
     filled_more B total c.loop-s.nexts.items s c.loop-s.next next (omega arith) (omega arith) c.loop-s.invariant here
 

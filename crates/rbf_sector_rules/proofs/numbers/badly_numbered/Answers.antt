@@ -13,4 +13,7 @@ returns c =
     let g = geometry_of c.args.image.now.ident in
     let dir = c.directory_of-dir in
     let Bad = HasBadNumber g (listed c.args.image.now dir.result.number) in
-    none_broken g (sector c.args.image.now.bytes.now) c.args.file.now.number dir.result.number c.args.file.now.fd.segs dir.ensures.number (c.requires.file.fd.segs ∙ ap (λ n. segments_field (sector c.args.image.now.bytes.now n)) (sym dir.ensures.number)) (sym c.lie_within.ensures ∙ c.if-not-lie_within.false) (MatchBool-at_false Bad (Bad → ⊥) c.if-bad.false c.in_ok-bad.ensures)
+    none_broken g (sector c.args.image.now.bytes.now) c.args.file.now.number dir.result.number c.args.file.now.fd.segs
+    dir.ensures.number (c.requires.file.fd.segs ∙ ap (λ n. segments_field (sector c.args.image.now.bytes.now n))
+    (sym dir.ensures.number)) (sym c.lie_within.ensures ∙ c.if-not-lie_within.false)
+    (MatchBool-at_false Bad (Bad → ⊥) c.if-bad.false c.in_ok-bad.ensures)

@@ -13,7 +13,9 @@ use Rattle.rbf_sector_rules.proofs.numbers.has_bad_number.Goals as goal
 use Rattle.rbf_sector_rules.proofs.numbers.has_bad_number.Goals.{In_ok-list_positions}
 
 -- the ranges that are listed
-runs_of : (c : In_ok-list_positions) (ranges : List (ℕ × ℕ)) → ranges ≡ c.list_positions.new.ranges.items → ArePositions (geometry_of c.args.image.now.ident) (sector c.args.image.now.bytes.now) (listed c.args.image.now c.args.dir.now.number) ranges
+runs_of : (c : In_ok-list_positions) (ranges : List (ℕ × ℕ)) → ranges ≡ c.list_positions.new.ranges.items
+    → ArePositions (geometry_of c.args.image.now.ident) (sector c.args.image.now.bytes.now)
+    (listed c.args.image.now c.args.dir.now.number) ranges
 runs_of c ranges is =
     positions_are c.args.image.now c.args.dir.now c.requires.directory c.list_positions.new.ranges.items c.in_ok-list_positions.ensures.positions c.in_ok-list_positions.ensures.some ranges is
 
@@ -43,7 +45,9 @@ returns-in-Some c =
     let r = get_or items i (0, 0) in
     let low : i < length items = omega arith in
     let positions = runs_of (goal.at.returns-in-Some c).In_ok-list_positions c.deref-first-items.result.now c.deref-first-items.ensures.value in
-    let bad = least_of_run (IsBadPosition (disk_of g disk)) (8 * g.total) c.args.nexts.now r.0 r.1 (Some c.in-Some.field-0) c.requires.nexts (positions.some i (0, 0) low) (omega (arith, positions.within i (0, 0) low, c.requires.nexts.size)) c.in-Some.ensures in
+    let bad = least_of_run (IsBadPosition (disk_of g disk)) (8 * g.total) c.args.nexts.now r.0 r.1
+    (Some c.in-Some.field-0) c.requires.nexts (positions.some i (0, 0) low)
+    (omega (arith, positions.within i (0, 0) low, c.requires.nexts.size)) c.in-Some.ensures in
     bad_in_run g disk (listed c.args.image.now c.args.dir.now.number) items positions i c.in-Some.field-0 low bad.0.0 bad.0.1
 
 pub loop-first-preserved : goal.loop-first-preserved
@@ -55,10 +59,14 @@ loop-first-preserved c =
     let r = get_or items i (0, 0) in
     let low : i < length items = omega arith in
     let positions = runs_of (goal.at.loop-first-preserved c).In_ok-list_positions c.deref-first-items.result.now c.deref-first-items.ensures.value in
-    let none = least_of_run (IsBadPosition (disk_of g disk)) (8 * g.total) c.args.nexts.now r.0 r.1 None c.requires.nexts (positions.some i (0, 0) low) (omega (arith, positions.within i (0, 0) low, c.requires.nexts.size)) c.in_default.ensures in
+    let none = least_of_run (IsBadPosition (disk_of g disk)) (8 * g.total) c.args.nexts.now r.0 r.1 None
+    c.requires.nexts (positions.some i (0, 0) low)
+    (omega (arith, positions.within i (0, 0) low, c.requires.nexts.size)) c.in_default.ensures in
     none_more g disk (listed c.args.image.now c.args.dir.now.number) items positions i low c.loop-first.invariant (λ e here bad. none e (here, bad))
 
 pub returns : goal.returns
 returns c =
     let positions = runs_of (goal.at.returns c).In_ok-list_positions c.deref-first-items.result.now c.deref-first-items.ensures.value in
-    none_bad (geometry_of c.args.image.now.ident) (sector c.args.image.now.bytes.now) (listed c.args.image.now c.args.dir.now.number) c.deref-first-items.result.now positions c.loop-first.first-index (omega arith) c.loop-first.invariant
+    none_bad (geometry_of c.args.image.now.ident) (sector c.args.image.now.bytes.now)
+    (listed c.args.image.now c.args.dir.now.number) c.deref-first-items.result.now positions
+    c.loop-first.first-index (omega arith) c.loop-first.invariant

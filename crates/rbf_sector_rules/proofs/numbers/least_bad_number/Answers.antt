@@ -21,8 +21,15 @@ badly_numbered-requires-clause-file c = file_on c.args.image.now c.args.files.no
 
 pub loop-file-preserved : goal.loop-file-preserved
 loop-file-preserved c =
-    least_next (λ k. BreaksNumbersAt (disk_of (geometry_of c.args.image.now.ident) (sector c.args.image.now.bytes.now)) (get_or (found_numbers c.args.files.now) k 0)) c.loop-file.file-index c.loop-file.least c.in_ok-one.one c.least_of-least.result c.loop-file.invariant (at_number (λ n. IsLeast (BreaksNumbersAt (disk_of (geometry_of c.args.image.now.ident) (sector c.args.image.now.bytes.now)) n) c.in_ok-one.one) c.args.files.now c.loop-file.file-index c.file-item.result (omega arith) c.file-item.is c.in_ok-one.ensures) c.least_of-least.ensures
+    least_next (λ k. BreaksNumbersAt (disk_of (geometry_of c.args.image.now.ident)
+    (sector c.args.image.now.bytes.now)) (get_or (found_numbers c.args.files.now) k 0)) c.loop-file.file-index
+    c.loop-file.least c.in_ok-one.one c.least_of-least.result c.loop-file.invariant
+    (at_number (λ n. IsLeast (BreaksNumbersAt (disk_of (geometry_of c.args.image.now.ident)
+    (sector c.args.image.now.bytes.now)) n) c.in_ok-one.one) c.args.files.now c.loop-file.file-index
+    c.file-item.result (omega arith) c.file-item.is c.in_ok-one.ensures) c.least_of-least.ensures
 
 pub returns : goal.returns
 returns c =
-    least_numbers (geometry_of c.args.image.now.ident) (sector c.args.image.now.bytes.now) (found_numbers c.args.files.now) c.loop-file.file-index c.loop-file.least c.requires.found (omega (arith, as_many c.args.files.now)) c.loop-file.invariant
+    least_numbers (geometry_of c.args.image.now.ident) (sector c.args.image.now.bytes.now)
+    (found_numbers c.args.files.now) c.loop-file.file-index c.loop-file.least c.requires.found
+    (omega (arith, as_many c.args.files.now)) c.loop-file.invariant

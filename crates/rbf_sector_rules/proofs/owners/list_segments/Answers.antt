@@ -19,10 +19,14 @@ returns-clause-sectors c =
     let n = c.args.file.now.number in
     let front = c.if-file-image.segments.items in
     let system : sectors_of front ≡ (if n == g.root then system_sectors g else []) = elim c.if-file-image.branch [
-      | then-file-image+in_ok-push w ↦ front_of_root g n front w.system_sectors.result w.if-file-image.true w.system_sectors.ensures.count (ap (λ v. v.items) w.segments-is ∙ w.in_ok-push.ensures.items ∙ ap (λ segments. segments ++ (0, w.system_sectors.result) ∷ []) c.clear.ensures.items)
+      | then-file-image+in_ok-push w ↦ front_of_root g n front w.system_sectors.result w.if-file-image.true
+          w.system_sectors.ensures.count (ap (λ v. v.items) w.segments-is ∙ w.in_ok-push.ensures.items ∙ ap
+          (λ segments. segments ++ (0, w.system_sectors.result) ∷ []) c.clear.ensures.items)
       | else-file-image w ↦ front_of_other g n front w.if-file-image.false (ap (λ v. v.items) w.segments-is ∙ c.clear.ensures.items)
     ] in
-    listed_is g n front disk c.push_segments.new.segments.items c.args.file.now.fd.segs system (c.in_ok-push_segments.ensures.list ∙ ap (λ segments. segments ++ c.args.file.now.fd.segs) c.in_ok-push-2.ensures.items) c.requires.fd.segs
+    listed_is g n front disk c.push_segments.new.segments.items c.args.file.now.fd.segs system
+    (c.in_ok-push_segments.ensures.list ∙ ap (λ segments. segments ++ c.args.file.now.fd.segs)
+    c.in_ok-push-2.ensures.items) c.requires.fd.segs
 
 pub returns-clause-segments : goal.returns-clause-segments
 returns-clause-segments c =

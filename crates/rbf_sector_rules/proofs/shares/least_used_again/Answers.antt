@@ -16,7 +16,9 @@ use Rattle.rbf_sector_rules.proofs.shares.least_used_again.Goals as goal
 use Rattle.rbf_sector_rules.proofs.shares.least_used_again.Goals.{In_ok-list_segments, After-loop-place}
 
 -- the segments that are listed
-runs_of : (c : In_ok-list_segments) (segments : List (ℕ × ℕ)) → segments ≡ c.list_segments.new.segments.items → AreRuns (geometry_of c.args.image.now.ident) (sector c.args.image.now.bytes.now) (get_or (found_numbers c.args.files.now) c.loop-place.place 0) segments
+runs_of : (c : In_ok-list_segments) (segments : List (ℕ × ℕ)) → segments ≡ c.list_segments.new.segments.items
+    → AreRuns (geometry_of c.args.image.now.ident) (sector c.args.image.now.bytes.now)
+    (get_or (found_numbers c.args.files.now) c.loop-place.place 0) segments
 runs_of c segments is =
     let files = c.args.files.now in
     let place = c.loop-place.place in
@@ -29,7 +31,8 @@ runs_of c segments is =
     runs_are c.args.image.now (get_or (found_numbers files) place 0) items segments c.requires.segments c.requires.map reached sectors listed.segments is
 
 -- all owners
-all_of : (c : After-loop-place) → AreSearched (geometry_of c.args.image.now.ident) (sector c.args.image.now.bytes.now) (found_numbers c.args.files.now) c.loop-place.uses (length (found_numbers c.args.files.now))
+all_of : (c : After-loop-place) → AreSearched (geometry_of c.args.image.now.ident) (sector c.args.image.now.bytes.now)
+    (found_numbers c.args.files.now) c.loop-place.uses (length (found_numbers c.args.files.now))
 all_of c =
     let P : ℕ → Type 0 = λ i. AreSearched (geometry_of c.args.image.now.ident) (sector c.args.image.now.bytes.now) (found_numbers c.args.files.now) c.loop-place.uses i in
     let all : c.loop-place.place ≡ length (found_numbers c.args.files.now) = omega (arith, as_many c.args.files.now) in
@@ -38,7 +41,9 @@ all_of c =
 pub loop-place-init : goal.loop-place-init
 loop-place-init c =
     let uses = c.in_ok-uses.ensures in
-    searched_none (geometry_of c.args.image.now.ident) (sector c.args.image.now.bytes.now) (found_numbers c.args.files.now) c.requires.files.found c.in_ok-uses.uses uses.users uses.owners uses.no_users uses.no_owners uses.least
+    searched_none (geometry_of c.args.image.now.ident) (sector c.args.image.now.bytes.now)
+    (found_numbers c.args.files.now) c.requires.files.found c.in_ok-uses.uses uses.users uses.owners uses.no_users
+    uses.no_owners uses.least
 
 pub list_segments-requires : goal.list_segments-requires
 list_segments-requires c = file_on c.args.image.now c.args.files.now c.loop-place.place c.index-files-place.result c.requires.files.read (omega arith) c.index-files-place.is
@@ -67,10 +72,13 @@ loop-place-preserved c =
     let old = c.loop-place.uses in
     let new = c.note_segments.new.self in
     let segments = runs_of (goal.at.loop-place-preserved c).In_ok-list_segments c.deref.result.now c.deref.ensures.value in
-    let noted = at_number (λ n. IsNoted c.from.result (owner n) (sectors_of c.deref.result.now) old new) c.args.files.now i c.index-files-place.result (omega arith) c.index-files-place.is c.note_segments.ensures in
+    let noted = at_number (λ n. IsNoted c.from.result (owner n) (sectors_of c.deref.result.now) old new)
+    c.args.files.now i c.index-files-place.result (omega arith) c.index-files-place.is c.note_segments.ensures in
     let K : ℕ → Type 0 = λ k. IsNoted k (owner (get_or found i 0)) (sectors_of c.deref.result.now) old new in
     let P : List ℕ → Type 0 = λ xs. IsNoted g.cluster (owner (get_or found i 0)) xs old new in
-    searched_more g disk found c.requires.files.found old new i (owner (get_or found i 0)) (omega (arith, as_many c.args.files.now)) refl refl c.loop-place.invariant (subst P segments.sectors (subst K c.from.ensures noted))
+    searched_more g disk found c.requires.files.found old new i (owner (get_or found i 0))
+    (omega (arith, as_many c.args.files.now)) refl refl c.loop-place.invariant
+    (subst P segments.sectors (subst K c.from.ensures noted))
 
 pub returns-then-least-image : goal.returns-then-least-image
 returns-then-least-image c =
@@ -83,4 +91,6 @@ returns-then-least-image c =
 pub returns : goal.returns
 returns c =
     let all = all_of (goal.at.returns c).After-loop-place in
-    none_again (geometry_of c.args.image.now.ident) (sector c.args.image.now.bytes.now) (found_numbers c.args.files.now) c.requires.files.found c.loop-place.uses all (header_of c.args.image.now) c.requires.segments c.requires.map (omega arith)
+    none_again (geometry_of c.args.image.now.ident) (sector c.args.image.now.bytes.now)
+    (found_numbers c.args.files.now) c.requires.files.found c.loop-place.uses all (header_of c.args.image.now)
+    c.requires.segments c.requires.map (omega arith)

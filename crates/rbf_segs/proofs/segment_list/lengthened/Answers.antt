@@ -10,7 +10,9 @@ returns-then-first-from c =
 pub returns-in_err-checked_add : goal.returns-in_err-checked_add
 returns-in_err-checked_add c =
     let run = c.in_ok-first.field-0.now in
-    rw c.from_residual-in_err-checked_add.ensures (adds_run c.args.runs.now run c.args.lsn c.args.count c.in_ok-first.ensures.value (joins-no_room run c.args.lsn c.args.count (λ room. c.in_err-checked_add.ensures (omega (arith, room)))))
+    rw c.from_residual-in_err-checked_add.ensures (adds_run c.args.runs.now run c.args.lsn c.args.count
+    c.in_ok-first.ensures.value (joins-no_room run c.args.lsn c.args.count (λ room. c.in_err-checked_add.ensures
+    (omega (arith, room)))))
 
 pub returns : goal.returns
 returns c =

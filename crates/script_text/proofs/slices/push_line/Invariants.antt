@@ -7,4 +7,5 @@ use Rattle.script_text.proofs.slices.push_line.Given as goal
 
 abbrev pub invariant-loop-word : goal.invariant-loop-word
 invariant-loop-word l =
-    l.slices.items ++ flat_map (λ word. unwrap_or (word_slices word) []) (line_words l.word-iterator.line.now) ≡ l.initial.slices.items ++ flat_map (λ word. unwrap_or (word_slices word) []) (line_words l.line)
+    l.slices.items ++ flat_map (λ word. unwrap_or (word_slices word) []) (line_words l.word-iterator.line.now) ≡
+    l.initial.slices.items ++ flat_map (λ word. unwrap_or (word_slices word) []) (line_words l.line)

@@ -10,6 +10,8 @@ returns-clause-line c =
     let line = c.args.line.now in
     let number = c.in_ok-push_number.ensures in
     let term = c.in_ok-extend_from_slice.ensures.items ∙ ap (λ (front : List ℕ). front ++ codes " TERM") number in
-    let bytes = c.in_ok-push_bytes.ensures.words ∙ ap (λ (items : List ℕ). c.extend_from_slice.new.self.items ++ flat_map byte_word items) c.as_slice.ensures.value ∙ ap (λ (front : List ℕ). front ++ flat_map byte_word line.bytes.items) term in
+    let bytes = c.in_ok-push_bytes.ensures.words ∙ ap (λ (items : List ℕ). c.extend_from_slice.new.self.items ++
+    flat_map byte_word items) c.as_slice.ensures.value ∙ ap (λ (front : List ℕ). front ++ flat_map byte_word
+    line.bytes.items) term in
     let key = c.in_ok-push_byte.ensures.word ∙ ap (λ (front : List ℕ). front ++ byte_word 13) bytes in
     c.in_ok-push.ensures.items ∙ ap (λ (front : List ℕ). front ++ 10 ∷ []) key ∙ line-behind c.args.text.now.items line

@@ -11,7 +11,9 @@ loop-line-init c = (sym (append-nil c.args.text.now.items), All-nil HasBytes)
 
 pub loop-line-preserved : goal.loop-line-preserved
 loop-line-preserved c = (
-  gives-next script_line c.args.lines.now c.loop-line.line-index c.line-item.result c.loop-line-test.true c.line-item.is c.args.text.now.items c.loop-line.text.items _ c.loop-line.invariant.0 c.in_ok-push_line.ensures.line,
+  gives-next script_line c.args.lines.now c.loop-line.line-index c.line-item.result c.loop-line-test.true
+      c.line-item.is c.args.text.now.items c.loop-line.text.items _ c.loop-line.invariant.0
+      c.in_ok-push_line.ensures.line,
   all-next script_line c.args.lines.now c.loop-line.line-index c.line-item.result c.loop-line-test.true c.line-item.is HasBytes c.loop-line.invariant.1 c.in_ok-push_line.ensures.bytes,
 )
 

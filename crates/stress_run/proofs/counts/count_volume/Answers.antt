@@ -7,4 +7,5 @@ file_bytes-requires c = (c.args.image.now, c.in_ok-tree.ensures.tree)
 
 pub returns-clause-counts : goal.returns-clause-counts
 returns-clause-counts c =
-    counts-told c.args.image.now c.in_ok-tree.tree c.in_ok-tree.ensures.tree c.args.slices c.files.result c.file_bytes.result c.files.ensures (c.file_bytes.ensures c.args.image.now c.in_ok-tree.ensures.tree)
+    counts-told c.args.image.now c.in_ok-tree.tree c.in_ok-tree.ensures.tree c.args.slices c.files.result
+    c.file_bytes.result c.files.ensures (c.file_bytes.ensures c.args.image.now c.in_ok-tree.ensures.tree)

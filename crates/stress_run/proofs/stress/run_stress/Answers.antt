@@ -14,8 +14,12 @@ pub returns-clause-call : goal.returns-clause-call
 returns-clause-call g c =
     let before = outside (λ table. (g.dyn-1.0.entry table).1) c.args.devices.now.drives.items (λ table. (g.dyn-2.0.entry table).1) c.args.devices.now.terms.items in
     let after = outside (λ table. (g.dyn-1.0.entry table).1) c.run_images-end.new.devices.drives.items (λ table. (g.dyn-2.0.entry table).1) c.run_images-end.new.devices.terms.items in
-    let run = subst (λ setup. RunsImages setup c.run_images-end.new.images (world_of g.H.Host c.args.host.now before) (world_of g.H.Host c.run_images-end.new.host after) c.run_images-end.result) c.in-Ok-stress_start.ensures.setup c.run_images-end.ensures.run in
-    called g.H.Host c.args.seed c.requires.seed c.run_images-end.new.images c.image.result.now c.image.ensures c.args.host.now c.run_images-end.new.host before after c.run_images-end.result c.tell_end.result c.tell_end.new.host run c.tell_end.ensures.told
+    let run = subst (λ setup. RunsImages setup c.run_images-end.new.images (world_of g.H.Host c.args.host.now before)
+    (world_of g.H.Host c.run_images-end.new.host after) c.run_images-end.result)
+    c.in-Ok-stress_start.ensures.setup c.run_images-end.ensures.run in
+    called g.H.Host c.args.seed c.requires.seed c.run_images-end.new.images c.image.result.now c.image.ensures
+    c.args.host.now c.run_images-end.new.host before after c.run_images-end.result c.tell_end.result
+    c.tell_end.new.host run c.tell_end.ensures.told
 
 pub returns-clause-drives : goal.returns-clause-drives
 returns-clause-drives g c = c.run_images-end.ensures.run.drives

@@ -7,7 +7,9 @@ use Rattle.terminal_mgr.proofs.arrival.poll.Given as goal
 
 abbrev pub invariant-loop-key : goal.invariant-loop-key
 invariant-loop-key g l = record {
-  goes_on : (new : List ℕ) (now : TerminalState) (answer : Arrival) → Polls l.tick l.signal l.ahead new (terminal_state (goal.CharDriver-dyn g l.d.now) l.d.now.1) now answer → Polls l.tick None l.fn.ahead new (terminal_state (goal.CharDriver-dyn g l.fn.d.now) l.fn.d.now.1) now answer;
+  goes_on : (new : List ℕ) (now : TerminalState) (answer : Arrival) → Polls l.tick l.signal l.ahead new
+      (terminal_state (goal.CharDriver-dyn g l.d.now) l.d.now.1) now answer → Polls l.tick None l.fn.ahead new
+      (terminal_state (goal.CharDriver-dyn g l.fn.d.now) l.fn.d.now.1) now answer;
   within : length l.ahead ≤ 256;
 }
 

@@ -26,7 +26,9 @@ returns-in-Ok-clause-made g c =
     let left = outside (λ table. (g.dyn-1.0.entry table).1) c.make_of.new.devices.drives.items (λ table. (g.dyn-2.0.entry table).1) c.make_of.new.devices.terms.items in
     let before = world_of g.H.Host c.args.host.now was in
     let terms = ap (λ terms. terminal_states (λ table. (g.dyn-2.0.entry table).1) terms.items) c.make_of.ensures.terms_kept in
-    made-in c.args.vol.now c.make_of.result before (record before { devices = left }) _ (c.in-Ok.ensures.kept left) (made-of c.args.vol.now c.in-Ok.files before left c.in-Ok.ensures.contents terms c.make_of.result c.make_of.ensures.made c.make_of.ensures.drives)
+    made-in c.args.vol.now c.make_of.result before (record before { devices = left }) _ (c.in-Ok.ensures.kept left)
+    (made-of c.args.vol.now c.in-Ok.files before left c.in-Ok.ensures.contents terms c.make_of.result
+    c.make_of.ensures.made c.make_of.ensures.drives)
 
 pub returns-in-Ok-clause-noted : goal.returns-in-Ok-clause-noted
 returns-in-Ok-clause-noted g c =

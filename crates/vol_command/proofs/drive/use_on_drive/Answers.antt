@@ -9,4 +9,6 @@ use_in_box-requires g c =
 
 pub returns-clause-drive : goal.returns-clause-drive
 returns-clause-drive g c =
-    changes-one _ _ c.args.devices.now.drives.items 0 c.index_mut.result.now c.use_in_box.new.drive (omega (arith, c.requires.some, c.args.devices.now.drives.ok.0)) c.index_mut.ensures.value c.use_in_box.ensures
+    changes-one _ _ c.args.devices.now.drives.items 0 c.index_mut.result.now c.use_in_box.new.drive
+    (omega (arith, c.requires.some, c.args.devices.now.drives.ok.0)) c.index_mut.ensures.value
+    c.use_in_box.ensures

@@ -18,11 +18,14 @@ returns-in-Put-clause-contents g c =
 
 pub returns-in-Put-clause-ended : goal.returns-in-Put-clause-ended
 returns-in-Put-clause-ended g c =
-    stopped-as c.read_input.result File c.word.result.now (slice_get c.args.vol.now.rest 1) (λ devices. world_of g.H.Host c.args.host.now devices) (λ devices. world_of g.H.Host c.read_input.new.host devices) (vol_file_name c.args.vol.now) refl c.word.ensures c.read_input.ensures.ended
+    stopped-as c.read_input.result File c.word.result.now (slice_get c.args.vol.now.rest 1)
+    (λ devices. world_of g.H.Host c.args.host.now devices) (λ devices. world_of g.H.Host c.read_input.new.host
+    devices) (vol_file_name c.args.vol.now) refl c.word.ensures c.read_input.ensures.ended
 
 pub returns-in-Put-clause-may : goal.returns-in-Put-clause-may
 returns-in-Put-clause-may g c =
-    file-may c.read_input.result c.word.result.now c.args.vol.now.verb (λ devices. world_of g.H.Host c.args.host.now devices) (λ devices. world_of g.H.Host c.read_input.new.host devices) c.in-Put.is c.read_input.ensures.ended
+    file-may c.read_input.result c.word.result.now c.args.vol.now.verb (λ devices. world_of g.H.Host c.args.host.now
+    devices) (λ devices. world_of g.H.Host c.read_input.new.host devices) c.in-Put.is c.read_input.ensures.ended
 
 pub returns-in-Put-clause-noted : goal.returns-in-Put-clause-noted
 returns-in-Put-clause-noted g c =
@@ -35,4 +38,6 @@ returns-in_default-clause-contents g c = other-contents c.args.vol.now _ _ c.in_
 
 pub returns-in_default-clause-noted : goal.returns-in_default-clause-noted
 returns-in_default-clause-noted g c =
-    subst (λ names. HasRead names (notes_of g.H.Host c.args.host.now) (notes_of g.H.Host c.args.host.now)) (sym (no-names c.args.vol.now.verb c.args.vol.now c.in_default.not-Put)) (read-none (notes_of g.H.Host c.args.host.now))
+    subst (λ names. HasRead names (notes_of g.H.Host c.args.host.now) (notes_of g.H.Host c.args.host.now))
+    (sym (no-names c.args.vol.now.verb c.args.vol.now c.in_default.not-Put))
+    (read-none (notes_of g.H.Host c.args.host.now))

@@ -9,11 +9,15 @@ use Rattle.vol_command.proofs.files.read_image.Goals as goal
 
 pub returns-clause-ended : goal.returns-clause-ended
 returns-clause-ended g c =
-    stopped-as c.read_input.result (Image 0) c.args.vol.now.image (Some c.args.vol.now.image) (λ devices. world_of g.H.Host c.args.host.now devices) (λ devices. world_of g.H.Host c.read_input.new.host devices) (vol_file_name c.args.vol.now) refl refl c.read_input.ensures.ended
+    stopped-as c.read_input.result (Image 0) c.args.vol.now.image (Some c.args.vol.now.image)
+    (λ devices. world_of g.H.Host c.args.host.now devices) (λ devices. world_of g.H.Host c.read_input.new.host
+    devices) (vol_file_name c.args.vol.now) refl refl c.read_input.ensures.ended
 
 pub returns-clause-may : goal.returns-clause-may
 returns-clause-may g c =
-    image-may c.read_input.result c.args.vol.now.image c.args.vol.now.verb (λ devices. world_of g.H.Host c.args.host.now devices) (λ devices. world_of g.H.Host c.read_input.new.host devices) c.requires c.read_input.ensures.ended
+    image-may c.read_input.result c.args.vol.now.image c.args.vol.now.verb (λ devices. world_of g.H.Host
+    c.args.host.now devices) (λ devices. world_of g.H.Host c.read_input.new.host devices) c.requires
+    c.read_input.ensures.ended
 
 pub returns-clause-noted : goal.returns-clause-noted
 returns-clause-noted g c =

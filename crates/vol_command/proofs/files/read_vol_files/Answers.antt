@@ -39,12 +39,15 @@ pub returns-in_err-file-clause-noted : goal.returns-in_err-file-clause-noted
 returns-in_err-file-clause-noted g c =
     let vol = c.args.vol.now in
     let gave = err_from_is_err_and c.from_residual-in_err-file.result c.from_residual-in_err-file.ensures.1 in
-    rw (gave.1, gave.2, inputs-are vol.verb vol c.requires.image) (stop-behind (vol_file_name vol) _ _ _ (vol.image ∷ []) (file_names vol.verb vol) _ c.in_ok-image.ensures.noted c.in_err-file.ensures.noted)
+    rw (gave.1, gave.2, inputs-are vol.verb vol c.requires.image) (stop-behind (vol_file_name vol) _ _ _
+    (vol.image ∷ []) (file_names vol.verb vol) _ c.in_ok-image.ensures.noted c.in_err-file.ensures.noted)
 
 pub returns-clause-contents : goal.returns-clause-contents
 returns-clause-contents g c =
     let vol = c.args.vol.now in
-    let file = subst (λ told. IfSome told (λ files. vol.verb ≡ Put → c.in_ok-file.file.items ≡ file_contents files (file_of vol))) (ap (λ (w : World). w.files) (c.in_ok-image.ensures.kept (record { drives = []; terms = [] }))) c.in_ok-file.ensures.contents in
+    let file = subst (λ told. IfSome told (λ files. vol.verb ≡ Put → c.in_ok-file.file.items ≡ file_contents files
+    (file_of vol))) (ap (λ (w : World). w.files) (c.in_ok-image.ensures.kept
+    (record { drives = []; terms = [] }))) c.in_ok-file.ensures.contents in
     has-both vol _ _ c.in_ok-image.ensures.contents file
 
 pub returns-clause-kept : goal.returns-clause-kept

@@ -18,4 +18,6 @@ returns-in-Ok-clause-noted g c =
 
 pub returns-in-Err-clause-noted : goal.returns-in-Err-clause-noted
 returns-in-Err-clause-noted g c =
-    subst (λ (notes : Notes). NotesOutputs c.args.vol.now c.in-Err.end (notes_of g.H.Host c.args.host.now) notes) (sym c.in-Err.ensures.notes_kept) (noted-print c.args.vol.now c.printed.result.now c.in-Err.end _ _ (notes_of g.H.Host c.args.host.now) (c.in-Err.ensures.printed (record { drives = []; terms = [] })))
+    subst (λ (notes : Notes). NotesOutputs c.args.vol.now c.in-Err.end (notes_of g.H.Host c.args.host.now) notes)
+    (sym c.in-Err.ensures.notes_kept) (noted-print c.args.vol.now c.printed.result.now c.in-Err.end _ _
+    (notes_of g.H.Host c.args.host.now) (c.in-Err.ensures.printed (record { drives = []; terms = [] })))

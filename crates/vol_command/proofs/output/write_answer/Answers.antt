@@ -26,4 +26,5 @@ returns-in-Err-Failed-clause-noted g c =
 
 pub returns-in-Err-OutOfMemory-clause-noted : goal.returns-in-Err-OutOfMemory-clause-noted
 returns-in-Err-OutOfMemory-clause-noted g c =
-    noted-wanting c.args.vol.now c.word.result.now (outputs-get c.args.vol.now c.word.result.now c.word.ensures c.requires.verb) _ _ (rw c.in-Err-OutOfMemory.field-0-is at c.in-Err-OutOfMemory.ensures.noted)
+    noted-wanting c.args.vol.now c.word.result.now (outputs-get c.args.vol.now c.word.result.now c.word.ensures
+    c.requires.verb) _ _ (rw c.in-Err-OutOfMemory.field-0-is at c.in-Err-OutOfMemory.ensures.noted)

@@ -18,12 +18,16 @@ write_image-requires g c = writes-image c.args.vol.now.verb c.in_default.not-Dir
 pub returns-in-Get-clause-wrote : goal.returns-in-Get-clause-wrote
 returns-in-Get-clause-wrote g c devices =
     let made = c.args.made.now in
-    subst (λ (answer : List ℕ). WritesMade c.args.vol.now answer made.image.items c.write_answer.result (world_of g.H.Host c.args.host.now devices) (world_of g.H.Host c.write_answer.new.host devices)) c.deref.ensures.value (c.write_answer.ensures.wrote devices made.image.items)
+    subst (λ (answer : List ℕ). WritesMade c.args.vol.now answer made.image.items c.write_answer.result
+    (world_of g.H.Host c.args.host.now devices) (world_of g.H.Host c.write_answer.new.host devices))
+    c.deref.ensures.value (c.write_answer.ensures.wrote devices made.image.items)
 
 pub returns-in_default : goal.returns-in_default
 returns-in_default g c =
     let made = c.args.made.now in
     record {
-      wrote = λ devices. subst (λ (image : List ℕ). WritesMade c.args.vol.now made.answer.items image c.write_image.result (world_of g.H.Host c.args.host.now devices) (world_of g.H.Host c.write_image.new.host devices)) c.deref-in_default.ensures.value (c.write_image.ensures.wrote devices made.answer.items);
+      wrote = λ devices. subst (λ (image : List ℕ). WritesMade c.args.vol.now made.answer.items image
+          c.write_image.result (world_of g.H.Host c.args.host.now devices) (world_of g.H.Host c.write_image.new.host
+          devices)) c.deref-in_default.ensures.value (c.write_image.ensures.wrote devices made.answer.items);
       noted = c.write_image.ensures.noted;
     }

@@ -36,7 +36,9 @@ returns-in_err-opened-clause-answer g c now v on =
     let p = err_from_is_err_and c.from_residual-in_err-opened.result c.from_residual-in_err-opened.ensures.1 in
     rw (p.1, p.2)
     (opening_ended (Unit {0}) (λ _. []) (record { tool = list_tool c.args.path.now; now = now }) v _ on _ _ Directory c.in_err-opened.field-0.0 c.in_err-opened.ensures.media_kept
-    (ap (reading_number v (is_of_kind Directory)) (sym c.in_ok-names.ensures ∙ ap (option_map (λ names. names.items)) c.in-Some.is)) (opening_as v _ _ Directory (Err c.in_err-opened.field-0.0) c.deref.ensures.value (c.in_err-opened.ensures.answer v on)))
+    (ap (reading_number v (is_of_kind Directory)) (sym c.in_ok-names.ensures ∙ ap (option_map (λ names. names.items))
+    c.in-Some.is)) (opening_as v _ _ Directory (Err c.in_err-opened.field-0.0) c.deref.ensures.value
+    (c.in_err-opened.ensures.answer v on)))
 
 pub returns-in_err-contents-clause-answer : goal.returns-in_err-contents-clause-answer
 returns-in_err-contents-clause-answer g c now v on =
@@ -44,7 +46,9 @@ returns-in_err-contents-clause-answer g c now v on =
     let it : IsOpened v c.in-Some.names.items Directory c.in_ok-opened.opened = opening_as v _ _ Directory (Ok c.in_ok-opened.opened) c.deref.ensures.value (c.in_ok-opened.ensures.answer v on) in
     let here = still _ _ v c.in_ok-opened.ensures.media_kept on in
     rw (p.1, p.2)
-    (reading_ended (Unit {0}) (λ _. []) (record { tool = list_tool c.args.path.now; now = now }) v _ on _ (Unit {0}) (λ _. Unit {0}) c.in_err-contents.field-0.0 (c.in_err-contents.ensures.media_kept ∙ c.in_ok-opened.ensures.media_kept)
+    (reading_ended (Unit {0}) (λ _. []) (record { tool = list_tool c.args.path.now; now = now }) v _ on _ (Unit {0})
+    (λ _. Unit {0}) c.in_err-contents.field-0.0 (c.in_err-contents.ensures.media_kept ∙
+    c.in_ok-opened.ensures.media_kept)
     (error_bytes (Unit {0}) (Unit {0}) (λ _. Unit {0}) (λ _. Unit {0}) c.in_err-contents.field-0.0 (c.in_err-contents.ensures.bytes v it.file here it.there)))
 
 pub returns-in_err-contents-clause-fault : goal.returns-in_err-contents-clause-fault
@@ -69,7 +73,9 @@ returns-clause-answer g c now v on =
     let are = sym c.in_ok-names.ensures ∙ ap (option_map (λ names. names.items)) c.in-Some.is in
     let kept = c.entry_lines.ensures.media_kept ∙ c.in_ok-contents.ensures.media_kept ∙ c.in_ok-opened.ensures.media_kept in
     last_reads _ _ (record { tool = list_tool c.args.path.now; now = now }) v _ _ _ on kept
-    (λ lines same. listed v c.args.path.now now _ _ _ kept on are c.in_ok-opened.opened it _ (same ∙ ap (λ xs. lines_of v (drop 2 (directory_entries xs))) (c.deref-2.ensures.value ∙ c.in_ok-contents.ensures.bytes v it.file here it.there)))
+    (λ lines same. listed v c.args.path.now now _ _ _ kept on are c.in_ok-opened.opened it _
+    (same ∙ ap (λ xs. lines_of v (drop 2 (directory_entries xs)))
+    (c.deref-2.ensures.value ∙ c.in_ok-contents.ensures.bytes v it.file here it.there)))
     _ (c.entry_lines.ensures.lines v there)
 
 pub returns-clause-fault : goal.returns-clause-fault

@@ -29,4 +29,5 @@ returns-in_err-file-clause-fault g c =
 pub returns-clause-line : goal.returns-clause-line
 returns-clause-line g c v on =
     let used = sym c.is_used.ensures ∙ c.if-not-is_used.false in
-    used_line _ v on c.args.entry.now c.args.lines.now.items _ (c.requires.file used) c.in_ok-file.file c.read_entry.result.lsn used c.read_entry.ensures.lsn c.in_ok-file.ensures.ok c.in_ok-push_line.ensures
+    used_line _ v on c.args.entry.now c.args.lines.now.items _ (c.requires.file used) c.in_ok-file.file
+    c.read_entry.result.lsn used c.read_entry.ensures.lsn c.in_ok-file.ensures.ok c.in_ok-push_line.ensures

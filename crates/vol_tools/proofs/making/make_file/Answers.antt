@@ -15,14 +15,18 @@ use Rattle.vol_tools.proofs.making.make_file.Goals as goal
 pub returns-in_err-dir-clause-answer : goal.returns-in_err-dir-clause-answer
 returns-in_err-dir-clause-answer g c path v place on =
     let p = err_from_is_err_and c.from_residual.result c.from_residual.ensures.1 in
-    rw (p.1, p.2) (way-refuses (new_file c.args.now) path c.args.place.now place v _ _ c.in_err-dir.field-0.0 c.in_err-dir.ensures.media_kept on (way_as v _ _ (Err c.in_err-dir.field-0.0) c.deref.ensures.value (c.in_err-dir.ensures.answer v on)))
+    rw (p.1, p.2) (way-refuses (new_file c.args.now) path c.args.place.now place v _ _ c.in_err-dir.field-0.0
+    c.in_err-dir.ensures.media_kept on (way_as v _ _ (Err c.in_err-dir.field-0.0) c.deref.ensures.value
+    (c.in_err-dir.ensures.answer v on)))
 
 pub returns-in_err-n-clause-answer : goal.returns-in_err-n-clause-answer
 returns-in_err-n-clause-answer g c path v place on =
     let p = err_from_is_err_and c.from_residual-in_err-n.result c.from_residual-in_err-n.ensures.1 in
     let there = file_in _ c.in_ok-dir.dir c.in_ok-dir.ensures.file v on in
     rw (p.1, p.2)
-    (entry-refuses (new_file c.args.now) path c.args.place.now place v c.in_ok-dir.dir _ there (way_as v _ _ (Ok c.in_ok-dir.dir) c.deref.ensures.value (c.in_ok-dir.ensures.answer v on)) refl _ _ _ c.in_ok-dir.ensures.media_kept on c.in_err-n.field-0.0
+    (entry-refuses (new_file c.args.now) path c.args.place.now place v c.in_ok-dir.dir _ there
+    (way_as v _ _ (Ok c.in_ok-dir.dir) c.deref.ensures.value (c.in_ok-dir.ensures.answer v on)) refl _ _ _
+    c.in_ok-dir.ensures.media_kept on c.in_err-n.field-0.0
     (c.in_err-n.ensures.answer v _ (still _ _ v c.in_ok-dir.ensures.media_kept on) there))
 
 pub returns-in_err-n-clause-fault : goal.returns-in_err-n-clause-fault
@@ -36,7 +40,9 @@ returns-in_err-n-clause-fault g c =
 pub returns-clause-answer : goal.returns-clause-answer
 returns-clause-answer g c path v place on =
     let there = file_in _ c.in_ok-dir.dir c.in_ok-dir.ensures.file v on in
-    entered (new_file c.args.now) path c.args.place.now place v c.in_ok-dir.dir _ there (way_as v _ _ (Ok c.in_ok-dir.dir) c.deref.ensures.value (c.in_ok-dir.ensures.answer v on)) refl _ _ _ c.in_ok-dir.ensures.media_kept on c.in_ok-n.n
+    entered (new_file c.args.now) path c.args.place.now place v c.in_ok-dir.dir _ there
+    (way_as v _ _ (Ok c.in_ok-dir.dir) c.deref.ensures.value (c.in_ok-dir.ensures.answer v on)) refl _ _ _
+    c.in_ok-dir.ensures.media_kept on c.in_ok-n.n
     (c.in_ok-n.ensures.answer v _ (still _ _ v c.in_ok-dir.ensures.media_kept on) there)
 
 pub returns-clause-data : goal.returns-clause-data
@@ -79,4 +85,6 @@ returns-clause-others g c path place =
     let there = file_in _ c.in_ok-dir.dir c.in_ok-dir.ensures.file v c.requires.on in
     let here = still _ _ v c.in_ok-dir.ensures.media_kept c.requires.on in
     let way = way_as v _ _ (Ok c.in_ok-dir.dir) c.deref.ensures.value (c.in_ok-dir.ensures.answer v c.requires.on) in
-    tail_from (KeepsOthers path) _ _ _ c.in_ok-dir.ensures.media_kept (entered-others path v _ _ here _ _ there c.in_ok-n.n (c.in_ok-n.ensures.answer v _ here there) (leads-to v path c.args.place.now c.in_ok-dir.dir place.is way))
+    tail_from (KeepsOthers path) _ _ _ c.in_ok-dir.ensures.media_kept (entered-others path v _ _ here _ _ there
+    c.in_ok-n.n (c.in_ok-n.ensures.answer v _ here there) (leads-to v path c.args.place.now c.in_ok-dir.dir
+    place.is way))

@@ -73,4 +73,6 @@ returns-clause-others g c path place image now was is =
     let here : first.after.files n ≡ Some there.0 = subst (λ (u : DiskVolume). u.files n ≡ Some there.0) same there.1 in
     let both = made.enters.both in
     let write : Laying = record { number = n; at = 0; bytes = c.args.bytes.now; now = c.args.now } in
-    written-others path write _ _ image has.on.image now has.on.is is first kept.first (absent image first.before first.was n _ both.file both.made) there.0 (c.in_ok-write_at.ensures.answer first.after there.0 after here)
+    written-others path write _ _ image has.on.image now has.on.is is first kept.first
+    (absent image first.before first.was n _ both.file both.made) there.0 (c.in_ok-write_at.ensures.answer
+    first.after there.0 after here)

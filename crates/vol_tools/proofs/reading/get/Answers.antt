@@ -34,7 +34,9 @@ returns-in_err-opened-clause-answer g c now v on =
     let p = err_from_is_err_and c.from_residual-in_err-opened.result c.from_residual-in_err-opened.ensures.1 in
     rw (p.1, p.2)
     (opening_ended (Unit {0}) (λ _. []) (record { tool = get_tool c.args.path.now; now = now }) v _ on _ _ File c.in_err-opened.field-0.0 c.in_err-opened.ensures.media_kept
-    (ap (reading_number v (is_of_kind File)) (sym c.in_ok-names.ensures ∙ ap (option_map (λ names. names.items)) c.in-Some.is)) (opening_as v _ _ File (Err c.in_err-opened.field-0.0) c.deref.ensures.value (c.in_err-opened.ensures.answer v on)))
+    (ap (reading_number v (is_of_kind File)) (sym c.in_ok-names.ensures ∙ ap (option_map (λ names. names.items))
+    c.in-Some.is)) (opening_as v _ _ File (Err c.in_err-opened.field-0.0) c.deref.ensures.value
+    (c.in_err-opened.ensures.answer v on)))
 
 pub returns-clause-answer : goal.returns-clause-answer
 returns-clause-answer g c now v on =

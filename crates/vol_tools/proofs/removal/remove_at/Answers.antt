@@ -15,7 +15,9 @@ use Rattle.vol_tools.proofs.removal.remove_at.Goals as goal
 pub returns-in_err-dir-clause-answer : goal.returns-in_err-dir-clause-answer
 returns-in_err-dir-clause-answer g c path now place v on =
     let p = err_from_is_err_and c.from_residual.result c.from_residual.ensures.1 in
-    rw (p.1, p.2) (way-refuses path now v c.args.place.now place _ _ c.in_err-dir.field-0.0 c.in_err-dir.ensures.media_kept on (way_as v _ _ (Err c.in_err-dir.field-0.0) c.deref.ensures.value (c.in_err-dir.ensures.answer v on)))
+    rw (p.1, p.2) (way-refuses path now v c.args.place.now place _ _ c.in_err-dir.field-0.0
+    c.in_err-dir.ensures.media_kept on (way_as v _ _ (Err c.in_err-dir.field-0.0) c.deref.ensures.value
+    (c.in_err-dir.ensures.answer v on)))
 
 pub returns-in_err-delete-clause-answer : goal.returns-in_err-delete-clause-answer
 returns-in_err-delete-clause-answer g c path now place v on =
@@ -23,7 +25,9 @@ returns-in_err-delete-clause-answer g c path now place v on =
     let there = file_in _ c.in_ok-dir.dir c.in_ok-dir.ensures.file v on in
     let here = still _ _ v c.in_ok-dir.ensures.media_kept on in
     rw (p.1, p.2)
-    (deletion-refuses path now v c.args.place.now place c.in_ok-dir.dir _ there (way_as v _ _ (Ok c.in_ok-dir.dir) c.deref.ensures.value (c.in_ok-dir.ensures.answer v on)) _ _ _ c.in_ok-dir.ensures.media_kept on c.in_err-delete.field-0.0
+    (deletion-refuses path now v c.args.place.now place c.in_ok-dir.dir _ there (way_as v _ _ (Ok c.in_ok-dir.dir)
+    c.deref.ensures.value (c.in_ok-dir.ensures.answer v on)) _ _ _ c.in_ok-dir.ensures.media_kept on
+    c.in_err-delete.field-0.0
     (c.in_err-delete.ensures.answer v _ here there) (c.in_err-delete.ensures.fault v here) c.in_err-delete.ensures.refused)
 
 pub returns-in_err-delete-clause-fault : goal.returns-in_err-delete-clause-fault
@@ -39,7 +43,8 @@ pub returns-clause-answer : goal.returns-clause-answer
 returns-clause-answer g c path now place v on =
     let there = file_in _ c.in_ok-dir.dir c.in_ok-dir.ensures.file v on in
     let here = still _ _ v c.in_ok-dir.ensures.media_kept on in
-    deleted path now v c.args.place.now place c.in_ok-dir.dir _ there (way_as v _ _ (Ok c.in_ok-dir.dir) c.deref.ensures.value (c.in_ok-dir.ensures.answer v on)) _ _ _ c.in_ok-dir.ensures.media_kept on
+    deleted path now v c.args.place.now place c.in_ok-dir.dir _ there (way_as v _ _ (Ok c.in_ok-dir.dir)
+    c.deref.ensures.value (c.in_ok-dir.ensures.answer v on)) _ _ _ c.in_ok-dir.ensures.media_kept on
     (c.in_ok-delete.ensures.answer v _ here there) (c.in_ok-delete.ensures.ok v here)
 
 pub returns-clause-fault : goal.returns-clause-fault

@@ -12,7 +12,8 @@ pub returns-in_err-n-clause-answer : goal.returns-in_err-n-clause-answer
 returns-in_err-n-clause-answer g c on represents =
     let p = err_from_is_err_and c.from_residual.result c.from_residual.ensures.1 in
     rw (p.1, p.2)
-    (way_stopped on c.root-root.result c.args.names.now c.in_err-n.field-0.0 (root_is c.args.v.now _ c.requires c.root-root.result c.root-root.ensures.volume on represents) (c.in_err-n.ensures.walked on represents))
+    (way_stopped on c.root-root.result c.args.names.now c.in_err-n.field-0.0 (root_is c.args.v.now _ c.requires
+    c.root-root.result c.root-root.ensures.volume on represents) (c.in_err-n.ensures.walked on represents))
 
 pub returns-in_err-n-clause-fault : goal.returns-in_err-n-clause-fault
 returns-in_err-n-clause-fault g c =

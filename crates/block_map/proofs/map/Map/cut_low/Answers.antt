@@ -15,7 +15,9 @@ give_back-requires-clause-once c =
 pub invariant_of-self : goal.invariant_of-self
 invariant_of-self c =
     let low_fits = c.self.invariant.low_fits in
-    IsMap-clear (slots_of c.self.inside.places c.self.inside.low c.self.inside.groups) c.give_back.new.places c.args.n (c.self.inside.low - c.args.n) c.args.n c.self.inside.groups c.self.invariant (omega arith) c.give_back.ensures.cleared c.self.invariant.eight_groups (omega arith) c.self.invariant.group_fits
+    IsMap-clear (slots_of c.self.inside.places c.self.inside.low c.self.inside.groups) c.give_back.new.places c.args.n
+    (c.self.inside.low - c.args.n) c.args.n c.self.inside.groups c.self.invariant (omega arith)
+    c.give_back.ensures.cleared c.self.invariant.eight_groups (omega arith) c.self.invariant.group_fits
 
 pub returns-then-n-self-clause-live : goal.returns-then-n-self-clause-live
 returns-then-n-self-clause-live c =
@@ -32,4 +34,6 @@ returns-then-n-self-clause-live c =
 pub returns-then-n-self-clause-shape : goal.returns-then-n-self-clause-shape
 returns-then-n-self-clause-shape c =
     let low_fits = c.self.invariant.low_fits in
-    IsMap-clear (slots_of c.self.inside.places c.self.inside.low c.self.inside.groups) c.give_back.new.places c.args.n (c.self.inside.low - c.args.n) c.args.n c.self.inside.groups c.self.invariant (omega arith) c.give_back.ensures.cleared c.self.invariant.eight_groups (omega arith) c.self.invariant.group_fits
+    IsMap-clear (slots_of c.self.inside.places c.self.inside.low c.self.inside.groups) c.give_back.new.places c.args.n
+    (c.self.inside.low - c.args.n) c.args.n c.self.inside.groups c.self.invariant (omega arith)
+    c.give_back.ensures.cleared c.self.invariant.eight_groups (omega arith) c.self.invariant.group_fits

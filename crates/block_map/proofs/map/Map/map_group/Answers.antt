@@ -15,7 +15,9 @@ invariant_of-self c =
     let count : length ids ≡ c.args.g.now.len = grind (arith, common_steps) in
     let named : c.name_shared.new.places ≡ filled_places ids = grind (arith, common_steps) in
     let unnamed = subst (λ (slots : Slots BlockId). All (λ id. NamesBlock slots id → ⊥) ids) (sym c.self.view_is) c.requires.may.unnamed in
-    IsMap-group (slots_of c.self.inside.places c.self.inside.low c.self.inside.groups) c.name_shared.new.places ids c.in-Some.slot c.args.g.now.len c.self.invariant c.requires.may.some c.in-Some.ensures.highest.0.0 named count c.requires.may.different unnamed
+    IsMap-group (slots_of c.self.inside.places c.self.inside.low c.self.inside.groups) c.name_shared.new.places ids
+    c.in-Some.slot c.args.g.now.len c.self.invariant c.requires.may.some c.in-Some.ensures.highest.0.0 named count
+    c.requires.may.different unnamed
 
 pub returns-clause-no_slot : goal.returns-clause-no_slot
 returns-clause-no_slot c = (λ same. absurd (cc), λ none. absurd (none c.in-Some.slot (search rules)))
@@ -43,4 +45,6 @@ returns-clause-shape c =
     let count : length ids ≡ c.args.g.now.len = grind (arith, common_steps) in
     let named : c.name_shared.new.places ≡ filled_places ids = grind (arith, common_steps) in
     let unnamed = subst (λ (slots : Slots BlockId). All (λ id. NamesBlock slots id → ⊥) ids) (sym c.self.view_is) c.requires.may.unnamed in
-    IsMap-group (slots_of c.self.inside.places c.self.inside.low c.self.inside.groups) c.name_shared.new.places ids c.in-Some.slot c.args.g.now.len c.self.invariant c.requires.may.some c.in-Some.ensures.highest.0.0 named count c.requires.may.different unnamed
+    IsMap-group (slots_of c.self.inside.places c.self.inside.low c.self.inside.groups) c.name_shared.new.places ids
+    c.in-Some.slot c.args.g.now.len c.self.invariant c.requires.may.some c.in-Some.ensures.highest.0.0 named count
+    c.requires.may.different unnamed

@@ -14,7 +14,8 @@ invariant_of-self c =
     let fits : c.self.inside.low + c.args.n ≤ 8 = (c.is_free_run.ensures.0 (search rules)).0 in
     let many : length c.name_new.new.places ≡ c.self.inside.low + c.args.n - c.self.inside.low = grind (arith, common_steps) in
     let live = subst (λ (slots : Slots BlockId). NamesLiveBlocks slots c.args.pool.now) (sym c.self.view_is) c.requires in
-    IsMap-low (slots_of c.self.inside.places c.self.inside.low c.self.inside.groups) c.name_new.new.places c.args.n c.args.pool.now c.name_new.new.pool c.self.invariant fits many live c.name_new.ensures
+    IsMap-low (slots_of c.self.inside.places c.self.inside.low c.self.inside.groups) c.name_new.new.places c.args.n
+    c.args.pool.now c.name_new.new.pool c.self.invariant fits many live c.name_new.ensures
 
 pub returns-clause-live : goal.returns-clause-live
 returns-clause-live c =
@@ -34,7 +35,8 @@ returns-clause-shape c =
     let fits : c.self.inside.low + c.args.n ≤ 8 = (c.is_free_run.ensures.0 (search rules)).0 in
     let many : length c.name_new.new.places ≡ c.self.inside.low + c.args.n - c.self.inside.low = grind (arith, common_steps) in
     let live = subst (λ (slots : Slots BlockId). NamesLiveBlocks slots c.args.pool.now) (sym c.self.view_is) c.requires in
-    IsMap-low (slots_of c.self.inside.places c.self.inside.low c.self.inside.groups) c.name_new.new.places c.args.n c.args.pool.now c.name_new.new.pool c.self.invariant fits many live c.name_new.ensures
+    IsMap-low (slots_of c.self.inside.places c.self.inside.low c.self.inside.groups) c.name_new.new.places c.args.n
+    c.args.pool.now c.name_new.new.pool c.self.invariant fits many live c.name_new.ensures
 
 pub returns-clause-pool : goal.returns-clause-pool
 returns-clause-pool c = IsPool-new c.name_new.new.places c.args.pool.now c.name_new.new.pool c.name_new.ensures

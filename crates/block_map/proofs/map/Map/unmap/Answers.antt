@@ -20,7 +20,10 @@ invariant_of-self c =
     let eight_groups = c.self.invariant.eight_groups in
     let fits : first + c.in-Some.len ≤ 8 = c.self.invariant.group_fits first c.in-Some.len (search rules) in
     let within : first < 8 = omega (arith, group-within groups first c.in-Some.len (search rules)) in
-    IsMap-clear (slots_of c.self.inside.places c.self.inside.low groups) c.give_back.new.places first (first + c.in-Some.len - first) c.self.inside.low (set groups first None) c.self.invariant (omega arith) c.give_back.ensures.cleared (length-set groups first None ∙ eight_groups) c.self.invariant.low_fits (GroupsFit-clear groups first eight_groups within c.self.invariant.group_fits)
+    IsMap-clear (slots_of c.self.inside.places c.self.inside.low groups) c.give_back.new.places first
+    (first + c.in-Some.len - first) c.self.inside.low (set groups first None) c.self.invariant (omega arith)
+    c.give_back.ensures.cleared (length-set groups first None ∙ eight_groups) c.self.invariant.low_fits
+    (GroupsFit-clear groups first eight_groups within c.self.invariant.group_fits)
 
 pub returns-in-Some-clause-live : goal.returns-in-Some-clause-live
 returns-in-Some-clause-live c =
@@ -41,4 +44,7 @@ returns-in-Some-clause-shape c =
     let eight_groups = c.self.invariant.eight_groups in
     let fits : first + c.in-Some.len ≤ 8 = c.self.invariant.group_fits first c.in-Some.len (search rules) in
     let within : first < 8 = omega (arith, group-within groups first c.in-Some.len (search rules)) in
-    IsMap-clear (slots_of c.self.inside.places c.self.inside.low groups) c.give_back.new.places first (first + c.in-Some.len - first) c.self.inside.low (set groups first None) c.self.invariant (omega arith) c.give_back.ensures.cleared (length-set groups first None ∙ eight_groups) c.self.invariant.low_fits (GroupsFit-clear groups first eight_groups within c.self.invariant.group_fits)
+    IsMap-clear (slots_of c.self.inside.places c.self.inside.low groups) c.give_back.new.places first
+    (first + c.in-Some.len - first) c.self.inside.low (set groups first None) c.self.invariant (omega arith)
+    c.give_back.ensures.cleared (length-set groups first None ∙ eight_groups) c.self.invariant.low_fits
+    (GroupsFit-clear groups first eight_groups within c.self.invariant.group_fits)

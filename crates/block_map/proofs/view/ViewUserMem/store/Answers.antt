@@ -27,7 +27,10 @@ pieces-preserved c =
     let back : done + count - done ≡ count = omega arith in
     let stores : IsTrue c.store_slice.result = c.store_slice.ensures.always.1 (live, omega (arith, long, c.piece_len-count.ensures.slot)) in
     record {
-      stored = MatchBool-at_true _ ⊤ stores c.store_slice.ensures.stored ∙ ap (λ n. store_cells (map_cells before.map.now before.pool.now) (at + done) (take n (drop done bytes))) back ∙ ap (λ cells. store_cells cells (at + done) (take count (drop done bytes))) c.pieces.invariant.stored ∙ stored_more cells at bytes done count c.pieces.invariant.within;
+      stored = MatchBool-at_true _ ⊤ stores c.store_slice.ensures.stored ∙ ap
+          (λ n. store_cells (map_cells before.map.now before.pool.now) (at + done) (take n (drop done bytes))) back ∙
+          ap (λ cells. store_cells cells (at + done) (take count (drop done bytes))) c.pieces.invariant.stored ∙
+          stored_more cells at bytes done count c.pieces.invariant.within;
       beside = SameBeside-then first before c.store_slice.new.self c.pieces.invariant.beside c.store_slice.ensures.beside;
       within = omega (arith, c.piece_len-count.ensures.few);
     }

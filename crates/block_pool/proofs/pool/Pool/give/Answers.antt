@@ -14,7 +14,9 @@ invariant_of-self c =
     let room = IsFreeList-room counts c.self.inside.free.items c.args.id live c.self.invariant.free_list in
     record {
       pool = search rules;
-      free_list = IsFreeList-given counts c.self.inside.free.items c.push.new.self.items c.args.id _ (omega (arith, c.index_mut-count.ensures.value)) (omega arith) (c.push.ensures.items ∙ cond-true _ _ _ (c.push.ensures.succeeds (omega arith))) c.self.invariant.free_list;
+      free_list = IsFreeList-given counts c.self.inside.free.items c.push.new.self.items c.args.id _
+          (omega (arith, c.index_mut-count.ensures.value)) (omega arith) (c.push.ensures.items ∙ cond-true _ _ _
+          (c.push.ensures.succeeds (omega arith))) c.self.invariant.free_list;
       room = grind (arith, common_steps);
     }
 

@@ -5,7 +5,8 @@ use Rattle.console_run.proofs.sure_keyboard.SureKeyboardKeyboard.line.Goals as g
 pub returns-clause-first : goal.returns-clause-first
 returns-clause-first c =
     ap Some (c.in_ok-line.ensures.items ∙ c.as_slice.ensures.value)
-    ∙ sym (next-line (λ line. line.items) c.args.self.now.lines.items c.args.self.now.given _ c.index-line.result.now (omega (arith, c.len.ensures, c.if-self-len.false, c.args.self.now.lines.ok.0)) c.index-line.ensures)
+    ∙ sym (next-line (λ line. line.items) c.args.self.now.lines.items c.args.self.now.given _ c.index-line.result.now
+    (omega (arith, c.len.ensures, c.if-self-len.false, c.args.self.now.lines.ok.0)) c.index-line.ensures)
 
 pub returns-clause-rest : goal.returns-clause-rest
 returns-clause-rest c = ap Some (drop-next (map (λ line. line.items) c.args.self.now.lines.items) c.args.self.now.given)

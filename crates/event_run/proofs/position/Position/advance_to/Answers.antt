@@ -17,7 +17,9 @@ turn-requires-clause-going g c =
 
 pub turns-preserved : goal.turns-preserved
 turns-preserved g c = record {
-  so_far = gone-more c.args.k c.args.slices.now c.args.self.now c.turns.self _ _ c.turns.invariant.so_far c.find_event.new.self c.turn.new.self _ _ (rw c.in-Ok-Event.field-0-is at c.in-Ok-Event.ensures.found) c.in-Ok.ensures.turn;
+  so_far = gone-more c.args.k c.args.slices.now c.args.self.now c.turns.self _ _ c.turns.invariant.so_far
+      c.find_event.new.self c.turn.new.self _ _ (rw c.in-Ok-Event.field-0-is at c.in-Ok-Event.ensures.found)
+      c.in-Ok.ensures.turn;
   terminals = c.turn.ensures.terminals ∙ c.find_event.ensures.terminals ∙ c.turns.invariant.terminals;
   drives = c.turn.ensures.drives ∙ c.find_event.ensures.drives ∙ c.turns.invariant.drives;
 }

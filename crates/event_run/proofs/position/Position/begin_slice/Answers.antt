@@ -26,7 +26,8 @@ returns-then-has_events-clause-begun g c =
     let (ticked, ticks, there) = c.tick.ensures.tick.step (rw c.in-Ok.is refl) s tied in
     let (t, chooses, now, who) = c.choose-chosen.ensures.step _ ticked there in
     begun-in c.args.n c.args.self.now c.choose-chosen.new.self _ _
-    (λ s tied. (let (ticked, ticks, there) = c.tick.ensures.tick.step (rw c.in-Ok.is refl) s tied in let (t, chooses, now, who) = c.choose-chosen.ensures.step _ ticked there in (ticked, t, ticks, chooses, now)))
+    (λ s tied. (let (ticked, ticks, there) = c.tick.ensures.tick.step (rw c.in-Ok.is refl) s tied in let
+    (t, chooses, now, who) = c.choose-chosen.ensures.step _ ticked there in (ticked, t, ticks, chooses, now)))
     (c.choose-chosen.ensures.count ∙ c.tick.ensures.tick.count) c.requires.between p.0
     (λ s other. chosen-any c.choose-chosen.new.self _ t s now other ∙ sym who ∙ ap (option_map (λ (p : Pid). p.0)) is)
     yes.1 c.choose-chosen.ensures.executed (search rules) c.requires.stands
@@ -42,7 +43,8 @@ returns-clause-begun g c =
       | inr none ↦ inr none
     ] in
     begun-idle c.args.n c.args.self.now c.choose-chosen.new.self _ _
-    (λ s tied. (let (ticked, ticks, there) = c.tick.ensures.tick.step (rw c.in-Ok.is refl) s tied in let (t, chooses, now, who) = c.choose-chosen.ensures.step _ ticked there in (ticked, t, ticks, chooses, now)))
+    (λ s tied. (let (ticked, ticks, there) = c.tick.ensures.tick.step (rw c.in-Ok.is refl) s tied in let
+    (t, chooses, now, who) = c.choose-chosen.ensures.step _ ticked there in (ticked, t, ticks, chooses, now)))
     (c.choose-chosen.ensures.count ∙ c.tick.ensures.tick.count) c.requires.between
     (λ s other. elim none [
       | inl none ↦ inl (chosen-any c.choose-chosen.new.self _ t s now other ∙ none)

@@ -23,7 +23,9 @@ returns-then-living-eq0-clause-found g c =
 pub returns-in-Ok-Event-clause-found : goal.returns-in-Ok-Event-clause-found
 returns-in-Ok-Event-clause-found g c =
     found-busy c.args.slices.now c.args.self.now c.loop-index.index c.loop-index.self _ _ c.loop-index.invariant.so_far _ c.begin_slice.new.self _
-    (begins-with _ c.args.slices.now c.loop-index.self _ c.loop-index.index c.loop-index.invariant.so_far.begun (slice_get-get_or c.args.slices.now c.loop-index.index 0 (search rules)) (λ s tied none. c.if-living-eq0.false (c.living.ensures _ s tied ∙ none)))
+    (begins-with _ c.args.slices.now c.loop-index.self _ c.loop-index.index c.loop-index.invariant.so_far.begun
+    (slice_get-get_or c.args.slices.now c.loop-index.index 0 (search rules)) (λ s tied none. c.if-living-eq0.false
+    (c.living.ensures _ s tied ∙ none)))
     (rw c.in-Ok-Event.field-0-is at c.in-Ok-Event.ensures.begun)
 
 pub returns-in-Err-clause-found : goal.returns-in-Err-clause-found
@@ -34,7 +36,9 @@ pub loop-index-preserved : goal.loop-index-preserved
 loop-index-preserved g c = record {
   so_far =
       found-idle c.args.slices.now c.args.self.now c.loop-index.index c.loop-index.self _ _ c.loop-index.invariant.so_far _ c.begin_slice.new.self _
-      (begins-with _ c.args.slices.now c.loop-index.self _ c.loop-index.index c.loop-index.invariant.so_far.begun (slice_get-get_or c.args.slices.now c.loop-index.index 0 (search rules)) (λ s tied none. c.if-living-eq0.false (c.living.ensures _ s tied ∙ none)))
+      (begins-with _ c.args.slices.now c.loop-index.self _ c.loop-index.index c.loop-index.invariant.so_far.begun
+      (slice_get-get_or c.args.slices.now c.loop-index.index 0 (search rules))
+      (λ s tied none. c.if-living-eq0.false (c.living.ensures _ s tied ∙ none)))
       (rw c.in-Ok-End.field-0-is at c.in-Ok-End.ensures.begun);
   terminals = c.begin_slice.ensures.terminals ∙ c.loop-index.invariant.terminals;
   drives = c.begin_slice.ensures.drives ∙ c.loop-index.invariant.drives;

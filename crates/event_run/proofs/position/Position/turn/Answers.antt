@@ -18,7 +18,9 @@ unwrap-process-requires g c =
 pub overflow_add-self : goal.overflow_add-self
 overflow_add-self g c =
     let room = c.most-most.ensures.events in
-    let events = events-few c.turn-turn.result.count c.events_of.result (c.args.k - c.args.self.now.events) c.events_of.ensures.instructions c.events_of.ensures.other (omega (arith, c.requires.before)) (omega (arith, c.turn-turn.ensures.turn.few, room)) in
+    let events = events-few c.turn-turn.result.count c.events_of.result (c.args.k - c.args.self.now.events)
+    c.events_of.ensures.instructions c.events_of.ensures.other (omega (arith, c.requires.before))
+    (omega (arith, c.turn-turn.ensures.turn.few, room)) in
     let fits : c.args.k < 2 ^ 64 = search rules in
     omega (arith, events, fits, c.requires.before)
 

@@ -6,14 +6,20 @@ use Rattle.file_drives.proofs.disks.Disks.fd.Goals as goal
 
 pub fd_in_box-requires : goal.fd_in_box-requires
 fd_in_box-requires g c =
-    file-on _ c.self.inside.volumes.items c.args.self.now c.args.devices.now.drives.items c.args.place c.index_mut.result.now c.index_mut-2.result.now c.self.view_is c.self.invariant c.index_mut.ensures.value c.index_mut-2.ensures.value c.requires.file
+    file-on _ c.self.inside.volumes.items c.args.self.now c.args.devices.now.drives.items c.args.place
+    c.index_mut.result.now c.index_mut-2.result.now c.self.view_is c.self.invariant c.index_mut.ensures.value
+    c.index_mut-2.ensures.value c.requires.file
 
 pub returns-clause-ok : goal.returns-clause-ok
 returns-clause-ok g c =
-    on-disks _ c.self.inside.volumes.items c.args.self.now c.args.devices.now.drives.items c.args.place c.index_mut.result.now c.index_mut-2.result.now c.self.view_is c.self.invariant c.index_mut.ensures.value c.index_mut-2.ensures.value c.requires.file
+    on-disks _ c.self.inside.volumes.items c.args.self.now c.args.devices.now.drives.items c.args.place
+    c.index_mut.result.now c.index_mut-2.result.now c.self.view_is c.self.invariant c.index_mut.ensures.value
+    c.index_mut-2.ensures.value c.requires.file
     (λ v file. IfOk c.fd_in_box.result (IsFdOf file)) c.fd_in_box.ensures.ok
 
 pub returns-clause-drive : goal.returns-clause-drive
 returns-clause-drive g c =
-    reads-file _ c.self.inside.volumes.items c.args.self.now c.args.devices.now.drives.items c.args.place c.index_mut.result.now c.index_mut-2.result.now c.self.view_is c.self.invariant c.index_mut.ensures.value c.index_mut-2.ensures.value c.requires.file
+    reads-file _ c.self.inside.volumes.items c.args.self.now c.args.devices.now.drives.items c.args.place
+    c.index_mut.result.now c.index_mut-2.result.now c.self.view_is c.self.invariant c.index_mut.ensures.value
+    c.index_mut-2.ensures.value c.requires.file
     (file_fault c.fd_in_box.result) (λ v file. 1) c.fd_in_box.new.kept c.fd_in_box.new.driver (record { holds = λ v file agrees there. c.fd_in_box.ensures.drive })

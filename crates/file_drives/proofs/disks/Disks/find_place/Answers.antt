@@ -6,19 +6,29 @@ use Rattle.file_drives.proofs.disks.Disks.find_place.Goals as goal
 
 pub find_place_in_box-requires : goal.find_place_in_box-requires
 find_place_in_box-requires g c =
-    file-on _ c.self.inside.volumes.items c.args.self.now c.args.devices.now.drives.items c.args.dir c.index_mut.result.now c.index_mut-2.result.now c.self.view_is c.self.invariant c.index_mut.ensures.value c.index_mut-2.ensures.value c.requires.file
+    file-on _ c.self.inside.volumes.items c.args.self.now c.args.devices.now.drives.items c.args.dir
+    c.index_mut.result.now c.index_mut-2.result.now c.self.view_is c.self.invariant c.index_mut.ensures.value
+    c.index_mut-2.ensures.value c.requires.file
 
 pub returns-clause-answer : goal.returns-clause-answer
 returns-clause-answer g c =
-    on-disks _ c.self.inside.volumes.items c.args.self.now c.args.devices.now.drives.items c.args.dir c.index_mut.result.now c.index_mut-2.result.now c.self.view_is c.self.invariant c.index_mut.ensures.value c.index_mut-2.ensures.value c.requires.file
+    on-disks _ c.self.inside.volumes.items c.args.self.now c.args.devices.now.drives.items c.args.dir
+    c.index_mut.result.now c.index_mut-2.result.now c.self.view_is c.self.invariant c.index_mut.ensures.value
+    c.index_mut-2.ensures.value c.requires.file
     (λ v file. AnswersPlace file c.args.name.now c.args.user c.args.execute (place_found c.find_place_in_box.result)) c.find_place_in_box.ensures.answer
 
 pub returns-clause-found : goal.returns-clause-found
 returns-clause-found g c =
     place-found-on _ _ c.args.dir c.args.name.now c.args.user c.args.execute c.find_place_in_box.result
-    (view-after _ c.self.inside.volumes.items c.args.self.now c.args.devices.now.drives.items c.args.dir c.index_mut.result.now c.index_mut-2.result.now c.self.view_is c.self.invariant c.index_mut.ensures.value c.index_mut-2.ensures.value c.requires.file c.find_place_in_box.new.driver) c.find_place_in_box.ensures.read c.find_place_in_box.ensures.place
+    (view-after _ c.self.inside.volumes.items c.args.self.now c.args.devices.now.drives.items c.args.dir
+    c.index_mut.result.now c.index_mut-2.result.now c.self.view_is c.self.invariant c.index_mut.ensures.value
+    c.index_mut-2.ensures.value c.requires.file c.find_place_in_box.new.driver) c.find_place_in_box.ensures.read
+    c.find_place_in_box.ensures.place
 
 pub returns-clause-drive : goal.returns-clause-drive
 returns-clause-drive g c =
-    reads-file _ c.self.inside.volumes.items c.args.self.now c.args.devices.now.drives.items c.args.dir c.index_mut.result.now c.index_mut-2.result.now c.self.view_is c.self.invariant c.index_mut.ensures.value c.index_mut-2.ensures.value c.requires.file
-    (directory_fault c.find_place_in_box.result) (λ v file. place_calls file c.args.name.now c.args.user c.args.execute) c.find_place_in_box.new.kept c.find_place_in_box.new.driver c.find_place_in_box.ensures.drive
+    reads-file _ c.self.inside.volumes.items c.args.self.now c.args.devices.now.drives.items c.args.dir
+    c.index_mut.result.now c.index_mut-2.result.now c.self.view_is c.self.invariant c.index_mut.ensures.value
+    c.index_mut-2.ensures.value c.requires.file
+    (directory_fault c.find_place_in_box.result) (λ v file. place_calls file c.args.name.now c.args.user
+    c.args.execute) c.find_place_in_box.new.kept c.find_place_in_box.new.driver c.find_place_in_box.ensures.drive

@@ -6,14 +6,20 @@ use Rattle.file_drives.proofs.disks.Disks.read_at.Goals as goal
 
 pub read_in_box-requires : goal.read_in_box-requires
 read_in_box-requires g c =
-    file-on _ c.self.inside.volumes.items c.args.self.now c.args.devices.now.drives.items c.args.place c.index_mut.result.now c.index_mut-2.result.now c.self.view_is c.self.invariant c.index_mut.ensures.value c.index_mut-2.ensures.value c.requires.file
+    file-on _ c.self.inside.volumes.items c.args.self.now c.args.devices.now.drives.items c.args.place
+    c.index_mut.result.now c.index_mut-2.result.now c.self.view_is c.self.invariant c.index_mut.ensures.value
+    c.index_mut-2.ensures.value c.requires.file
 
 pub returns-clause-ok : goal.returns-clause-ok
 returns-clause-ok g c =
-    on-disks _ c.self.inside.volumes.items c.args.self.now c.args.devices.now.drives.items c.args.place c.index_mut.result.now c.index_mut-2.result.now c.self.view_is c.self.invariant c.index_mut.ensures.value c.index_mut-2.ensures.value c.requires.file
+    on-disks _ c.self.inside.volumes.items c.args.self.now c.args.devices.now.drives.items c.args.place
+    c.index_mut.result.now c.index_mut-2.result.now c.self.view_is c.self.invariant c.index_mut.ensures.value
+    c.index_mut-2.ensures.value c.requires.file
     (λ v file. IfOk c.read_in_box.result (IsRead file c.args.at c.args.into.now c.read_in_box.new.into)) c.read_in_box.ensures.ok
 
 pub returns-clause-drive : goal.returns-clause-drive
 returns-clause-drive g c =
-    reads-file _ c.self.inside.volumes.items c.args.self.now c.args.devices.now.drives.items c.args.place c.index_mut.result.now c.index_mut-2.result.now c.self.view_is c.self.invariant c.index_mut.ensures.value c.index_mut-2.ensures.value c.requires.file
+    reads-file _ c.self.inside.volumes.items c.args.self.now c.args.devices.now.drives.items c.args.place
+    c.index_mut.result.now c.index_mut-2.result.now c.self.view_is c.self.invariant c.index_mut.ensures.value
+    c.index_mut-2.ensures.value c.requires.file
     (file_fault c.read_in_box.result) (λ v file. read_calls file c.args.at (length c.args.into.now)) c.read_in_box.new.kept c.read_in_box.new.driver c.read_in_box.ensures.drive

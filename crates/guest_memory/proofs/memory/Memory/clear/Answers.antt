@@ -8,7 +8,8 @@ pub invariant_of-self : goal.invariant_of-self
 invariant_of-self c =
     let m = c.args.self.now in
     let done = c.clear.ensures in record {
-      sound = sound-clear m.pool m.maps.items m.dir m.sound c.args.p.0 c.requires c.index_mut.result.now c.index_mut.ensures.value c.clear.new.self c.clear.new.pool done.empty done.given done.shape done.pool;
+      sound = sound-clear m.pool m.maps.items m.dir m.sound c.args.p.0 c.requires c.index_mut.result.now
+          c.index_mut.ensures.value c.clear.new.self c.clear.new.pool done.empty done.given done.shape done.pool;
     }
 
 pub returns : goal.returns

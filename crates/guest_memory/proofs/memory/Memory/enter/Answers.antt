@@ -18,7 +18,10 @@ invariant_of-self c =
     let m = c.args.self.now in
     let group = c.load_group-group.result in
     let size : length (group_blocks group) ≡ group.len = length-take-le group.len group.blocks (omega (arith, group.in_range)) in record {
-      sound = sound-enter m.pool c.load_group-group.new.pool m.maps.items m.dir m.sound c.args.file.now (group_blocks group) c.load_group-group.ensures.loaded c.enter_module.result.0 c.enter_module.ensures.number c.args.info c.args.is_boot c.enter_module.new.dir c.enter_module.ensures.list (omega arith) (omega arith) (omega arith) c.requires.runs c.load_group-group.ensures.shape;
+      sound = sound-enter m.pool c.load_group-group.new.pool m.maps.items m.dir m.sound c.args.file.now
+          (group_blocks group) c.load_group-group.ensures.loaded c.enter_module.result.0 c.enter_module.ensures.number
+          c.args.info c.args.is_boot c.enter_module.new.dir c.enter_module.ensures.list (omega arith) (omega arith)
+          (omega arith) c.requires.runs c.load_group-group.ensures.shape;
     }
 
 pub returns-clause-enters : goal.returns-clause-enters
@@ -27,5 +30,9 @@ returns-clause-enters c =
     let group = c.load_group-group.result in
     let size : length (group_blocks group) ≡ file_blocks c.args.file.now = length-take-le group.len group.blocks (omega (arith, group.in_range)) ∙ c.load_group-group.ensures.blocks in
     let enough : file_blocks c.args.file.now ≤ free_block_count m.pool = omega arith in
-    λ before tied. rw (entered-ok m.pool m.maps.items m.dir m.sound c.args.file.now c.args.info c.args.is_boot before tied enough)
-    (refl, tied-enter m.pool c.load_group-group.new.pool m.maps.items m.dir m.sound c.args.file.now (group_blocks group) c.load_group-group.ensures.loaded c.enter_module.result.0 c.enter_module.ensures.number c.args.info c.args.is_boot c.enter_module.new.dir c.enter_module.ensures.list size before tied)
+    λ before tied. rw (entered-ok m.pool m.maps.items m.dir m.sound c.args.file.now c.args.info c.args.is_boot before tied enough) (
+      refl,
+      tied-enter m.pool c.load_group-group.new.pool m.maps.items m.dir m.sound c.args.file.now
+          (group_blocks group) c.load_group-group.ensures.loaded c.enter_module.result.0 c.enter_module.ensures.number
+          c.args.info c.args.is_boot c.enter_module.new.dir c.enter_module.ensures.list size before tied,
+    )

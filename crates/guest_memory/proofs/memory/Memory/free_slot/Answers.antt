@@ -12,7 +12,8 @@ returns-clause-slot c =
     let memory = c.args.self.now in
     λ m tied.
     c.free_run.ensures.slot m tied
-    ∙ ap (highest_free_run (map_at m c.args.p.0)) (sym (group-as-long memory c.args.p.0 c.requires.process c.args.id.0 c.requires.entered c.group-group.result c.group-group.ensures (omega arith) m tied))
+    ∙ ap (highest_free_run (map_at m c.args.p.0)) (sym (group-as-long memory c.args.p.0 c.requires.process c.args.id.0
+    c.requires.entered c.group-group.result c.group-group.ensures (omega arith) m tied))
 
 pub returns-clause-fits : goal.returns-clause-fits
 returns-clause-fits c =

@@ -11,7 +11,9 @@ pub returns-clause-slot : goal.returns-clause-slot
 returns-clause-slot c =
     let m = c.args.self.now in
     c.slot_of.ensures
-    ∙ ap (λ (s : Slots BlockId). position (names_number (get_or c.group.result.blocks 0 (record { 0 = 0 })).0) s.places) (is_map_of m.pool m.maps.items m.dir m.sound c.args.p.0 c.requires.process c.index.result.now c.index.ensures)
+    ∙ ap (λ (s : Slots BlockId). position (names_number (get_or c.group.result.blocks 0 (record { 0 = 0 })).0)
+    s.places) (is_map_of m.pool m.maps.items m.dir m.sound c.args.p.0 c.requires.process c.index.result.now
+    c.index.ensures)
     ∙ first-block m.pool m.maps.items m.dir m.sound c.args.p.0 c.requires.process c.args.id.0 c.requires.entered c.group.result (omega arith) c.group.ensures
 
 pub returns-clause-tied : goal.returns-clause-tied
@@ -19,7 +21,9 @@ returns-clause-tied c =
     let m = c.args.self.now in
     λ before tied.
     c.slot_of.ensures
-    ∙ ap (λ (s : Slots BlockId). position (names_number (get_or c.group.result.blocks 0 (record { 0 = 0 })).0) s.places) (is_map_of m.pool m.maps.items m.dir m.sound c.args.p.0 c.requires.process c.index.result.now c.index.ensures)
+    ∙ ap (λ (s : Slots BlockId). position (names_number (get_or c.group.result.blocks 0 (record { 0 = 0 })).0)
+    s.places) (is_map_of m.pool m.maps.items m.dir m.sound c.args.p.0 c.requires.process c.index.result.now
+    c.index.ensures)
     ∙ first-block m.pool m.maps.items m.dir m.sound c.args.p.0 c.requires.process c.args.id.0 c.requires.entered c.group.result (omega arith) c.group.ensures
     ∙ slot-tied m.pool m.maps.items m.dir m.sound c.args.p.0 c.requires.process c.args.id.0 c.requires.entered before tied
 

@@ -9,7 +9,9 @@ pub invariant_of-self : goal.invariant_of-self
 invariant_of-self c =
     let m = c.args.self.now in
     let done = c.map_low.ensures in record {
-      sound = sound-grow m.pool m.maps.items m.dir m.sound c.args.p.0 c.requires c.index_mut-map.result.now c.index_mut-map.ensures.value c.args.count c.map_low.result c.map_low.new.self c.map_low.new.pool done.no_slot done.no_block done.refused done.gains done.shape;
+      sound = sound-grow m.pool m.maps.items m.dir m.sound c.args.p.0 c.requires c.index_mut-map.result.now
+          c.index_mut-map.ensures.value c.args.count c.map_low.result c.map_low.new.self c.map_low.new.pool
+          done.no_slot done.no_block done.refused done.gains done.shape;
     }
 
 pub returns-in-Ok-clause-grows : goal.returns-in-Ok-clause-grows
@@ -17,7 +19,9 @@ returns-in-Ok-clause-grows c =
     let m = c.args.self.now in
     let done = c.map_low.ensures in
     λ before tied.
-    let comes = grow-ok m.pool m.maps.items m.dir m.sound c.args.p.0 c.requires c.index_mut-map.result.now c.index_mut-map.ensures.value c.args.count c.map_low.result c.map_low.new.self c.map_low.new.pool done.no_slot done.no_block done.refused done.gains c.in-Ok.is before tied in
+    let comes = grow-ok m.pool m.maps.items m.dir m.sound c.args.p.0 c.requires c.index_mut-map.result.now
+    c.index_mut-map.ensures.value c.args.count c.map_low.result c.map_low.new.self c.map_low.new.pool done.no_slot
+    done.no_block done.refused done.gains c.in-Ok.is before tied in
     rw comes.0 (refl, comes.1)
 
 pub returns-in-Err-NoSlot-clause-grows : goal.returns-in-Err-NoSlot-clause-grows
@@ -25,7 +29,9 @@ returns-in-Err-NoSlot-clause-grows c =
     let m = c.args.self.now in
     let done = c.map_low.ensures in
     λ before tied.
-    let comes = grow-full m.pool m.maps.items m.dir m.sound c.args.p.0 c.requires c.index_mut-map.result.now c.index_mut-map.ensures.value c.args.count c.map_low.result c.map_low.new.self c.map_low.new.pool done.no_slot done.no_block done.refused done.gains (c.in-Err-NoSlot.is ∙ ap Err c.in-Err-NoSlot.field-0-is) before tied in
+    let comes = grow-full m.pool m.maps.items m.dir m.sound c.args.p.0 c.requires c.index_mut-map.result.now
+    c.index_mut-map.ensures.value c.args.count c.map_low.result c.map_low.new.self c.map_low.new.pool done.no_slot
+    done.no_block done.refused done.gains (c.in-Err-NoSlot.is ∙ ap Err c.in-Err-NoSlot.field-0-is) before tied in
     rw comes.0 (refl, comes.1)
 
 pub returns-in-Err-NoBlock-clause-grows : goal.returns-in-Err-NoBlock-clause-grows
@@ -33,5 +39,8 @@ returns-in-Err-NoBlock-clause-grows c =
     let m = c.args.self.now in
     let done = c.map_low.ensures in
     λ before tied.
-    let comes = grow-no_ram m.pool m.maps.items m.dir m.sound c.args.p.0 c.requires c.index_mut-map.result.now c.index_mut-map.ensures.value c.args.count c.map_low.result c.map_low.new.self c.map_low.new.pool done.no_slot done.no_block done.refused done.gains (c.in-Err-NoBlock.is ∙ ap Err c.in-Err-NoBlock.field-0-is) before tied in
+    let comes = grow-no_ram m.pool m.maps.items m.dir m.sound c.args.p.0 c.requires c.index_mut-map.result.now
+    c.index_mut-map.ensures.value c.args.count c.map_low.result c.map_low.new.self c.map_low.new.pool done.no_slot
+    done.no_block done.refused done.gains (c.in-Err-NoBlock.is ∙ ap Err c.in-Err-NoBlock.field-0-is) before tied
+    in
     rw comes.0 (refl, comes.1)

@@ -14,7 +14,9 @@ give_group-requires-clause-different c =
 pub invariant_of-self : goal.invariant_of-self
 invariant_of-self c =
     let m = c.args.self.now in record {
-      sound = sound-unlink_leaves m.pool m.maps.items m.dir m.sound c.args.id.0 c.requires c.unlink.new.self c.unlink.result c.unlink.ensures.list c.unlink.ensures.group c.in-Some.group c.in-Some.is c.give_group.new.pool c.give_group.ensures.given c.give_group.ensures.shape;
+      sound = sound-unlink_leaves m.pool m.maps.items m.dir m.sound c.args.id.0 c.requires c.unlink.new.self
+          c.unlink.result c.unlink.ensures.list c.unlink.ensures.group c.in-Some.group c.in-Some.is
+          c.give_group.new.pool c.give_group.ensures.given c.give_group.ensures.shape;
     }
 
 pub invariant_of-self-in-None : goal.invariant_of-self-in-None
@@ -26,12 +28,16 @@ invariant_of-self-in-None c =
 pub returns-in-Some-clause-less : goal.returns-in-Some-clause-less
 returns-in-Some-clause-less c =
     let m = c.args.self.now in
-    tied-unlink_leaves m.pool m.maps.items m.dir m.sound c.args.id.0 c.requires c.unlink.new.self c.unlink.result c.unlink.ensures.list c.unlink.ensures.group c.in-Some.group c.in-Some.is c.give_group.new.pool c.give_group.ensures.given
+    tied-unlink_leaves m.pool m.maps.items m.dir m.sound c.args.id.0 c.requires c.unlink.new.self c.unlink.result
+    c.unlink.ensures.list c.unlink.ensures.group c.in-Some.group c.in-Some.is c.give_group.new.pool
+    c.give_group.ensures.given
 
 pub returns-in-Some-clause-leaves : goal.returns-in-Some-clause-leaves
 returns-in-Some-clause-leaves c =
     let m = c.args.self.now in
-    leaves_so m.pool m.maps.items m.dir m.sound c.args.id.0 c.requires c.unlink.new.self c.unlink.result c.unlink.ensures.list c.unlink.ensures.group c.in-Some.group c.in-Some.is c.give_group.new.pool c.give_group.ensures.given
+    leaves_so m.pool m.maps.items m.dir m.sound c.args.id.0 c.requires c.unlink.new.self c.unlink.result
+    c.unlink.ensures.list c.unlink.ensures.group c.in-Some.group c.in-Some.is c.give_group.new.pool
+    c.give_group.ensures.given
 
 pub returns-in-None-clause-less : goal.returns-in-None-clause-less
 returns-in-None-clause-less c =

@@ -24,7 +24,11 @@ invariant_of-self-2 c =
       terminals = c.self.invariant.terminals;
       calls = c.self.invariant.calls;
       targets =
-          subst (λ (paths : PathTable). AreTargets (with_paths (with_pipes io c.begin.new.self) paths)) (sym (c.begin-2.ensures.paths ∙ ap (λ (desc : Desc). paths_after_begin io.paths c.args.p.0 desc) c.new_desc.ensures))
-          (subst (λ (pipes : List (Option (List ℕ))). AreTargets (with_paths (with_pipes io pipes) (paths_after_begin io.paths c.args.p.0 (new_desc (Pipe c.in-Some.pipe.0) c.args.mode)))) (sym c.begin.ensures.made)
+          subst (λ (paths : PathTable). AreTargets (with_paths (with_pipes io c.begin.new.self) paths))
+          (sym (c.begin-2.ensures.paths ∙ ap (λ (desc : Desc). paths_after_begin io.paths c.args.p.0 desc)
+          c.new_desc.ensures))
+          (subst (λ (pipes : List (Option (List ℕ))). AreTargets (with_paths (with_pipes io pipes)
+          (paths_after_begin io.paths c.args.p.0 (new_desc (Pipe c.in-Some.pipe.0) c.args.mode))))
+          (sym c.begin.ensures.made)
           (are-opened_on io c.args.p.0 c.args.mode c.in-Some.pipe.0 (sym c.begin.ensures.number ∙ ap (option_map (λ (id : PipeId). id.0)) c.in-Some.is) c.self.invariant.targets));
     }

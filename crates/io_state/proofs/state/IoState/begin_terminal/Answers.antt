@@ -15,5 +15,6 @@ invariant_of-self c =
       calls = c.self.inside.calls;
     } in
     is-io_with_paths io c.begin.new.self (paths_after_begin io.paths c.args.p.0 c.new_desc.result) c.begin.ensures.paths c.begin.ensures.shape
-    (are-begun io c.args.p.0 c.new_desc.result (may-open_terminal io c.new_desc.result c.args.terminal (ap (λ (desc : Desc). desc.target) c.new_desc.ensures) c.requires.terminal) c.self.invariant.targets)
+    (are-begun io c.args.p.0 c.new_desc.result (may-open_terminal io c.new_desc.result c.args.terminal
+    (ap (λ (desc : Desc). desc.target) c.new_desc.ensures) c.requires.terminal) c.self.invariant.targets)
     (waits-begun io c.args.p.0 c.new_desc.result c.self.invariant.paths c.self.invariant.waits) c.self.invariant

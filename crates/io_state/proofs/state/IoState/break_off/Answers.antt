@@ -14,4 +14,5 @@ invariant_of-self c =
       pipes = c.self.inside.pipes;
       calls = c.self.inside.calls;
     } in
-    is-io_dropped io c.args.p.0 (λ n on. none-some (Term n) (sym c.in-None.is ∙ c.wait_target.ensures.target ∙ ap (λ (s : Io). wait_target s c.args.p.0) (sym c.self.view_is) ∙ on)) c.requires c.self.invariant
+    is-io_dropped io c.args.p.0 (λ n on. none-some (Term n) (sym c.in-None.is ∙ c.wait_target.ensures.target ∙ ap
+    (λ (s : Io). wait_target s c.args.p.0) (sym c.self.view_is) ∙ on)) c.requires c.self.invariant

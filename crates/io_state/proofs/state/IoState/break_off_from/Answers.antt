@@ -17,7 +17,10 @@ invariant_of-self c =
       calls = c.self.inside.calls;
     } in
     let on = subst (λ (s : Io). wait_target s c.args.p.0 ≡ Some c.args.target) (sym c.self.view_is) c.requires.on in
-    is-io_released io c.args.p.0 c.in-Term.terminal c.release.new.self c.release.ensures (on ∙ ap (λ (x : Target). Some x) c.in-Term.is) c.requires.process (subst (λ (x : Target). IsThere io x) c.in-Term.is (subst (λ (s : Io). IsThere s c.args.target) (sym c.self.view_is) c.requires.there)) c.self.invariant
+    is-io_released io c.args.p.0 c.in-Term.terminal c.release.new.self c.release.ensures
+    (on ∙ ap (λ (x : Target). Some x) c.in-Term.is) c.requires.process (subst (λ (x : Target). IsThere io x)
+    c.in-Term.is (subst (λ (s : Io). IsThere s c.args.target) (sym c.self.view_is) c.requires.there))
+    c.self.invariant
 
 pub invariant_of-self-in_default : goal.invariant_of-self-in_default
 invariant_of-self-in_default c =

@@ -16,7 +16,9 @@ invariant_of-self c =
       calls = c.self.inside.calls;
     } in
     is-io_with_paths io c.close.new.self (paths_after_close io.paths c.args.p.0 c.args.n) c.close.ensures.paths c.close.ensures.shape
-    (are-closed io c.args.p.0 c.args.n c.self.invariant.targets) (waits-closed io c.args.p.0 c.args.n (subst (λ (s : Io). kept_at s c.args.p.0 ≡ None) (sym c.self.view_is) c.requires.quiet) c.self.invariant.waits) c.self.invariant
+    (are-closed io c.args.p.0 c.args.n c.self.invariant.targets) (waits-closed io c.args.p.0 c.args.n
+    (subst (λ (s : Io). kept_at s c.args.p.0 ≡ None) (sym c.self.view_is) c.requires.quiet)
+    c.self.invariant.waits) c.self.invariant
 
 pub finish-requires : goal.finish-requires
 finish-requires c =
@@ -45,7 +47,10 @@ invariant_of-self-in-Pipe c =
           (subst (λ (pipes : List (Option (List ℕ))). AreTargets (with_pipes (with_paths io (paths_after_close io.paths c.args.p.0 c.args.n)) pipes)) (sym c.finish.ensures.gone)
           (are-closed_pipe io c.args.p.0 c.args.n c.in-Pipe.pipe c.in-Some.desc (sym c.close.ensures.last ∙ c.in-Some.is) c.in-Pipe.is c.self.invariant.targets));
       waits =
-          waits-with_pipes (with_paths io c.close.new.self) c.finish.new.self (subst (λ (paths : PathTable). AreWaits (with_paths io paths)) (sym c.close.ensures.paths) (waits-closed io c.args.p.0 c.args.n (subst (λ (s : Io). kept_at s c.args.p.0 ≡ None) (sym c.self.view_is) c.requires.quiet) c.self.invariant.waits));
+          waits-with_pipes (with_paths io c.close.new.self) c.finish.new.self
+          (subst (λ (paths : PathTable). AreWaits (with_paths io paths)) (sym c.close.ensures.paths)
+          (waits-closed io c.args.p.0 c.args.n (subst (λ (s : Io). kept_at s c.args.p.0 ≡ None)
+          (sym c.self.view_is) c.requires.quiet) c.self.invariant.waits));
     }
 
 pub invariant_of-self-in_default-target : goal.invariant_of-self-in_default-target
@@ -57,7 +62,9 @@ invariant_of-self-in_default-target c =
       calls = c.self.inside.calls;
     } in
     is-io_with_paths io c.close.new.self (paths_after_close io.paths c.args.p.0 c.args.n) c.close.ensures.paths c.close.ensures.shape
-    (are-closed io c.args.p.0 c.args.n c.self.invariant.targets) (waits-closed io c.args.p.0 c.args.n (subst (λ (s : Io). kept_at s c.args.p.0 ≡ None) (sym c.self.view_is) c.requires.quiet) c.self.invariant.waits) c.self.invariant
+    (are-closed io c.args.p.0 c.args.n c.self.invariant.targets) (waits-closed io c.args.p.0 c.args.n
+    (subst (λ (s : Io). kept_at s c.args.p.0 ≡ None) (sym c.self.view_is) c.requires.quiet)
+    c.self.invariant.waits) c.self.invariant
 
 pub returns-in_default-target : goal.returns-in_default-target
 returns-in_default-target c =

@@ -12,4 +12,6 @@ invariant_of-self c =
       pipes = c.self.inside.pipes;
       calls = c.self.inside.calls;
     } in
-    is-io_with_paths io c.dup.new.self (paths_after_dup io.paths c.args.p.0 c.args.n) c.dup.ensures.paths c.dup.ensures.shape (are-doubled io c.args.p.0 c.args.n c.self.invariant.targets) (waits-doubled io c.args.p.0 c.args.n c.self.invariant.waits) c.self.invariant
+    is-io_with_paths io c.dup.new.self (paths_after_dup io.paths c.args.p.0 c.args.n) c.dup.ensures.paths
+    c.dup.ensures.shape (are-doubled io c.args.p.0 c.args.n c.self.invariant.targets) (waits-doubled io c.args.p.0
+    c.args.n c.self.invariant.waits) c.self.invariant

@@ -16,7 +16,9 @@ invariant_of-self c =
     let process : c.args.p.0 < length io.calls = omega (arith, c.requires.process, c.self.invariant.calls) in
     let may = subst (λ (s : Io). IfSome c.args.kept (MayWait s.paths c.args.p.0)) (sym c.self.view_is) c.requires.may in
     let free = subst (λ (s : Io). IfSome (kept_at s c.args.p.0) (IsNoRead s)) (sym c.self.view_is) c.requires.no_read in
-    let waits = waits-kept io c.args.p.0 c.args.kept process (λ now is. if-some c.args.kept now (MayWait io.paths c.args.p.0) may is) (no-reader io c.args.p.0 free c.self.invariant.waits) c.self.invariant.waits in
+    let waits = waits-kept io c.args.p.0 c.args.kept process (λ now is. if-some c.args.kept now
+    (MayWait io.paths c.args.p.0) may is) (no-reader io c.args.p.0 free c.self.invariant.waits)
+    c.self.invariant.waits in
     record {
       paths = c.self.invariant.paths;
       terminals = c.self.invariant.terminals;

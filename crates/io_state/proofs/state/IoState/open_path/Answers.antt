@@ -13,4 +13,6 @@ returns-clause-there c =
       pipes = c.self.inside.pipes;
       calls = c.self.inside.calls;
     } in
-    subst (λ (io : Io). IsThere io c.desc-desc.result.target) c.self.view_is (is-there io c.in_ok-path.path.0 c.desc-desc.result.target (ap (option_map (λ (desc : Desc). desc.target)) c.desc-desc.ensures.desc) c.self.invariant.targets)
+    subst (λ (io : Io). IsThere io c.desc-desc.result.target) c.self.view_is (is-there io c.in_ok-path.path.0
+    c.desc-desc.result.target (ap (option_map (λ (desc : Desc). desc.target)) c.desc-desc.ensures.desc)
+    c.self.invariant.targets)

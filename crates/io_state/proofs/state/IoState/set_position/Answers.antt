@@ -12,5 +12,6 @@ invariant_of-self c =
       pipes = c.self.inside.pipes;
       calls = c.self.inside.calls;
     } in
-    is-io_with_desc io c.set_desc.new.self c.args.path.0 c.desc.result c.moved_to-desc.result c.set_desc.ensures.paths c.set_desc.ensures.shape c.desc.ensures.desc (ap (λ (desc : Desc). desc.target) c.moved_to-desc.ensures)
+    is-io_with_desc io c.set_desc.new.self c.args.path.0 c.desc.result c.moved_to-desc.result c.set_desc.ensures.paths
+    c.set_desc.ensures.shape c.desc.ensures.desc (ap (λ (desc : Desc). desc.target) c.moved_to-desc.ensures)
     c.self.invariant

@@ -24,4 +24,6 @@ returns-in-Some-clause-there c =
       pipes = c.self.inside.pipes;
       calls = c.self.inside.calls;
     } in
-    subst (λ (io : Io). IsThere io c.desc.result.target) c.self.view_is (is-there io c.in-Some.call.path.0 c.desc.result.target (ap (option_map (λ (desc : Desc). desc.target)) c.desc.ensures.desc) c.self.invariant.targets)
+    subst (λ (io : Io). IsThere io c.desc.result.target) c.self.view_is (is-there io c.in-Some.call.path.0
+    c.desc.result.target (ap (option_map (λ (desc : Desc). desc.target)) c.desc.ensures.desc)
+    c.self.invariant.targets)

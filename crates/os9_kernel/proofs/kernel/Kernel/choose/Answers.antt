@@ -22,9 +22,13 @@ returns-clause-step c devices s there =
     let m = s.inner in
     let ready = has_io c.ready_set-ready.result in
     let same : choice_of ready m ≡ choice_of (io_may_go s.files.io) m =
-    asks-living ready (io_may_go s.files.io) m (λ p lives. c.ready_set-ready.ensures p (living-few c.args.self.now.processes m there.inner p lives) ∙ ap (λ (io : Io). io_may_go io p) (sym there.files.io)) in
+    asks-living ready (io_may_go s.files.io) m (λ p lives. c.ready_set-ready.ensures p
+    (living-few c.args.self.now.processes m there.inner p lives) ∙ ap (λ (io : Io). io_may_go io p)
+    (sym there.files.io)) in
     let who : c.choose-self.result ≡ (choice_of (io_may_go s.files.io) m).chosen = c.choose-self.ensures.chosen m there.inner ∙ ap (λ (choice : Choice). choice.chosen) same in
-    let tied : RepresentsProcesses c.choose-self.new.self (after_choice (io_may_go s.files.io) m) = subst (λ (choice : Choice). RepresentsProcesses c.choose-self.new.self (record m { order = choice.order })) same (c.choose-self.ensures.tied m there.inner) in
+    let tied : RepresentsProcesses c.choose-self.new.self (after_choice (io_may_go s.files.io) m) = subst
+    (λ (choice : Choice). RepresentsProcesses c.choose-self.new.self (record m { order = choice.order })) same
+    (c.choose-self.ensures.tied m there.inner) in
     let t : State = record s { inner = after_choice (io_may_go s.files.io) m; chosen = option_map (λ (p : Pid). p.0) (choice_of (io_may_go s.files.io) m).chosen } in
     let chooses : Choose s t = refl in (
       t,

@@ -79,8 +79,17 @@ returns-in-Ended-clause-event c devices =
           let stands : StandsFor c.end.new.self devices.drives left = subst (λ (files : Files). StandsFor c.end.new.self devices.drives files)
           (ended-so s.files p.0 ∙ files-ended-so d c.deliver.result end c.in-Ended.is s.files p.0 ∙ ap (λ (m : Inner). files_after_delivery s.files p.0 (delivered m p.0 c.args.signal)) before)
           (c.end.ensures devices.drives (with_io s.files (io_interrupted s.files.io p.0)) (c.break_off.ensures.files devices.drives s.files tied.files)) in
-          event-here old p act next devices s tied new _ (after_delivery m p.0 d) left c.break_off.ensures.chosen c.break_off.ensures.clock (c.deliver.ensures.tied m c.args.signal (tied_found here s.inner tied.inner) (signal_found here s.inner tied.inner)) stands
-          (ends-so d c.deliver.result end c.in-Ended.is ∙ ap (λ (m : Inner). delivery_end (delivered m p.0 c.args.signal)) before, (λ i. record s { inner = after_delivery (before i) p.0 (delivered (before i) p.0 c.args.signal); files = left }));
+          event-here old p act next devices s tied new _ (after_delivery m p.0 d) left c.break_off.ensures.chosen
+          c.break_off.ensures.clock (c.deliver.ensures.tied m c.args.signal (tied_found here s.inner tied.inner)
+          (signal_found here s.inner tied.inner)) stands (
+            ends-so d c.deliver.result end c.in-Ended.is ∙ ap (λ (m : Inner). delivery_end
+                (delivered m p.0 c.args.signal)) before,
+            (λ i. record s {
+              inner = after_delivery (before i) p.0 (delivered (before i) p.0 c.args.signal);
+              files =
+                  left;
+            }),
+          );
       memory = λ is. cc;
       waits = λ is. cc;
       going = λ is. cc;
@@ -98,7 +107,9 @@ returns-in_default c =
     let act = Delivery c.args.signal in
     let next = c.requires.next in
     let (m, there) = some-machine old.processes in
-    let (is_done, (t, ok)) = done-so (delivered (found here m) p.0 c.args.signal) c.deliver.result (c.deliver.ensures.end (found here m) c.args.signal (tied_found here m there) (signal_found here m there)) c.in_default.not-Ended in record {
+    let (is_done, (t, ok)) = done-so (delivered (found here m) p.0 c.args.signal) c.deliver.result
+    (c.deliver.ensures.end (found here m) c.args.signal (tied_found here m there) (signal_found here m there))
+    c.in_default.not-Ended in record {
       event = λ devices. record {
         step = λ _ s tied.
             let m = found here s.inner in
@@ -109,8 +120,16 @@ returns-in_default c =
             let stands : StandsFor c.break_off.new.self.files devices.drives left = subst (λ (files : Files). StandsFor c.break_off.new.self.files devices.drives files)
             (files-goes-so d c.deliver.result end c.in_default.not-Ended s.files p.0 ∙ ap (λ (m : Inner). files_after_delivery s.files p.0 (delivered m p.0 c.args.signal)) before)
             (c.break_off.ensures.files devices.drives s.files tied.files) in
-            event-here old p act next devices s tied new _ (after_delivery m p.0 d) left c.break_off.ensures.chosen c.break_off.ensures.clock (c.deliver.ensures.tied m c.args.signal (tied_found here s.inner tied.inner) (signal_found here s.inner tied.inner)) stands
-            (goes-so d c.deliver.result end c.in_default.not-Ended ∙ ap (λ (m : Inner). delivery_end (delivered m p.0 c.args.signal)) before, (λ i. record s { inner = after_delivery (before i) p.0 (delivered (before i) p.0 c.args.signal); files = left }));
+            event-here old p act next devices s tied new _ (after_delivery m p.0 d) left c.break_off.ensures.chosen
+            c.break_off.ensures.clock (c.deliver.ensures.tied m c.args.signal (tied_found here s.inner tied.inner)
+            (signal_found here s.inner tied.inner)) stands (
+              goes-so d c.deliver.result end c.in_default.not-Ended ∙ ap (λ (m : Inner). delivery_end
+                  (delivered m p.0 c.args.signal)) before,
+              (λ i. record s {
+                inner = after_delivery (before i) p.0 (delivered (before i) p.0 c.args.signal);
+                files = left;
+              }),
+            );
         memory = λ is. cc;
         waits = λ is. cc;
         going = λ _. (p, c.break_off.ensures.chosen ∙ next.chosen, c.deliver.ensures.lives is_done);
@@ -125,12 +144,22 @@ returns-in_default c =
           let (regs, record_is) = broken-record m p.0 count within in
           let long : length (found here m).own ≡ length m.own = ap length (broken-own m p.0 count) in
           let inside : p.0 < length (found here m).own = omega (arith, next.process.1, places, long, ap (λ (s : Inner). length s.own) there.is) in
-          let within_found : p.0 < length (found here m).records = living-within (found here m).records p.0 (subst (λ (s : Inner). IsLiving s.records p.0) (sym (tied_found here m there).is) c.break_off.ensures.lives) in
+          let within_found : p.0 < length (found here m).records = living-within (found here m).records p.0
+          (subst (λ (s : Inner). IsLiving s.records p.0) (sym (tied_found here m there).is)
+          c.break_off.ensures.lives) in
           let no_call : is_waiting (record_at (found here m).records p.0).life ≡ false → (own_at (found here m) p.0).call ≡ None =
-          (λ not. ap (λ (own : List Own). (slice_index_or own p.0 no_own).call) (broken-own m p.0 count) ∙ ap (λ (s : Inner). (own_at s p.0).call) there.is ∙ call-is (slice_index_or old.processes.own.items p.0 no_own).call (record_at old.processes.table p.0).signal (is_waiting (record_at old.processes.table p.0).life) c.args.signal next.next (sym (ap (λ (s : Inner). is_waiting (record_at s.records p.0).life) there.is) ∙ sym (ap (λ (r : Record). is_waiting r.life) record_is) ∙ not)) in
+          (λ not. ap (λ (own : List Own). (slice_index_or own p.0 no_own).call) (broken-own m p.0 count) ∙ ap
+          (λ (s : Inner). (own_at s p.0).call) there.is ∙ call-is (slice_index_or old.processes.own.items p.0
+          no_own).call (record_at old.processes.table p.0).signal
+          (is_waiting (record_at old.processes.table p.0).life) c.args.signal next.next
+          (sym (ap (λ (s : Inner). is_waiting (record_at s.records p.0).life) there.is) ∙ sym
+          (ap (λ (r : Record). is_waiting r.life) record_is) ∙ not)) in
           let quiet = delivered-quiet (found here m) p.0 within_found inside no_call c.args.signal t ok in
-          let now : RepresentsProcesses c.deliver.new.self t = subst (λ (d : Result Inner ℕ). RepresentsProcesses c.deliver.new.self (after_delivery (found here m) p.0 d)) ok (c.deliver.ensures.tied (found here m) c.args.signal (tied_found here m there) (signal_found here m there)) in
-          let nothing = nothing-pending c.deliver.new.self p.0 (sym (ap (λ (s : Inner). (own_at s p.0).call) now.is) ∙ quiet.call) (sym (ap (λ (s : Inner). (record_at s.records p.0).signal) now.is) ∙ quiet.signal) in
+          let now : RepresentsProcesses c.deliver.new.self t = subst (λ (d : Result Inner ℕ). RepresentsProcesses
+          c.deliver.new.self (after_delivery (found here m) p.0 d)) ok (c.deliver.ensures.tied (found here m)
+          c.args.signal (tied_found here m there) (signal_found here m there)) in
+          let nothing = nothing-pending c.deliver.new.self p.0 (sym (ap (λ (s : Inner). (own_at s p.0).call) now.is) ∙
+          quiet.call) (sym (ap (λ (s : Inner). (record_at s.records p.0).signal) now.is) ∙ quiet.signal) in
           omega (arith, nothing, delivery-pending old p c.args.signal next, pending-is old p new (c.break_off.ensures.chosen ∙ next.chosen));
       executed = c.break_off.ensures.executed;
     }

@@ -34,7 +34,8 @@ loop-left-preserved g c =
             now,
             turn-continues c.args.n c.loop-left.left _ s m t all it continues,
             turn-begins c.args.n c.loop-left.left _ s m t all it begins,
-            keeps-more (FirstSteps c.args.n s) all m it.first Ran it.later _ _ _ (begun-here c.args.n c.loop-left.left s m all (omega arith) begins) it.event kept (λ drive unasked. turn.images m drive there unasked),
+            keeps-more (FirstSteps c.args.n s) all m it.first Ran it.later _ _ _ (begun-here c.args.n c.loop-left.left
+                s m all (omega arith) begins) it.event kept (λ drive unasked. turn.images m drive there unasked),
           );
     }
 
@@ -50,7 +51,8 @@ returns-in-Waits-clause-events g c =
             t,
             continues (first ∷ later) t steps,
             now,
-            keeps-more (FirstSteps c.args.n s) all m first end later _ _ _ (begun-here c.args.n c.loop-left.left s m all (omega arith) begins) event kept (λ drive unasked. turn.images m drive there unasked),
+            keeps-more (FirstSteps c.args.n s) all m first end later _ _ _ (begun-here c.args.n c.loop-left.left s m
+                all (omega arith) begins) event kept (λ drive unasked. turn.images m drive there unasked),
           );
       ran = λ _. refl;
       part = λ is. cc;

@@ -44,7 +44,9 @@ left : (c : After-set_regs) → (stop : Stop) → c.run-ran.result.stop ≡ stop
 left c stop is other = let (m, tied) = some-machine c.args.self.now.processes in let (t, (runs, there)) = ran c m tied in some-left c.args.p.0 c.args.most c.run-ran.result _ _ _ t runs stop is other
 
 -- the registers then are set in the memory then
-regs_set : (c : After-set_regs) → (m : Inner) (tied : RepresentsProcesses c.args.self.now.processes m) (t : MemoryState) → RepresentsMemory c.run-ran.new.self t → RepresentsProcesses c.set_regs.new.self (inner_at m c.args.p.0 t c.run-ran.new.regs)
+regs_set : (c : After-set_regs) → (m : Inner) (tied : RepresentsProcesses c.args.self.now.processes m)
+    (t : MemoryState) → RepresentsMemory c.run-ran.new.self t → RepresentsProcesses c.set_regs.new.self
+    (inner_at m c.args.p.0 t c.run-ran.new.regs)
 regs_set c m tied t there =
     c.set_regs.ensures.tied (with_memory m t) (record { memory = there; is = λ i. with_memory (tied.is i) t })
 
@@ -53,7 +55,8 @@ ticks_set : (c : After-set_regs) → c.set_regs.new.self.tick ≡ c.args.self.no
 ticks_set c = tick-kept _ c.set_regs.new.self (λ (m : Inner). with_regs_of m c.args.p.0 c.run-ran.new.regs) c.set_regs.ensures.tied (λ m. refl)
 
 -- instructions were executed, so less is left
-lowers : (c : After-set_regs) → (new : Kernel) (count : ℕ) → new.chosen ≡ c.args.self.now.chosen → 1 ≤ count → count ≤ c.args.most → 4 * (c.args.most - count) + pending new < 4 * c.args.most + pending c.args.self.now
+lowers : (c : After-set_regs) → (new : Kernel) (count : ℕ) → new.chosen ≡ c.args.self.now.chosen → 1 ≤ count
+    → count ≤ c.args.most → 4 * (c.args.most - count) + pending new < 4 * c.args.most + pending c.args.self.now
 lowers c new count same some few =
     let is : pending new ≡ pending_of new.processes c.args.p.0 = pending-is c.args.self.now c.args.p new (same ∙ c.requires.next.chosen) in
     omega (arith, is, at_most-three new.processes c.args.p.0)
@@ -77,10 +80,14 @@ returns-in-Next-clause-turn c devices =
     let whole = all here c.in-Next.is in record {
       step = λ _ s tied.
           let (t, (runs, there)) = ran here s.inner tied.inner in
-          let done = turn-next s p.0 (chosen-is old p Instruction next devices s tied) (lives-there old p Instruction next devices s tied) (acts-so old p Instruction next devices s tied) c.args.most c.run-ran.result c.run-ran.new.regs t c.requires.some runs c.in-Next.is in (
+          let done = turn-next s p.0 (chosen-is old p Instruction next devices s tied) (lives-there old p Instruction
+          next devices s tied) (acts-so old p Instruction next devices s tied) c.args.most c.run-ran.result
+          c.run-ran.new.regs t c.requires.some runs c.in-Next.is in (
             record s { inner = inner_at s.inner p.0 t c.run-ran.new.regs },
             inr done,
-            represents-here old p Instruction next devices s tied (record old { processes = c.set_regs.new.self }) _ s.files refl refl (regs_set here s.inner tied.inner t there) tied.files (instructions-running done tied.running),
+            represents-here old p Instruction next devices s tied (record old { processes = c.set_regs.new.self }) _
+                s.files refl refl (regs_set here s.inner tied.inner t there) tied.files
+                (instructions-running done tied.running),
           );
       memory = λ is. cc;
       going = λ _. (p, next.chosen, c.set_regs.ensures.lives);
@@ -99,10 +106,16 @@ returns-in-Call-clause-turn c devices =
     let some = left here (Call c.in-Call.code) c.in-Call.is (λ e. cc) in record {
       step = λ _ s tied.
           let (t, (runs, there)) = ran here s.inner tied.inner in
-          let done = turn-call s p.0 (chosen-is old p Instruction next devices s tied) (lives-there old p Instruction next devices s tied) (acts-so old p Instruction next devices s tied) c.args.most c.run-ran.result c.run-ran.new.regs t c.requires.some runs c.in-Call.code c.in-Call.is in (
+          let done = turn-call s p.0 (chosen-is old p Instruction next devices s tied) (lives-there old p Instruction
+          next devices s tied) (acts-so old p Instruction next devices s tied) c.args.most c.run-ran.result
+          c.run-ran.new.regs t c.requires.some runs c.in-Call.code c.in-Call.is in (
             record s { inner = with_own (inner_at s.inner p.0 t c.run-ran.new.regs) p.0 (record (own_at s.inner p.0) { call = Some c.in-Call.code }) },
             inr done,
-            represents-here old p Instruction next devices s tied c.begin_call.new.self _ s.files c.begin_call.ensures.chosen c.begin_call.ensures.clock (c.begin_call.ensures.tied _ (regs_set here s.inner tied.inner t there)) (subst (λ (files : FileState). StandsFor files devices.drives s.files) (sym c.begin_call.ensures.files) tied.files) (instructions-running done tied.running),
+            represents-here old p Instruction next devices s tied c.begin_call.new.self _ s.files
+                c.begin_call.ensures.chosen c.begin_call.ensures.clock (c.begin_call.ensures.tied _
+                (regs_set here s.inner tied.inner t there))
+                (subst (λ (files : FileState). StandsFor files devices.drives s.files)
+                (sym c.begin_call.ensures.files) tied.files) (instructions-running done tied.running),
           );
       memory = λ is. cc;
       going = λ _. (p, c.begin_call.ensures.chosen ∙ next.chosen, subst (λ (records : List (Option Record)). IsLiving records p.0) (sym c.begin_call.ensures.records) c.set_regs.ensures.lives);
@@ -121,10 +134,15 @@ returns-in-Abort-clause-turn c devices =
     let some = left here (Abort c.in-Abort.status) c.in-Abort.is (λ e. cc) in record {
       step = λ _ s tied.
           let (t, (runs, there)) = ran here s.inner tied.inner in
-          let done = turn-abort s p.0 (chosen-is old p Instruction next devices s tied) (lives-there old p Instruction next devices s tied) (acts-so old p Instruction next devices s tied) c.args.most c.run-ran.result c.run-ran.new.regs t c.requires.some runs c.in-Abort.status c.in-Abort.is in (
+          let done = turn-abort s p.0 (chosen-is old p Instruction next devices s tied) (lives-there old p Instruction
+          next devices s tied) (acts-so old p Instruction next devices s tied) c.args.most c.run-ran.result
+          c.run-ran.new.regs t c.requires.some runs c.in-Abort.status c.in-Abort.is in (
             record s { inner = ended (inner_at s.inner p.0 t c.run-ran.new.regs) p.0 c.in-Abort.status; files = files_ended s.files p.0 },
             inr done,
-            represents-here old p Instruction next devices s tied c.end_process.new.self _ (files_ended s.files p.0) c.end_process.ensures.chosen c.end_process.ensures.clock (c.end_process.ensures.tied _ (regs_set here s.inner tied.inner t there)) (c.end_process.ensures.files devices.drives s.files tied.files) (instructions-running done tied.running),
+            represents-here old p Instruction next devices s tied c.end_process.new.self _ (files_ended s.files p.0)
+                c.end_process.ensures.chosen c.end_process.ensures.clock (c.end_process.ensures.tied _
+                (regs_set here s.inner tied.inner t there)) (c.end_process.ensures.files devices.drives s.files
+                tied.files) (instructions-running done tied.running),
           );
       memory = λ is. cc;
       going = λ is. cc;

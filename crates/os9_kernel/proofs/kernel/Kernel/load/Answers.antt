@@ -77,25 +77,38 @@ returns-clause-event g c =
     let (s0, tied0) = c.requires.stands in
     let (time0, is_time0) = some-time old before s0 tied0 in
     let first = c.try_load-end.ensures.call time0 s0.inner s0.files tied0.inner tied0.files tied0.running.kinds in
-    let told0 : Comes s0.inner p.0 first.result end c.begin.new.self.processes = subst (λ (processes : ProcState). Comes s0.inner p.0 first.result end processes) (sym c.begin.ensures.processes) first.comes in
+    let told0 : Comes s0.inner p.0 first.result end c.begin.new.self.processes = subst (λ (processes : ProcState).
+    Comes s0.inner p.0 first.result end processes) (sym c.begin.ensures.processes) first.comes in
     let (there0, same0) = c.tell_end.ensures.told s0.inner first.result told0 in
     let over = sym (c.event_end.ensures ∙ ap event_end_of same0) in record {
       step = λ _ s tied.
           let (time, is_time) = some-time old before s tied in
           let it = c.try_load-end.ensures.call time s.inner s.files tied.inner tied.files tied.running.kinds in
-          let told : Comes s.inner p.0 it.result end c.begin.new.self.processes = subst (λ (processes : ProcState). Comes s.inner p.0 it.result end processes) (sym c.begin.ensures.processes) it.comes in
+          let told : Comes s.inner p.0 it.result end c.begin.new.self.processes = subst (λ (processes : ProcState).
+          Comes s.inner p.0 it.result end processes) (sym c.begin.ensures.processes) it.comes in
           let (there, same) = c.tell_end.ensures.told s.inner it.result told in
           let left : Files = begun_on c.args.call it.left p.0 it.result in
-          let begun : StandsFor c.begin.new.self.files after.drives left = subst (λ (files : Files). StandsFor c.begin.new.self.files after.drives files) (begun-tied c.args.call s.inner p.0 it.left tried.processes it.result end it.comes) (c.begin.ensures.files after.drives it.left it.stands) in
+          let begun : StandsFor c.begin.new.self.files after.drives left = subst (λ (files : Files). StandsFor
+          c.begin.new.self.files after.drives files) (begun-tied c.args.call s.inner p.0 it.left tried.processes
+          it.result end it.comes) (c.begin.ensures.files after.drives it.left it.stands) in
           let stands : StandsFor new.files after.drives left = subst (λ (files : FileState). StandsFor files after.drives left) (sym c.tell_end.ensures.files) begun in
           let terms_here = terms-are old p act next before s tied in
-          let attempt : AttemptsLoad c.args.call s.inner (asker_of s.inner p.0 time) s.files (length s.terms) p.0 it.result it.left = subst (λ (n : ℕ). AttemptsLoad c.args.call s.inner (asker_of s.inner p.0 time) s.files n p.0 it.result it.left) (long ∙ sym (ap (λ terms. length terms) terms_here)) it.attempted in
-          event-then old p act next before s tied new after _ (after_attempt s.inner p.0 it.result) left s.clock s.terms (c.tell_end.ensures.chosen ∙ c.begin.ensures.chosen ∙ c.try_load-end.ensures.chosen) there stands
+          let attempt : AttemptsLoad c.args.call s.inner (asker_of s.inner p.0 time) s.files (length s.terms) p.0
+          it.result it.left = subst (λ (n : ℕ). AttemptsLoad c.args.call s.inner (asker_of s.inner p.0 time)
+          s.files n p.0 it.result it.left) (long ∙ sym (ap (λ terms. length terms) terms_here)) it.attempted in
+          event-then old p act next before s tied new after _ (after_attempt s.inner p.0 it.result) left s.clock
+          s.terms (c.tell_end.ensures.chosen ∙ c.begin.ensures.chosen ∙ c.try_load-end.ensures.chosen) there
+          stands
           (clock-is old p act next before s tied ∙ sym (c.tell_end.ensures.clock ∙ c.begin.ensures.clock ∙ c.try_load-end.ensures.clock))
           (terms_here ∙ ap (λ terms. terminal_states (λ table. (g.dyn-2.0.entry table).1) terms.items) (sym c.try_load-end.ensures.terms_kept)) (
             it.result,
             with_files s left,
-            (time, is_time, subst (λ (service : Service). Serves service s time p.0 it.result (with_files s left)) (sym c.requires.serves) (serves-load c.args.call s time p.0 it.result it.left attempt)),
+            (
+              time,
+              is_time,
+              subst (λ (service : Service). Serves service s time p.0 it.result (with_files s left))
+                  (sym c.requires.serves) (serves-load c.args.call s time p.0 it.result it.left attempt),
+            ),
             c.event_end.ensures ∙ ap event_end_of same ∙ end-tied it.result,
             refl,
           );
@@ -104,14 +117,23 @@ returns-clause-event g c =
           let waiting : end ≡ Wait = waits-so end (sym c.event_end.ensures ∙ is) in
           let standing_before : Standing = standing (λ table. (g.dyn-1.0.entry table).1) old.processes old.files c.args.devices.now.drives.items in
           let standing_after : Standing = standing (λ table. (g.dyn-1.0.entry table).1) tried.processes tried.files c.try_load-end.new.devices.drives.items in
-          let at_wait : LoadsSo c.args.call s0.inner s0.files time0 (vec_len terms) p.0 Wait standing_before standing_after = subst (λ (end : CallEnd). LoadsSo c.args.call s0.inner s0.files time0 (vec_len terms) p.0 end standing_before standing_after) waiting first in record {
+          let at_wait : LoadsSo c.args.call s0.inner s0.files time0 (vec_len terms) p.0 Wait standing_before
+          standing_after = subst (λ (end : CallEnd). LoadsSo c.args.call s0.inner s0.files time0 (vec_len terms)
+          p.0 end standing_before standing_after) waiting first in record {
             p = p;
             chosen = next.chosen;
             code = c.args.code;
-            call = code-held (slice_index_or old.processes.own.items p.0 no_own).call (is_waiting (record_at old.processes.table p.0).life) (record_at old.processes.table p.0).signal c.args.code next.next;
+            call = code-held (slice_index_or old.processes.own.items p.0 no_own).call
+                (is_waiting (record_at old.processes.table p.0).life) (record_at old.processes.table p.0).signal
+                c.args.code next.next;
             first = λ fresh. rests-there new c.args.code p.0 c.args.call c.requires.serves (loads-rest c.args.call s0.inner s0.files time0 (vec_len terms) p.0 standing_before standing_after at_wait);
           };
-      going = λ ran. (p, c.tell_end.ensures.chosen ∙ c.begin.ensures.chosen ∙ c.try_load-end.ensures.chosen ∙ next.chosen, lives-so end new.processes.table p.0 (sym c.event_end.ensures ∙ ran) c.tell_end.ensures.lives);
+      going = λ ran. (
+        p,
+        c.tell_end.ensures.chosen ∙ c.begin.ensures.chosen ∙ c.try_load-end.ensures.chosen ∙
+            next.chosen,
+        lives-so end new.processes.table p.0 (sym c.event_end.ensures ∙ ran) c.tell_end.ensures.lives,
+      );
       count = λ _.
           sym (ap (λ (m : Inner). m.tick) there0.is)
           ∙ load-tick c.args.call s0.inner (asker_of s0.inner p.0 time0) s0.files (vec_len terms) p.0 first.result first.left (lives-there old p act next before s0 tied0) first.attempted
@@ -119,7 +141,9 @@ returns-clause-event g c =
       calls = λ s now tied is.
           let service = load_in_machine c.args.call in
           attempt-within old p c.args.code next before s tied service c.requires.serves now after
-          (subst (λ (n : ℕ). CalledAtMost (service_calls service s.inner p.0 now s.files n) before.drives after.drives) long (c.try_load-end.ensures.call now s.inner s.files tied.inner tied.files tied.running.kinds).calls);
+          (subst (λ (n : ℕ). CalledAtMost (service_calls service s.inner p.0 now s.files n) before.drives
+          after.drives) long (c.try_load-end.ensures.call now s.inner s.files tied.inner tied.files
+          tied.running.kinds).calls);
       images = keeps-media old before after first.media_kept;
     }
 

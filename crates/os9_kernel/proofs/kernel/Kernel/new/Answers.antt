@@ -27,7 +27,9 @@ returns-in-Err-OutOfMemory-clause-starts g c =
       stands = λ images have. tt;
       accepted = tt;
       refused = search rules;
-      drives = starts-memory c.args.config.images before after (subst (λ (fault : StartFault). StartsDrives {A = FileState} c.args.config.images (Err fault) before after) c.in-Err-OutOfMemory.field-0-is c.in-Err-OutOfMemory.ensures.drives);
+      drives = starts-memory c.args.config.images before after
+          (subst (λ (fault : StartFault). StartsDrives {A = FileState} c.args.config.images (Err fault) before after)
+          c.in-Err-OutOfMemory.field-0-is c.in-Err-OutOfMemory.ensures.drives);
       count = tt;
     }
 
@@ -41,7 +43,9 @@ returns-in-Err-Drive-clause-starts g c =
       refused = search rules;
       drives =
           rw c.in-Err-Drive.field-0-is
-          (starts-fault c.args.config.images before after c.in-Err-Drive.drive c.in-Err-Drive.number (subst (λ (fault : StartFault). StartsDrives {A = FileState} c.args.config.images (Err fault) before after) c.in-Err-Drive.field-0-is c.in-Err-Drive.ensures.drives));
+          (starts-fault c.args.config.images before after c.in-Err-Drive.drive c.in-Err-Drive.number
+          (subst (λ (fault : StartFault). StartsDrives {A = FileState} c.args.config.images (Err fault) before
+          after) c.in-Err-Drive.field-0-is c.in-Err-Drive.ensures.drives));
       count = tt;
     }
 
@@ -54,7 +58,9 @@ returns-clause-starts g c =
     let kernel : Kernel = record { processes = c.in-Ok.processes; files = c.in-Ok-start_files.files; clock = record { from = c.args.config.time; since = 0 }; chosen = None; executed = 0 } in
     record {
       stands = λ images have.
-          kernel-starts c.args.config c.args.boot.now images after kernel c.in-Ok.ensures.start (c.in-Ok-start_files.ensures.started images have) refl refl c.requires.time (omega (arith, long, kept, c.requires.terminals.0)) (omega (arith, long, kept, c.requires.terminals.1));
+          kernel-starts c.args.config c.args.boot.now images after kernel c.in-Ok.ensures.start
+          (c.in-Ok-start_files.ensures.started images have) refl refl c.requires.time
+          (omega (arith, long, kept, c.requires.terminals.0)) (omega (arith, long, kept, c.requires.terminals.1));
       accepted = search rules;
       refused = tt;
       drives = starts-ok c.args.config.images _ _ c.in-Ok-start_files.files _ c.in-Ok-start_files.ensures.drives;

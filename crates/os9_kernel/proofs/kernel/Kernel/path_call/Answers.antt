@@ -76,17 +76,23 @@ returns-clause-event g c =
     let before : Outside = outside (λ table. (g.dyn-1.0.entry table).1) c.args.devices.now.drives.items (λ table. (g.dyn-2.0.entry table).1) c.args.devices.now.terms.items in
     let after : Outside = outside (λ table. (g.dyn-1.0.entry table).1) c.attempt-end.new.devices.drives.items (λ table. (g.dyn-2.0.entry table).1) c.attempt-end.new.devices.terms.items in
     let other : c.event_end.result ≢ EventEnd.NoMemory → c.attempt-end.result ≢ NoMemory = (λ other out. other (c.event_end.ensures ∙ ap event_end_of out)) in
-    let same_drives : c.attempt-end.result ≡ NoMemory → after.drives ≡ before.drives = (λ out. ap (λ drives. drive_views (λ table. (g.dyn-1.0.entry table).1) drives.items) (c.attempt-end.ensures.drives_kept out)) in
+    let same_drives : c.attempt-end.result ≡ NoMemory → after.drives ≡ before.drives =
+    (λ out. ap (λ drives. drive_views (λ table. (g.dyn-1.0.entry table).1) drives.items)
+    (c.attempt-end.ensures.drives_kept out)) in
     let (s0, tied0) = c.requires.stands in
     let (time, is_time) = time-shown old before s0 tied0 in
     let fits = time-for old.clock old.processes.tick c.args.call made time c.time_for-time.ensures is_time in record {
       step = λ ran s tied.
           let it = ((c.attempt-end.ensures.call time fits s.inner s.files tied.inner tied.files tied.running.kinds).attempted (other ran)).attempts in
           let (there, same) = c.tell_end.ensures.told s.inner it.result it.comes in
-          let attempt : FileAttempts c.args.call s.inner s.files time p.0 it.result it.left s.terms after.terms = subst (λ (terms : List TerminalState). FileAttempts c.args.call s.inner s.files time p.0 it.result it.left terms after.terms) (sym (terms-are old p act next before s tied)) it.attempt in
+          let attempt : FileAttempts c.args.call s.inner s.files time p.0 it.result it.left s.terms after.terms =
+          subst (λ (terms : List TerminalState). FileAttempts c.args.call s.inner s.files time p.0 it.result
+          it.left terms after.terms) (sym (terms-are old p act next before s tied)) it.attempt in
           let stands : StandsFor new.files after.drives it.left = subst (λ (files : FileState). StandsFor files after.drives it.left) (sym c.tell_end.ensures.files) it.stands in
           let rest : Rest = record { files = it.left; clock = s.clock; terms = after.terms } in
-          event-then old p act next before s tied new after _ (after_attempt s.inner p.0 it.result) it.left s.clock after.terms c.tell_end.ensures.chosen there stands (clock-is old p act next before s tied ∙ sym c.tell_end.ensures.clock) refl (
+          event-then old p act next before s tied new after _ (after_attempt s.inner p.0 it.result) it.left s.clock
+          after.terms c.tell_end.ensures.chosen there stands (clock-is old p act next before s tied ∙ sym
+          c.tell_end.ensures.clock) refl (
             it.result,
             rest,
             (time, now-here old before s tied time is_time, subst (λ (service : Service). Serves service s time p.0 it.result rest) (sym c.requires.serves) (attempt, refl)),
@@ -105,24 +111,39 @@ returns-clause-event g c =
             now = time;
             is_now = now-here old before s tied time is_time;
             lacks =
-                subst (λ (terms : List TerminalState). LacksMemory c.args.call s.inner s.files time p.0 terms after.terms) (sym (terms-are old p act next before s tied)) ((c.attempt-end.ensures.call time fits s.inner s.files tied.inner tied.files tied.running.kinds).memory is);
+                subst (λ (terms : List TerminalState). LacksMemory c.args.call s.inner s.files time p.0 terms
+                after.terms) (sym (terms-are old p act next before s tied))
+                ((c.attempt-end.ensures.call time fits s.inner s.files tied.inner tied.files
+                tied.running.kinds).memory is);
             drives = holds-still old before s tied after (same_drives is);
           };
       waits = λ is.
           let waiting = waits-so c.attempt-end.result (sym c.event_end.ensures ∙ is) in
           let now = c.attempt-end.new.s in
-          let it = ((c.attempt-end.ensures.call time fits s0.inner s0.files tied0.inner tied0.files tied0.running.kinds).attempted (λ out. let no : Wait ≡ NoMemory = sym waiting ∙ out in cc)).attempts in
+          let it = ((c.attempt-end.ensures.call time fits s0.inner s0.files tied0.inner tied0.files
+          tied0.running.kinds).attempted (λ out. let no : Wait ≡ NoMemory = sym waiting ∙ out in cc)).attempts in
           let effect = io_effect it.attempt.effect in
-          let came : Comes s0.inner p.0 (result_of s0.inner p.0 effect) Wait now = subst (λ (result : CallResult). Comes s0.inner p.0 result Wait now) it.attempt.result_is (subst (λ (end : CallEnd). Comes s0.inner p.0 it.result end now) waiting it.comes) in
+          let came : Comes s0.inner p.0 (result_of s0.inner p.0 effect) Wait now = subst
+          (λ (result : CallResult). Comes s0.inner p.0 result Wait now) it.attempt.result_is
+          (subst (λ (end : CallEnd). Comes s0.inner p.0 it.result end now) waiting it.comes) in
           let same : old.processes.table ≡ now.table = sym (records-kept s0.inner p.0 effect now came ∙ ap (λ (m : Inner). m.records) tied0.inner.is) in record {
             p = p;
             chosen = next.chosen;
             code = c.args.code;
-            call = code-held (slice_index_or old.processes.own.items p.0 no_own).call (is_waiting (record_at old.processes.table p.0).life) (record_at old.processes.table p.0).signal c.args.code next.next;
+            call = code-held (slice_index_or old.processes.own.items p.0 no_own).call
+                (is_waiting (record_at old.processes.table p.0).life) (record_at old.processes.table p.0).signal
+                c.args.code next.next;
             first = λ fresh.
-                subst (λ (call : Option ProcCall). IfSome (wait_by call (slice_index_or new.processes.own.items p.0 no_own) (io_waits_for new.files.io p.0)) (λ wait. wait_at (member_of new.processes.sched.members p.0) ≡ Some wait)) (sym coded.0)
-                (subst (λ (files : FileState). IfSome (wait_by None (slice_index_or new.processes.own.items p.0 no_own) (io_waits_for files.io p.0)) (λ wait. wait_at (member_of new.processes.sched.members p.0) ≡ Some wait)) (sym c.tell_end.ensures.files)
-                (cause-so (io_waits_for c.attempt-end.new.files.io p.0) now new.processes p.0 c.attempt-end.ensures.lives (subst (λ (records : List (Option Record)). is_waiting (record_at records p.0).life ≡ false) same fresh) (c.tell_end.ensures.waits waiting)));
+                subst (λ (call : Option ProcCall). IfSome (wait_by call (slice_index_or new.processes.own.items p.0
+                no_own) (io_waits_for new.files.io p.0)) (λ wait. wait_at (member_of new.processes.sched.members
+                p.0) ≡ Some wait)) (sym coded.0)
+                (subst (λ (files : FileState). IfSome (wait_by None (slice_index_or new.processes.own.items p.0
+                no_own) (io_waits_for files.io p.0)) (λ wait. wait_at (member_of new.processes.sched.members p.0)
+                ≡ Some wait)) (sym c.tell_end.ensures.files)
+                (cause-so (io_waits_for c.attempt-end.new.files.io p.0) now new.processes p.0
+                c.attempt-end.ensures.lives
+                (subst (λ (records : List (Option Record)). is_waiting (record_at records p.0).life ≡ false) same
+                fresh) (c.tell_end.ensures.waits waiting)));
           };
       going = λ ran. (p, c.tell_end.ensures.chosen ∙ next.chosen, lives-so c.attempt-end.result new.processes.table p.0 (sym c.event_end.ensures ∙ ran) c.tell_end.ensures.lives);
       count = λ ran.
@@ -136,13 +157,19 @@ returns-clause-event g c =
             | inl out ↦
                 leaves-drives old before after (same_drives out) s now tied is
             | inr there ↦
-                attempt-within-at old p c.args.code next before s tied (on_paths c.args.call) c.requires.serves time now after (now-here old before s tied time is_time) is ((c.attempt-end.ensures.call time fits s.inner s.files tied.inner tied.files tied.running.kinds).attempted there).calls
+                attempt-within-at old p c.args.code next before s tied (on_paths c.args.call) c.requires.serves time
+                now after (now-here old before s tied time is_time) is
+                ((c.attempt-end.ensures.call time fits s.inner s.files tied.inner tied.files
+                tied.running.kinds).attempted there).calls
           ];
       images = λ s drive tied unasked.
           elim (cases-memory c.attempt-end.result) [
             | inl out ↦ keeps-drives old before after (same_drives out) s drive tied unasked
             | inr there ↦
-                keeps-attempt old p c.args.code next before s tied c.args.call c.requires.serves time (now-here old before s tied time is_time) c.attempt-end.result after drive ((c.attempt-end.ensures.call time fits s.inner s.files tied.inner tied.files tied.running.kinds).attempted there).drives unasked
+                keeps-attempt old p c.args.code next before s tied c.args.call c.requires.serves time
+                (now-here old before s tied time is_time) c.attempt-end.result after drive
+                ((c.attempt-end.ensures.call time fits s.inner s.files tied.inner tied.files
+                tied.running.kinds).attempted there).drives unasked
           ];
     }
 

@@ -41,27 +41,57 @@ returns-clause-event c devices =
           let (time, is_time) = some-time old devices s tied in
           let result = attempted c.args.call s.inner p.0 in
           let left = files_after_call s.files p.0 result in
-          let now : RepresentsProcesses new.processes (after_attempt s.inner p.0 result) = subst (λ (processes : ProcState). RepresentsProcesses processes (after_attempt s.inner p.0 result)) (sym c.follow.ensures.processes) there in
-          let stands : StandsFor new.files devices.drives left = subst (λ (files : Files). StandsFor new.files devices.drives files) (ap (λ (end : CallEnd). files_then end s.files p.0) ends ∙ files-tied s.files p.0 result) (c.follow.ensures.files devices.drives s.files tied.files) in
-          event-here old p act next devices s tied new _ (after_attempt s.inner p.0 result) left c.follow.ensures.chosen c.follow.ensures.clock now stands
-          (result, with_files s left, (time, is_time, subst (λ (service : Service). Serves service s time p.0 result (with_files s left)) (sym c.requires.serves) (serves-plain s time p.0 result (with_files s left) c.args.call c.requires.plain refl refl)), c.event_end.ensures ∙ ap event_end_of ends ∙ end-tied result, refl);
+          let now : RepresentsProcesses new.processes (after_attempt s.inner p.0 result) = subst
+          (λ (processes : ProcState). RepresentsProcesses processes (after_attempt s.inner p.0 result))
+          (sym c.follow.ensures.processes) there in
+          let stands : StandsFor new.files devices.drives left = subst (λ (files : Files). StandsFor new.files
+          devices.drives files) (ap (λ (end : CallEnd). files_then end s.files p.0) ends ∙ files-tied s.files p.0
+          result) (c.follow.ensures.files devices.drives s.files tied.files) in
+          event-here old p act next devices s tied new _ (after_attempt s.inner p.0 result) left c.follow.ensures.chosen c.follow.ensures.clock now stands (
+            result,
+            with_files s left,
+            (
+              time,
+              is_time,
+              subst (λ (service : Service). Serves service s time p.0 result
+                  (with_files s left)) (sym c.requires.serves) (serves-plain s time p.0 result (with_files s left)
+                  c.args.call c.requires.plain refl refl),
+            ),
+            c.event_end.ensures ∙ ap event_end_of ends ∙ end-tied result,
+            refl,
+          );
       memory = λ out.
           let (m, there) = some-machine old.processes in
           let ends = (c.attempt-end.ensures.call m there).1 in
           absurd (never-wants (attempted c.args.call m p.0) (sym (c.event_end.ensures ∙ ap event_end_of ends) ∙ out));
-      going = λ ran. (p, c.follow.ensures.chosen ∙ next.chosen, subst (λ (processes : ProcState). IsLiving processes.table p.0) (sym c.follow.ensures.processes) (lives-so c.attempt-end.result c.attempt-end.new.s.table p.0 (sym c.event_end.ensures ∙ ran) c.attempt-end.ensures.lives));
+      going = λ ran. (
+        p,
+        c.follow.ensures.chosen ∙ next.chosen,
+        subst (λ (processes : ProcState). IsLiving
+            processes.table p.0) (sym c.follow.ensures.processes) (lives-so c.attempt-end.result
+            c.attempt-end.new.s.table p.0 (sym c.event_end.ensures ∙ ran) c.attempt-end.ensures.lives),
+      );
       waits = λ is.
           let waiting = waits-so c.attempt-end.result (sym c.event_end.ensures ∙ is) in record {
             p = p;
             chosen = next.chosen;
             code = c.args.code;
-            call = code-held (slice_index_or old.processes.own.items p.0 no_own).call (is_waiting (record_at old.processes.table p.0).life) (record_at old.processes.table p.0).signal c.args.code next.next;
+            call = code-held (slice_index_or old.processes.own.items p.0 no_own).call
+                (is_waiting (record_at old.processes.table p.0).life) (record_at old.processes.table p.0).signal
+                c.args.code next.next;
             first = λ fresh.
-                subst (λ (call : Option ProcCall). IfSome (wait_by call (slice_index_or new.processes.own.items p.0 no_own) (io_waits_for new.files.io p.0)) (λ wait. wait_at (member_of new.processes.sched.members p.0) ≡ Some wait)) (sym (process-served c.args.code c.args.call c.requires.serves))
-                (subst (λ (processes : ProcState). IfSome (waits_for c.args.call (slice_index_or processes.own.items p.0 no_own)) (λ wait. wait_at (member_of processes.sched.members p.0) ≡ Some wait)) (sym c.follow.ensures.processes)
-                (rests-so (waits_for c.args.call (slice_index_or c.attempt-end.new.s.own.items p.0 no_own)) old.processes c.attempt-end.new.s p.0 next.lives fresh (c.attempt-end.ensures.waits waiting)));
+                subst (λ (call : Option ProcCall). IfSome (wait_by call (slice_index_or new.processes.own.items p.0
+                no_own) (io_waits_for new.files.io p.0)) (λ wait. wait_at (member_of new.processes.sched.members
+                p.0) ≡ Some wait)) (sym (process-served c.args.code c.args.call c.requires.serves))
+                (subst (λ (processes : ProcState). IfSome (waits_for c.args.call (slice_index_or processes.own.items
+                p.0 no_own)) (λ wait. wait_at (member_of processes.sched.members p.0) ≡ Some wait))
+                (sym c.follow.ensures.processes)
+                (rests-so (waits_for c.args.call (slice_index_or c.attempt-end.new.s.own.items p.0 no_own))
+                old.processes c.attempt-end.new.s p.0 next.lives fresh (c.attempt-end.ensures.waits waiting)));
           };
-      count = λ _. ap (λ (processes : ProcState). processes.tick) c.follow.ensures.processes ∙ tick-kept old.processes c.attempt-end.new.s (λ (m : Inner). after_attempt m p.0 (attempted c.args.call m p.0)) (λ m there. (c.attempt-end.ensures.call m there).0) (λ m. attempt-tick m p.0 c.args.call);
+      count = λ _. ap (λ (processes : ProcState). processes.tick) c.follow.ensures.processes ∙ tick-kept old.processes
+          c.attempt-end.new.s (λ (m : Inner). after_attempt m p.0 (attempted c.args.call m p.0))
+          (λ m there. (c.attempt-end.ensures.call m there).0) (λ m. attempt-tick m p.0 c.args.call);
       calls = leaves-drives old devices devices refl;
       images = keeps-drives old devices devices refl;
     }

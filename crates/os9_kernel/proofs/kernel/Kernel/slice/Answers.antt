@@ -46,7 +46,9 @@ returns-in-Some-clause-slice g c =
             t,
             subst (λ (end : SliceEnd). Slice c.args.n s all end t) (sym (events.ran other)) (slice-ran c.args.n c.in-Some.field-0.0 s ticked chosen t all ticks chooses some steps),
             later,
-            λ drive none. keeps-by (FirstSteps c.args.n chosen) (BeginsSlice c.args.n s) all _ _ (λ first at leads. (ticked, chosen, ticks, chooses, leads)) kept drive none ∙ ap (λ views. media_at views drive) c.tick.ensures.tick.drives,
+            λ drive none. keeps-by (FirstSteps c.args.n chosen) (BeginsSlice c.args.n s) all _ _
+                (λ first at leads. (ticked, chosen, ticks, chooses, leads)) kept drive none ∙ ap
+                (λ views. media_at views drive) c.tick.ensures.tick.drives,
           );
       part = λ out s tied.
           let (ticked, ticks, there) = c.tick.ensures.tick.step (rw c.in-Ok.is refl) s tied in

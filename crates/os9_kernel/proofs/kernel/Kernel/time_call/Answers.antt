@@ -49,14 +49,30 @@ returns-clause-event c devices =
           let clock_here = sym (clock-is old p act next devices s tied) in
           let stands : StandsFor new.files devices.drives s.files = subst (λ (files : FileState). StandsFor files devices.drives s.files) (sym c.tell_end.ensures.files) tied.files in
           let is_now : IsNow s.clock s.inner.tick it.now = subst (λ (k : Clock). IsNow k s.inner.tick it.now) clock_here it.is in
-          let attempt : TimeAttempts c.args.call s.inner s.clock it.now p.0 result clock = subst (λ (k : Clock). TimeAttempts c.args.call s.inner k it.now p.0 result clock) clock_here it.attempts.attempt in
+          let attempt : TimeAttempts c.args.call s.inner s.clock it.now p.0 result clock = subst
+          (λ (k : Clock). TimeAttempts c.args.call s.inner k it.now p.0 result clock) clock_here
+          it.attempts.attempt in
           let rest : Rest = record (rest_of s) { clock = clock } in
-          event-then old p act next devices s tied new devices _ (after_attempt s.inner p.0 result) s.files clock s.terms c.tell_end.ensures.chosen there stands (sym c.tell_end.ensures.clock) (terms-are old p act next devices s tied)
-          (result, rest, (it.now, is_now, subst (λ (service : Service). Serves service s it.now p.0 result rest) (sym c.requires.serves) (clock, attempt, refl)), c.event_end.ensures ∙ ap event_end_of same ∙ end-tied result, refl);
+          event-then old p act next devices s tied new devices _ (after_attempt s.inner p.0 result) s.files clock
+          s.terms c.tell_end.ensures.chosen there stands (sym c.tell_end.ensures.clock)
+          (terms-are old p act next devices s tied) (
+            result,
+            rest,
+            (
+              it.now,
+              is_now,
+              subst (λ (service : Service). Serves service s it.now p.0 result rest)
+                  (sym c.requires.serves) (clock, attempt, refl),
+            ),
+            c.event_end.ensures ∙ ap event_end_of same ∙ end-tied
+                result,
+            refl,
+          );
       memory = λ out. absurd (never-wants first.attempts.result (ended ∙ out));
       waits = λ is. absurd (time-answers s0.inner p.0 c.args.call old.clock first.now first.attempts.result clock first.attempts.attempt (ended ∙ is));
       going = λ ran. (p, c.tell_end.ensures.chosen ∙ next.chosen, lives-so c.attempt-end.result new.processes.table p.0 (sym c.event_end.ensures ∙ ran) c.tell_end.ensures.lives);
-      count = λ _. sym (ap (λ (m : Inner). m.tick) there0.is) ∙ time-tick s0.inner p.0 c.args.call old.clock first.now first.attempts.result clock first.attempts.attempt ∙ ap (λ (m : Inner). m.tick) tied0.inner.is;
+      count = λ _. sym (ap (λ (m : Inner). m.tick) there0.is) ∙ time-tick s0.inner p.0 c.args.call old.clock first.now
+          first.attempts.result clock first.attempts.attempt ∙ ap (λ (m : Inner). m.tick) tied0.inner.is;
       calls = leaves-drives old devices devices refl;
       images = keeps-drives old devices devices refl;
     }

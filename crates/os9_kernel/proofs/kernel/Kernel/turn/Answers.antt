@@ -11,10 +11,14 @@ pub returns-in-Attempt-clause-turn : goal.returns-in-Attempt-clause-turn
 returns-in-Attempt-clause-turn g c =
     let old = c.args.self.now in
     let act = Attempt c.in-Attempt.code in
-    turn-of c.args.left old _ c.unwrap-p.result act (does-next old c.unwrap-p.result act c.unwrap-p.ensures c.in-Attempt.ensures.process c.requires.going c.in-Attempt.ensures.next) refl _ _ c.attempt-end.result c.attempt-end.ensures.event c.attempt-end.ensures.progress
+    turn-of c.args.left old _ c.unwrap-p.result act (does-next old c.unwrap-p.result act c.unwrap-p.ensures
+    c.in-Attempt.ensures.process c.requires.going c.in-Attempt.ensures.next) refl _ _ c.attempt-end.result
+    c.attempt-end.ensures.event c.attempt-end.ensures.progress
 
 pub returns-in-Delivery-clause-turn : goal.returns-in-Delivery-clause-turn
 returns-in-Delivery-clause-turn g c =
     let old = c.args.self.now in
     let act = Delivery c.in-Delivery.signal in
-    turn-of c.args.left old _ c.unwrap-p.result act (does-next old c.unwrap-p.result act c.unwrap-p.ensures c.in-Delivery.ensures.process c.requires.going c.in-Delivery.ensures.next) refl _ _ c.deliver-end.result (c.deliver-end.ensures.event _) c.deliver-end.ensures.progress
+    turn-of c.args.left old _ c.unwrap-p.result act (does-next old c.unwrap-p.result act c.unwrap-p.ensures
+    c.in-Delivery.ensures.process c.requires.going c.in-Delivery.ensures.next) refl _ _ c.deliver-end.result
+    (c.deliver-end.ensures.event _) c.deliver-end.ensures.progress

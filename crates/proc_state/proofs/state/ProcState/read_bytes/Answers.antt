@@ -11,4 +11,6 @@ returns-clause-read c =
     λ m tied.
     ap (λ (cells : Cells). user_bytes cells c.args.at c.args.count) (sym (cells_of-seen c.args.self.now.memory c.args.p.0 c.requires m.memory tied.memory))
     ∙ c.read_front.ensures.read
-    ∙ ap (λ (bytes : List ℕ). bytes_read c.read_front.result c.args.count bytes) (sym (take-front c.read_front.new.into (drop (length c.read_front.new.into) c.args.self.now.buffer.items) c.args.self.now.buffer.len (omega arith)))
+    ∙ ap (λ (bytes : List ℕ). bytes_read c.read_front.result c.args.count bytes)
+    (sym (take-front c.read_front.new.into (drop (length c.read_front.new.into) c.args.self.now.buffer.items)
+    c.args.self.now.buffer.len (omega arith)))

@@ -43,7 +43,9 @@ invariant_of-self c = record {
   counted = c.self.invariant.counted;
   first_whole = let below = c.in_ok-self-inside.ensures.below in omega arith;
   used_before = used c.self.inside c.self.invariant c.deref.result.now c.deref.ensures.value c.in_ok-self-inside.field-0 c.in_ok-self-inside.ensures;
-  none_longer = (subst (λ bs. IsBestRun (is_clear_below bs c.self.inside.whole) c.min-enough.result c.best_run-run.result.first c.best_run-run.result.length) c.deref-2.ensures.value c.best_run-run.ensures).none_longer (omega arith);
+  none_longer = (subst (λ bs. IsBestRun (is_clear_below bs c.self.inside.whole) c.min-enough.result
+      c.best_run-run.result.first c.best_run-run.result.length) c.deref-2.ensures.value
+      c.best_run-run.ensures).none_longer (omega arith);
 }
 
 pub invariant_of-self-else-run-enough : goal.invariant_of-self-else-run-enough
@@ -58,20 +60,24 @@ invariant_of-self-else-run-enough c = record {
 
 pub returns-then-run-enough-clause-found : goal.returns-then-run-enough-clause-found
 returns-then-run-enough-clause-found c =
-    found c.self.inside c.self.invariant c.deref.result.now c.deref.ensures.value c.in_ok-self-inside.field-0 c.in_ok-self-inside.ensures c.args.self.now c.self.view_is c.args.wanted c.min-enough.result
+    found c.self.inside c.self.invariant c.deref.result.now c.deref.ensures.value c.in_ok-self-inside.field-0
+    c.in_ok-self-inside.ensures c.args.self.now c.self.view_is c.args.wanted c.min-enough.result
     c.requires c.min-enough.ensures c.deref-2.result.now c.deref-2.ensures.value c.best_run-run.result.first c.best_run-run.result.length c.best_run-run.ensures
 
 pub returns-then-run-enough-clause-best : goal.returns-then-run-enough-clause-best
 returns-then-run-enough-clause-best c =
-    chosen c.self.inside c.self.invariant c.deref.result.now c.deref.ensures.value c.in_ok-self-inside.field-0 c.in_ok-self-inside.ensures c.args.self.now c.self.view_is c.args.wanted c.min-enough.result
+    chosen c.self.inside c.self.invariant c.deref.result.now c.deref.ensures.value c.in_ok-self-inside.field-0
+    c.in_ok-self-inside.ensures c.args.self.now c.self.view_is c.args.wanted c.min-enough.result
     c.requires c.min-enough.ensures c.deref-2.result.now c.deref-2.ensures.value c.best_run-run.result.first c.best_run-run.result.length c.best_run-run.ensures
 
 pub returns-else-run-enough-clause-found : goal.returns-else-run-enough-clause-found
 returns-else-run-enough-clause-found c =
-    found c.self.inside c.self.invariant c.deref.result.now c.deref.ensures.value c.in_ok-self-inside.field-0 c.in_ok-self-inside.ensures c.args.self.now c.self.view_is c.args.wanted c.min-enough.result
+    found c.self.inside c.self.invariant c.deref.result.now c.deref.ensures.value c.in_ok-self-inside.field-0
+    c.in_ok-self-inside.ensures c.args.self.now c.self.view_is c.args.wanted c.min-enough.result
     c.requires c.min-enough.ensures c.deref-2.result.now c.deref-2.ensures.value c.best_run-run.result.first c.best_run-run.result.length c.best_run-run.ensures
 
 pub returns-else-run-enough-clause-best : goal.returns-else-run-enough-clause-best
 returns-else-run-enough-clause-best c =
-    chosen c.self.inside c.self.invariant c.deref.result.now c.deref.ensures.value c.in_ok-self-inside.field-0 c.in_ok-self-inside.ensures c.args.self.now c.self.view_is c.args.wanted c.min-enough.result
+    chosen c.self.inside c.self.invariant c.deref.result.now c.deref.ensures.value c.in_ok-self-inside.field-0
+    c.in_ok-self-inside.ensures c.args.self.now c.self.view_is c.args.wanted c.min-enough.result
     c.requires c.min-enough.ensures c.deref-2.result.now c.deref-2.ensures.value c.best_run-run.result.first c.best_run-run.result.length c.best_run-run.ensures

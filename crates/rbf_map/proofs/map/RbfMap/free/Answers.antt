@@ -15,8 +15,11 @@ overflow_add-self c =
 pub invariant_of-self : goal.invariant_of-self
 invariant_of-self c =
     let used : mark c.self.inside.bytes.items c.args.c ≡ 1 = ap (λ (m : ClusterMap). mark m.bytes c.args.c) c.self.view_is ∙ c.requires.used in
-    given_back c.self.inside c.self.invariant c.clear_mark.new.bytes c.args.c c.clear_mark.ensures used c.if-c-self.true c.min-self-inside.result c.longest_with-self-inside.result c.min-self-inside.ensures
-    (subst (λ bs. IsLongestWith (is_clear_below bs c.self.inside.whole) c.args.c c.self.inside.whole c.self.inside.longest c.longest_with-self-inside.result) c.deref.ensures.value c.longest_with-self-inside.ensures)
+    given_back c.self.inside c.self.invariant c.clear_mark.new.bytes c.args.c c.clear_mark.ensures used
+    c.if-c-self.true c.min-self-inside.result c.longest_with-self-inside.result c.min-self-inside.ensures
+    (subst (λ bs. IsLongestWith (is_clear_below bs c.self.inside.whole) c.args.c c.self.inside.whole
+    c.self.inside.longest c.longest_with-self-inside.result) c.deref.ensures.value
+    c.longest_with-self-inside.ensures)
 
 pub invariant_of-self-else-c-self : goal.invariant_of-self-else-c-self
 invariant_of-self-else-c-self c =

@@ -20,4 +20,5 @@ returns-in_default-clause-found c =
     let disk = sector c.args.image.now.bytes.now in
     let bytes = c.position_bytes.ensures in
     let P : ℕ → Type 0 = λ n. IsNumber g n in
-    found_nothing g disk c.args.e c.args.self.now.found.items (λ m names number. c.in_default.ensures (ap is_used bytes ∙ names.used) (subst P (sym (ap descriptor_field bytes ∙ names.descriptor)) number))
+    found_nothing g disk c.args.e c.args.self.now.found.items (λ m names number. c.in_default.ensures
+    (ap is_used bytes ∙ names.used) (subst P (sym (ap descriptor_field bytes ∙ names.descriptor)) number))

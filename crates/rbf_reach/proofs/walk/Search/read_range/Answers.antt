@@ -36,12 +36,17 @@ loop-e-preserved c =
     let before = c.loop-e.invariant in
     let places = ap (λ (unread : Unread). length unread.next.items) read.unread in
     let named = named_after g disk search mid c.pass.new.self e before.0 read.found read.unread c.pass.ensures.only in (
-      searching_after g disk search mid c.first-e-in-loop-e.new.self e before.0 read.found read.unread (λ t h. c.pass.ensures.only t ((first.same t).0 h)) read.marks read.size (first.size ∙ c.pass.ensures.size) first.ordered,
-      read_more g disk c.args.first c.args.end c.args.self.now.found.items search.found.items mid.found.items e c.first-e-in-loop-e.result before.2 (omega arith) before.1 read.found (λ t n above below names number. named t n (first.read t (omega arith) below) names number),
+      searching_after g disk search mid c.first-e-in-loop-e.new.self e before.0 read.found read.unread
+          (λ t h. c.pass.ensures.only t ((first.same t).0 h)) read.marks read.size (first.size ∙ c.pass.ensures.size)
+          first.ordered,
+      read_more g disk c.args.first c.args.end c.args.self.now.found.items search.found.items mid.found.items e
+          c.first-e-in-loop-e.result before.2 (omega arith) before.1 read.found (λ t n above below names number. named
+          t n (first.read t (omega arith) below) names number),
       omega (arith, first.after, before.2),
       omega (arith, first.within, c.pass.ensures.size, places, before.0.positions),
     )
 
 pub returns-clause-found : goal.returns-clause-found
 returns-clause-found c =
-    read_all (geometry_of c.args.image.now.ident) (sector c.args.image.now.bytes.now) c.args.first c.args.end c.args.self.now.found.items c.loop-e.self.found.items c.loop-e.e (omega arith) c.loop-e.invariant.1
+    read_all (geometry_of c.args.image.now.ident) (sector c.args.image.now.bytes.now) c.args.first c.args.end
+    c.args.self.now.found.items c.loop-e.self.found.items c.loop-e.e (omega arith) c.loop-e.invariant.1

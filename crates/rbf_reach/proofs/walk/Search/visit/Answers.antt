@@ -9,7 +9,9 @@ use Rattle.rbf_reach.proofs.walk.Search.visit.Goals as goal
 use Rattle.rbf_reach.proofs.walk.Search.visit.Goals.{In_ok-list_positions}
 
 -- the ranges that are listed
-runs_of : (c : In_ok-list_positions) (ranges : List (ℕ × ℕ)) → ranges ≡ c.list_positions.new.ranges.items → ArePositions (geometry_of c.args.image.now.ident) (sector c.args.image.now.bytes.now) (listed c.args.image.now c.args.dir.now.number) ranges
+runs_of : (c : In_ok-list_positions) (ranges : List (ℕ × ℕ)) → ranges ≡ c.list_positions.new.ranges.items
+    → ArePositions (geometry_of c.args.image.now.ident) (sector c.args.image.now.bytes.now)
+    (listed c.args.image.now c.args.dir.now.number) ranges
 runs_of c ranges is =
     positions_are c.args.image.now c.args.dir.now c.requires.directory c.list_positions.new.ranges.items c.in_ok-list_positions.ensures.positions c.in_ok-list_positions.ensures.some ranges is
 
@@ -41,11 +43,16 @@ loop-first-preserved c =
     let positions = runs_of (goal.at.loop-first-preserved c).In_ok-list_positions c.deref-first-items.result.now c.deref-first-items.ensures.value in
     let before = c.loop-first.invariant in (
       c.in_ok-read_range.ensures.searching,
-      visited_run g disk contents items positions i (omega arith) c.args.self.now.found.items c.loop-first.self.found.items c.read_range.new.self.found.items c.loop-first.skipped c.min-passed.result before.2 (omega (arith, c.min-passed.ensures)) before.1 c.in_ok-read_range.ensures.found,
+      visited_run g disk contents items positions i (omega arith) c.args.self.now.found.items
+          c.loop-first.self.found.items c.read_range.new.self.found.items c.loop-first.skipped c.min-passed.result
+          before.2 (omega (arith, c.min-passed.ensures)) before.1 c.in_ok-read_range.ensures.found,
       omega (arith, next_before g disk contents items positions i (omega arith), before.2, c.min-passed.ensures),
     )
 
 pub returns-clause-visited : goal.returns-clause-visited
 returns-clause-visited c =
     let positions = runs_of (goal.at.returns-clause-visited c).In_ok-list_positions c.deref-first-items.result.now c.deref-first-items.ensures.value in
-    visited_all (geometry_of c.args.image.now.ident) (sector c.args.image.now.bytes.now) (listed c.args.image.now c.args.dir.now.number) c.deref-first-items.result.now positions c.args.self.now.found.items c.loop-first.self.found.items c.loop-first.first-index (omega arith) c.loop-first.invariant.1
+    visited_all (geometry_of c.args.image.now.ident) (sector c.args.image.now.bytes.now)
+    (listed c.args.image.now c.args.dir.now.number) c.deref-first-items.result.now positions
+    c.args.self.now.found.items c.loop-first.self.found.items c.loop-first.first-index (omega arith)
+    c.loop-first.invariant.1

@@ -14,7 +14,9 @@ pub returns-then-note_user : goal.returns-then-note_user
 returns-then-note_user c =
     let old = c.args.self.now in
     let new : Uses = record { users = c.note_user.new.users; owners = c.give.new.owners; least = c.min-self-then-note_user.result } in
-    noted_again c.args.cluster c.args.owner c.args.s old new c.if-give.ensures.given c.requires.users c.note_user.ensures.noted c.if-give.ensures.another c.if-note_user.ensures.before c.min-self-then-note_user.ensures
+    noted_again c.args.cluster c.args.owner c.args.s old new c.if-give.ensures.given c.requires.users
+    c.note_user.ensures.noted c.if-give.ensures.another c.if-note_user.ensures.before
+    c.min-self-then-note_user.ensures
 
 pub returns-else-note_user : goal.returns-else-note_user
 returns-else-note_user c =

@@ -14,11 +14,14 @@ loop-s-init c =
 
 pub returns-then-s-cluster : goal.returns-then-s-cluster
 returns-then-s-cluster c =
-    run_left c.args.cluster c.requires.cluster c.args.owner c.args.self.now c.args.segment.0 c.loop-s.s (omega arith) c.loop-s.self c.loop-s.invariant c.args.segment.1 (omega arith) c.if-s-cluster.true
+    run_left c.args.cluster c.requires.cluster c.args.owner c.args.self.now c.args.segment.0 c.loop-s.s (omega arith)
+    c.loop-s.self c.loop-s.invariant c.args.segment.1 (omega arith) c.if-s-cluster.true
 
 pub returns-then-self-s : goal.returns-then-self-s
 returns-then-self-s c =
-    run_ended c.args.cluster c.requires.cluster c.args.owner c.args.self.now c.args.segment.0 c.loop-s.s (omega arith) c.loop-s.self c.loop-s.invariant c.note.new.self c.note.ensures c.args.segment.1 (omega arith) c.if-self-s.true
+    run_ended c.args.cluster c.requires.cluster c.args.owner c.args.self.now c.args.segment.0 c.loop-s.s (omega arith)
+    c.loop-s.self c.loop-s.invariant c.note.new.self c.note.ensures c.args.segment.1 (omega arith)
+    c.if-self-s.true
 
 pub loop-s-preserved : goal.loop-s-preserved
 loop-s-preserved c =

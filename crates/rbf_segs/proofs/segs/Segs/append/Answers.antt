@@ -22,4 +22,5 @@ returns-in-Some-clause-sectors c =
     let some : 1 ≤ length (take inside.len inside.places) = lengthens.some in
     let counted = c.self.invariant.counted in
     let held = replaced inside c.self.invariant c.in-Some.run' lengthens.whole (c.from-runs.result - 1) (omega arith) (omega arith) in
-    ap sectors_of (held.list ∙ sym lengthens.list) ∙ sectors_of-appended (take inside.len inside.places) c.args.lsn c.args.n ∙ ap (λ segments. sectors_of segments ++ segment_sectors (c.args.lsn, c.args.n)) c.self.view_is
+    ap sectors_of (held.list ∙ sym lengthens.list) ∙ sectors_of-appended (take inside.len inside.places) c.args.lsn
+    c.args.n ∙ ap (λ segments. sectors_of segments ++ segment_sectors (c.args.lsn, c.args.n)) c.self.view_is

@@ -16,5 +16,9 @@ invariant_of-self c =
     let same : after ≡ entered before c.args.path None (dropped c.args.path c.in-Some.lock) = search rules in
     record {
       agree = subst (λ (records : Records). AreRecords records) (sym same) (records-dropped before c.args.path c.in-Some.lock is c.self.invariant.agree);
-      room = subst (λ (held : List (Option Held)). length c.push.new.history.items + count_by is_some held ≤ vec_capacity c.push.new.history) (sym (ap (λ (locks : Locks). locks.held) c.release.ensures.locks)) (room-ended c.self.inside.history.items c.push.new.history.items c.entry.result c.self.inside.locks.held c.args.path c.in-Some.lock (vec_capacity c.self.inside.history) (vec_capacity c.push.new.history) c.push.ensures.items is c.self.invariant.room c.push.ensures.capacity);
+      room = subst (λ (held : List (Option Held)). length c.push.new.history.items + count_by is_some held ≤
+          vec_capacity c.push.new.history) (sym (ap (λ (locks : Locks). locks.held) c.release.ensures.locks))
+          (room-ended c.self.inside.history.items c.push.new.history.items c.entry.result c.self.inside.locks.held
+          c.args.path c.in-Some.lock (vec_capacity c.self.inside.history) (vec_capacity c.push.new.history)
+          c.push.ensures.items is c.self.invariant.room c.push.ensures.capacity);
     }

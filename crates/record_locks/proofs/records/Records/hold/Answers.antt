@@ -16,5 +16,7 @@ invariant_of-self-2 c =
     let ample : length c.self.inside.history.items + 66 ≤ vec_capacity c.make_room.new.history = search rules in
     record {
       agree = subst (λ (records : Records). AreRecords records) (sym same) (records-held before c.args.path c.args.lock c.args.bytes.now c.requires.path may c.self.invariant.agree);
-      room = room-entered c.self.inside.history.items c.push.new.history.items c.entry.result c.grant.new.self.held (vec_capacity c.make_room.new.history) (vec_capacity c.push.new.history) entered c.grant.ensures.kept.paths ample c.push.ensures.capacity;
+      room = room-entered c.self.inside.history.items c.push.new.history.items c.entry.result c.grant.new.self.held
+          (vec_capacity c.make_room.new.history) (vec_capacity c.push.new.history) entered c.grant.ensures.kept.paths
+          ample c.push.ensures.capacity;
     }
