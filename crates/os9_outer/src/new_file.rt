@@ -1,8 +1,8 @@
 //! A new file next to another one, which it is to replace.
 
-use std::fs::{File, Metadata, OpenFile, OpenOptions};
+use std::fs::{File, Metadata, OpenFile, OpenOptions, Permissions};
 use std::io::{ErrorKind, Write};
-use std::os::unix::fs::{MetadataExt, OpenOptionsExt, lchown};
+use std::os::unix::fs::{MetadataExt, OpenOptionsExt, PermissionsExt, lchown};
 use std::path::{Path, PathBuf};
 use std::rt::Runtime;
 use std::{fs, io};
@@ -12,6 +12,13 @@ const OWNER_ALONE: u32 = 0o600;
 
 /// The mode of a new file that replaces none. The umask takes away from it.
 const ANYONE: u32 = 0o666;
+
+/// The bits of a mode that are not given to another owner: that programs run as the owner.
+const OF_OWNER: u32 = 0o4000;
+
+/// The bits of a mode that are not given to another group: what the group may do, and that programs
+/// run as the group.
+const OF_GROUP: u32 = 0o2070;
 
 /// A file that this run has made, under a name that was free.
 #[derive(Drop)]
@@ -49,14 +56,18 @@ pub(crate) fn create_beside<R: Runtime + AllocGlobal>(
 }
 
 impl<F: Write + OpenFile + Drop> NewFile<F> {
-    // Gives the file the owner, the group and the mode of the old one. An owner that the system
-    // does not let this user give is not kept.
+    // Gives the file the owner, the group and the mode of the old one. An owner or a group that the
+    // system does not let this user give is not kept, and then no other gets its bits of the mode.
     pub(crate) fn take_after<R: Runtime>(&self, rt: &R, old: &Metadata) -> io::Result<()> {
         let path = self.path.as_path();
+        let mut mode = old.permissions().mode();
         if lchown(rt, path, Some(old.uid()), Some(old.gid())).is_err() {
-            let _ = lchown(rt, path, None, Some(old.gid()));
+            mode &= !OF_OWNER;
+            if lchown(rt, path, None, Some(old.gid())).is_err() {
+                mode &= !OF_GROUP;
+            }
         }
-        self.file.set_permissions(old.permissions())
+        self.file.set_permissions(Permissions::from_mode(mode))
     }
 
     // Writes these bytes, and syncs them to the disk.

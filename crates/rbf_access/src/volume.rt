@@ -69,7 +69,7 @@ impl Volume {
         }
         match read_sector(d, lsn) {
             Ok(bytes) => {
-                self.cache.keep(0, lsn, &bytes);
+                self.cache.add(0, lsn, &bytes);
                 Ok(())
             }
             Err(fault) => Err(FileFault::Device(fault.number())),

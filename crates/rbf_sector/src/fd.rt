@@ -55,13 +55,27 @@ pub fn write_fd(f: &Fd, b: &mut [u8; 256])
     ensures behind { (i : ℕ) → 16 + 5 * (length f.now.segs + 1) ≤ i
         → slice_index b.new i ≡ slice_index b.old i }
 {
+    write_fields(f, b);
+    write_segs(&f.segs, b);
+}
+
+/// Writes the first 16 bytes of a file descriptor, which are all its fields before the segment
+/// list. The other bytes are unchanged.
+pub fn write_fields(f: &Fd, b: &mut [u8; 256])
+    ensures attr { attributes_field b.new ≡ f.now.attr }
+    ensures owner { owner_field b.new ≡ f.now.owner }
+    ensures modified { modified_field b.new ≡ f.now.modified }
+    ensures links { links_field b.new ≡ f.now.links }
+    ensures size { size_field b.new ≡ f.now.size }
+    ensures created { created_field b.new ≡ f.now.created }
+    ensures beside { KeepsBeside b.old b.new 0 16 }
+{
     b[0] = f.attr;
     put_u16(b, 1, f.owner);
     put_bytes(b, 3, &f.modified);
     b[8] = f.links;
     put_u32(b, 9, f.size);
     put_bytes(b, 13, &f.created);
-    write_segs(&f.segs, b);
 }
 
 // Writes a segment list, followed by one pair of zeros if there is room.

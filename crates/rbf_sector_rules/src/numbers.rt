@@ -1,6 +1,9 @@
 ghost use Rattle.rbf_model.specs.Decides.{Decides};
-ghost use Rattle.std.specs.Prelude.{◌≡◌, ℕ, ◌+◌, ◌*◌, ◌<◌, ◌≤◌, IfOk, length};
+ghost use Rattle.rbf_model.specs.Fields.{is_used as is_used_lem};
+ghost use Rattle.rbf_model.specs.Geometry.{sector as sector_of};
+ghost use Rattle.std.specs.Prelude.{◌≡◌, ℕ, ◌+◌, ◌*◌, ◌<◌, ◌≤◌, false, IfOk, length};
 ghost use Rattle.rbf_sector.specs.Ident.{geometry_of};
+ghost use Rattle.rbf_reach.specs.Positions.{entry_at_position};
 ghost use Rattle.rbf_reach.specs.Files.{IsFileOn, AreFiles};
 ghost use Rattle.rbf_reach.specs.Reading.{disk_on, IsDirectory, listed};
 ghost use Rattle.rbf_sector_rules.specs.Rules.{BreaksNumbersAt, HasBadNumber, IsBadPosition};
@@ -27,16 +30,47 @@ fn is_bad_position(image: &IdentifiedImage<'_>, e: u32) -> bool
     entry.lsn == 0 || entry.lsn >= image.ident.total
 }
 
-// The place behind the last such position, or 0 if there is none.
+// Whether a position of the sector has a used entry. Few sectors of most images have one.
+fn has_used(image: &[u8], n: u32) -> bool
+    requires fits { 8 * n + 8 < 4294967296 }
+    requires within { 256 * (n + 1) ≤ length image.now }
+    ensures { result ≡ false → (i : ℕ) → i < 8
+        → is_used_lem (entry_at_position (sector_of image.now) (8 * n + i)) ≡ false }
+{
+    for i in 0..8 {
+        if is_used(image, 8 * n + i) {
+            return true;
+        }
+    }
+    false
+}
+
+// Whether a position of the sector is such a position.
+fn has_bad_position(image: &IdentifiedImage<'_>, n: u32) -> bool
+    requires { n < image.now.ident.total }
+    ensures { result ≡ false → (i : ℕ) → i < 8
+        → ¬ IsBadPosition (disk_on image.now) (8 * n + i) }
+{
+    if !has_used(image.bytes, n) {
+        return false;
+    }
+    for i in 0..8 {
+        if is_bad_position(image, 8 * n + i) {
+            return true;
+        }
+    }
+    false
+}
+
+// The place behind the last sector with such a position, or 0 if there is none.
 fn end_of_bad(image: &IdentifiedImage<'_>) -> u32
     ensures within { result ≤ 8 * image.now.ident.total }
     ensures none { (e : ℕ) → result ≤ e → e < 8 * image.now.ident.total
         → ¬ IsBadPosition (disk_on image.now) e }
 {
-    let positions = 8 * image.ident.total;
-    for e in (0..positions).rev() {
-        if is_bad_position(image, e) {
-            return e + 1;
+    for n in (0..image.ident.total).rev() {
+        if has_bad_position(image, n) {
+            return 8 * n + 8;
         }
     }
     0

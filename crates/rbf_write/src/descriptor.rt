@@ -6,7 +6,7 @@ ghost use Rattle.rbf_change.specs.Tidy.{list_end, IsEnded, KeepsListEnd};
 ghost use Rattle.rbf_write.specs.Changed.{HasFields};
 
 use os9_base::registers::TimePacket;
-use rbf_sector::{Fd, write_fd};
+use rbf_sector::{Fd, write_fd, write_fields};
 use rbf_segs::Segs;
 
 /// The descriptor `old`, whose segments are `was`, with the fields and segments of `file`. An
@@ -49,17 +49,8 @@ pub fn with_fields(old: &[u8; 256], file: &Fd) -> [u8; 256]
     ensures behind { (i : ℕ) → 16 ≤ i → slice_index result i ≡ slice_index old.now i }
 {
     let mut bytes = *old;
-    write_fd(file, &mut bytes);
-    keep_list(&mut bytes, old);
+    write_fields(file, &mut bytes);
     bytes
-}
-
-// Copies the list of segments, and all bytes after it, from another descriptor.
-fn keep_list(bytes: &mut [u8; 256], old: &[u8; 256])
-    ensures fields { (i : ℕ) → i < 16 → slice_index bytes.new i ≡ slice_index bytes.old i }
-    ensures list { (i : ℕ) → 16 ≤ i → slice_index bytes.new i ≡ slice_index old.now i }
-{
-    bytes[16..].copy_from_slice(&old[16..]);
 }
 
 /// The date and time of a descriptor (FD.DAT).

@@ -36,3 +36,7 @@ returns-in-Some-clause-first c bytes there =
     rw (c.bring_first.ensures, c.note.ensures.kept)
     (moved c.self.inside.places.sectors.items c.self.inside.order c.self.invariant.sound c.args.drive c.args.lsn c.in-Some.n c.in-Some.ensures.within c.in-Some.ensures.has c.args.self.now bytes
     c.self.view_is there)
+
+pub returns-in-None-clause-none : goal.returns-in-None-clause-none
+returns-in-None-clause-none c is =
+    not_held c.self.inside.places.sectors.items c.self.inside.order c.self.invariant.sound c.args.drive c.args.lsn c.args.self.now c.self.view_is c.in-None.ensures.none
