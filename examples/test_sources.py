@@ -11,6 +11,7 @@ from assemble import assemble
 
 # The pieces of a file of modules that has more than its own source: sources, and bytes between them.
 PIECES = {
+    "account": ["account", "deposit"],
     "pipe": ["pipe", "lines"],
     "workers": ["workers", "worker"],
     "revisions": ["hello", bytes(5), "data", "newer"],

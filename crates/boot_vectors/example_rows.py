@@ -88,6 +88,15 @@ def shell():
     row("shell.img", field(image), text("shell.keys"), text("shell.slices"), out, left, 48)
 
 
+def account():
+    """Two programs add 1 to the number of a file three times each. Its size stays, and so do its dates."""
+    image = (EXAMPLES / "account.img").read_bytes()
+    left = lines(image)
+    dates = " ".join(left["/account"].split(" ")[3:5])
+    left["/account"] = file_line("/account", 0x0B, b"0006\r", dates)
+    row("account.img", field(image), text("log.keys"), text("account.slices"), b"0006\r\n", left, 24)
+
+
 def names():
     """The first boot of docs/GUESTS.md, over a disk that is laid out here: it asks for a name, and makes the file."""
     modules = (EXAMPLES / "names.mod").read_bytes()
@@ -104,4 +113,5 @@ def names():
 
 logs()
 shell()
+account()
 names()

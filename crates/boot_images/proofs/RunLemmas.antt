@@ -1,20 +1,24 @@
 -- What a run with images in the drives says where they are out again.
 use Rattle.std.proofs.Common.{◌≡◌, ◌⊎◌, ◌≤◌, ℕ, zero, suc, Bool, true, false, Option, Some, None, List, [], ◌∷◌, length, map, take, slice_get, refl, sym, ap, subst, ◌∙◌, All, inl, inr, arith}
+use Rattle.os9_base.specs.declared.registers.TimePacket.{TimePacket}
 use Rattle.std.proofs.lemmas.List.{length-map}
 use Rattle.std.proofs.lemmas.List.Elements.{All-head, All-tail}
 use Rattle.std.proofs.lemmas.Option.{none-some, same_Some}
+use Rattle.lock_model.specs.declared.history.Entry.{Entry}
 use Rattle.rbf_model.specs.Volume.{DiskVolume, Vol}
 use Rattle.file_rules.specs.Files.{DriveState, NoneFailed, OneFailed, volume_at}
+use Rattle.file_rules.specs.declared.path_call.PathCall.{PathCall}
 use Rattle.file_drives.specs.Drives.{DriveView, drive_states, media_of}
 use Rattle.file_drives.specs.Mounted.{DriveHolds}
 use Rattle.file_drives.proofs.DriveLemmas.{media-there}
 use Rattle.file_start.specs.Start.{HaveImages, HaveVolumes}
 use Rattle.machine_model.specs.Start.{Starts}
 use Rattle.machine_model.specs.State.{State}
+use Rattle.image_laws.proofs.Attempts.{path-keeps}
 use Rattle.image_laws.proofs.Images.{images-keep-ends}
 use Rattle.image_laws.proofs.Runs.{first-events-keep-ends, run-keeps-ends, slice-keeps-ends}
 use Rattle.image_laws.proofs.Starts.{start-has-images, start-has-no-more}
-use Rattle.os9_kernel.specs.Breaks.{BreaksEvent}
+use Rattle.os9_kernel.specs.Breaks.{BreaksEvent, BreaksAtByte, BreaksAtEntry}
 use Rattle.os9_kernel.specs.Calls.{StopsSlice}
 use Rattle.os9_kernel.specs.Outside.{Outside}
 use Rattle.os9_kernel.specs.Volumes.{HoldsVolumes}
@@ -145,6 +149,19 @@ module _ (setup : Setup) (before ran : World) (new : List (List ℕ)) (drives : 
           record { view = view; is = at; on = record { image = image; is = in_drive; vol = subst (λ (image : List ℕ). Vol image v) (sym same) holds.on.vol } };
     }
 
+    lacks-again : (t : State) (call : PathCall) (now : TimePacket) (p : ℕ) → GetsNone s t → BreaksAtByte call t now p
+        ran.devices ⊎ BreaksAtEntry call t now p ran.devices → BreaksAtByte call t now p again.devices ⊎ BreaksAtEntry
+        call t now p again.devices
+    lacks-again t call now p none (inl it) = inl (record { lacks = it.lacks; drives = holds-again t none it.drives })
+    lacks-again t call now p none (inr it) =
+        inr (record {
+          done = it.done;
+          lacks = it.lacks;
+          drives = holds-again (record t { files = it.done })
+              (λ drive is. (path-keeps call t.inner t.files now p it.lacks.result it.done t.terms _
+              it.lacks.attempts).none drive (none drive is)) it.drives;
+        })
+
     breaks-again : (t : State) → GetsNone s t → BreaksEvent t ran.devices → BreaksEvent t again.devices
     breaks-again t none it = record {
       p = it.p;
@@ -156,8 +173,7 @@ module _ (setup : Setup) (before ran : World) (new : List (List ℕ)) (drives : 
       is_call = it.is_call;
       now = it.now;
       is_now = it.is_now;
-      lacks = it.lacks;
-      drives = holds-again t none it.drives;
+      lacks = lacks-again t it.call it.now it.p none it.lacks;
     }
 
     stops-again : (n : ℕ) (t : State) → GetsNone s t → StopsSlice n t ran.devices → StopsSlice n t again.devices
@@ -251,26 +267,27 @@ module _ (setup : Setup) (before ran : World) (new : List (List ℕ)) (drives : 
       unchanged = unchanged;
     }
 
-  ends-with : (lives : Bool) (begun : ℕ) → RunsWhole setup lives begun held ran → EndsWithImages setup lives begun new before after
-  ends-with lives begun it = record {
+  ends-with : (lives : Bool) (begun : ℕ) (history : List Entry) → RunsWhole setup lives begun history held ran → EndsWithImages setup lives begun new history before after
+  ends-with lives begun history it = record {
     t = it.t;
     written = it.runs.written;
     outcome = has-outcome it.s it.t it.starts it.runs;
     living = it.living;
     ticks = it.ticks;
+    recorded = it.recorded;
     output = it.runs.output;
   }
 
   -- ---- by the end of the run
 
-  run-gives : (end : RunEnd) → ComesTo setup held ran end → RunGives setup new before after end
-  run-gives (Ended begun) it = ends-with false begun it
-  run-gives (Living begun) it = ends-with true begun it
-  run-gives (Refused fault) it = tt
-  run-gives (DriveFailed drive number) it = tt
-  run-gives OutputFailed it = runs-first it
-  run-gives NoMemory (inl unrun) = inl (unrun-after unrun)
-  run-gives NoMemory (inr first) = inr (runs-first first)
+  run-gives : (history : List Entry) (end : RunEnd) → ComesTo setup history held ran end → RunGives setup new history before after end
+  run-gives history (Ended begun) it = ends-with false begun history it
+  run-gives history (Living begun) it = ends-with true begun history it
+  run-gives history (Refused fault) it = tt
+  run-gives history (DriveFailed drive number) it = tt
+  run-gives history OutputFailed it = runs-first it
+  run-gives history NoMemory (inl unrun) = inl (unrun-after unrun)
+  run-gives history NoMemory (inr first) = inr (runs-first first)
 
   same-again : ran ≡ held → after ≡ before
   same-again is =
@@ -295,9 +312,9 @@ module _ (setup : Setup) (before ran : World) (new : List (List ℕ)) (drives : 
   leaves-unrun OutputFailed it = tt
   leaves-unrun NoMemory it = tt
 
-  runs-images : (end : RunEnd) → MachineCall setup held ran end → RunsImages setup new before after end
-  runs-images end call = record {
-    gives = λ told. run-gives end (call.comes told);
+  runs-images : (history : List Entry) (end : RunEnd) → MachineCall setup history held ran end → RunsImages setup new history before after end
+  runs-images history end call = record {
+    gives = λ told. run-gives history end (call.comes told);
     judged = call.judged;
     unrun = leaves-unrun end call.unrun;
     drives = empty-again new before.devices.drives ran.devices.drives drives many taken;
@@ -312,13 +329,13 @@ module _ (setup given : Setup) (before ran : World) (inside left : Outside) (new
     (room : HaveRoom (length setup.images) before.devices.drives) (as_many : length new ≡ length setup.images)
     (many : length ran.devices.drives ≡ length before.devices.drives) (taken : TakesImages new ran.devices.drives
     left.drives) where
-  pub runs-between : (end : RunEnd) → given ≡ setup → inside.drives ≡ holding setup.images before.devices.drives
+  pub runs-between : (history : List Entry) (end : RunEnd) → given ≡ setup → inside.drives ≡ holding setup.images before.devices.drives
       → inside.terms ≡ before.devices.terms → left.terms ≡ ran.devices.terms → MachineCall given
-      (record before { devices = inside }) ran end → RunsImages setup new before (record ran { devices = left }) end
-  runs-between end same put terms_put terms_left call =
+      history (record before { devices = inside }) ran end → RunsImages setup new history before (record ran { devices = left }) end
+  runs-between history end same put terms_put terms_left call =
       let same_devices : inside ≡ record { drives = holding setup.images before.devices.drives; terms = before.devices.terms } = λ i. record { drives = put i; terms = terms_put i } in
-      let held_call = subst (λ (devices : Outside). MachineCall given (record before { devices = devices }) ran end) same_devices call in
-      let set_up = subst (λ (by : Setup). MachineCall by (with_images_in setup.images before) ran end) same held_call in
-      subst (λ (terms : List TerminalState). RunsImages setup new before
+      let held_call = subst (λ (devices : Outside). MachineCall given history (record before { devices = devices }) ran end) same_devices call in
+      let set_up = subst (λ (by : Setup). MachineCall by history (with_images_in setup.images before) ran end) same held_call in
+      subst (λ (terms : List TerminalState). RunsImages setup new history before
       (record ran { devices = record { drives = left.drives; terms = terms } }) end) (sym terms_left)
-      (runs-images setup before ran new left.drives room as_many many taken end set_up)
+      (runs-images setup before ran new left.drives room as_many many taken history end set_up)

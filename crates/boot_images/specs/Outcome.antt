@@ -5,6 +5,7 @@ use Rattle.os9_outer.specs.Stream.{stream_with}
 use Rattle.rbf_model.specs.Volume.{DiskVolume}
 use Rattle.file_drives.specs.Drives.{drive_states}
 use Rattle.file_rules.specs.Files.{volume_at}
+use Rattle.lock_model.specs.declared.history.Entry.{Entry}
 use Rattle.machine_model.specs.Run.{Run}
 use Rattle.machine_model.specs.State.{State, has_living}
 use Rattle.image_laws.specs.Images.{IsWrittenBack}
@@ -51,15 +52,16 @@ pub record HasOutcome (setup : Setup) (t : State) (written : List ℕ) (images :
   pub volumes : AreImagesOf t setup.images images
   pub unchanged : KeepsUnchanged setup s states images
 
--- it ran to its end: a process lives then or none does, `begun` slices were begun, each of which is a tick, and the
--- output has gained what it wrote
-pub record EndsWithImages (setup : Setup) (lives : Bool) (begun : ℕ) (images : List (List ℕ)) (before after : World)
-    : Type 0 where
+-- it ran to its end: a process lives then or none does, `begun` slices were begun, each of which is a tick, this is the
+-- history of its record locks, and the output has gained what it wrote
+pub record EndsWithImages (setup : Setup) (lives : Bool) (begun : ℕ) (images : List (List ℕ)) (history : List Entry)
+    (before after : World) : Type 0 where
   pub t : State
   pub written : List ℕ
   pub outcome : HasOutcome setup t written images before after
   pub living : has_living t ≡ lives
   pub ticks : begun ≡ t.inner.tick
+  pub recorded : history ≡ t.files.records.history
   pub output : after.out ≡ stream_with before.out written
 
 -- the world with these images in its first drives, before they were taken out
@@ -75,17 +77,21 @@ pub record StopsWithImages (setup : Setup) (before after : World) : Type 0 where
   pub first : RunsFirst setup before (with_images_in images after)
 
 -- its outcome, by how its run ended; if it stopped before its end, the images hold the volumes of the state then
-abbrev pub RunGives : Setup → List (List ℕ) → World → World → RunEnd → Type 0
-RunGives setup images before after (Ended begun) = EndsWithImages setup false begun images before after
-RunGives setup images before after (Living begun) = EndsWithImages setup true begun images before after
-RunGives setup images before after OutputFailed = RunsFirst setup before (with_images_in images after)
-RunGives setup images before after NoMemory =
+abbrev pub RunGives : Setup → List (List ℕ) → List Entry → World → World → RunEnd → Type 0
+RunGives setup images history before after (Ended begun) =
+    EndsWithImages setup false begun images history before after
+RunGives setup images history before after (Living begun) =
+    EndsWithImages setup true begun images history before after
+RunGives setup images history before after OutputFailed = RunsFirst setup before (with_images_in images after)
+RunGives setup images history before after NoMemory =
     IsUnrun before after ⊎ RunsFirst setup before (with_images_in images after)
-RunGives setup images before after end = ⊤
+RunGives setup images history before after end = ⊤
 
--- A machine was started with the images in its drives, run over its slices, and these images were taken out again.
-pub record RunsImages (setup : Setup) (images : List (List ℕ)) (before after : World) (end : RunEnd) : Type 0 where
-  pub gives : All IsObserved before.devices.terms → RunGives setup images before after end
+-- A machine was started with the images in its drives and run over its slices, these images were taken out again, and
+-- this history was handed out.
+pub record RunsImages (setup : Setup) (images : List (List ℕ)) (history : List Entry) (before after : World)
+    (end : RunEnd) : Type 0 where
+  pub gives : All IsObserved before.devices.terms → RunGives setup images history before after end
   pub judged : Judges setup end
   pub unrun : LeavesUnrun (length setup.images) before after end
   pub drives : AreEmptyAgain before.devices.drives after.devices.drives

@@ -4,13 +4,14 @@ ghost use Rattle.std.specs.Prelude.{◌≡◌, All, length, vec_len};
 ghost use Rattle.boot_images.specs.BootFile.{IsVolume};
 ghost use Rattle.boot_images.specs.Outcome.{RunsImages, setup_of};
 ghost use Rattle.boot_images.specs.Ready.{AreFree, CanStart};
+ghost use Rattle.boot_run.specs.Machine.{history_left};
 ghost use Rattle.boot_run.specs.World.{OnWorld};
 ghost use Rattle.os9_kernel.specs.Outside.{outside};
 ghost use Rattle.os9_words.specs.Notes.{notes_of};
 
 use crate::drives::{eject_images, insert_images};
 use crate::images::Images;
-use boot_run::{RunEnd, run_machine};
+use boot_run::{RunOutcome, run_machine};
 use device_table::devices::Devices;
 use os9_base::registers::TimePacket;
 use os9_kernel::Config;
@@ -36,21 +37,22 @@ pub struct Start {
 }
 
 /// Puts the images into the drives, the first into D0, starts a machine and runs it over its
-/// slices, and takes the images out again, as the drives then hold them.
+/// slices, and takes the images out again, as the drives then hold them. The outcome has the
+/// history of the machine's record locks.
 pub fn run_images<H: Host>(
     alloc: Global,
     start: &Start,
     images: &mut Images,
     host: &mut H,
     devices: &mut Devices,
-) -> RunEnd
+) -> RunOutcome
     requires devices { AreFree (length images.old) (outside ⟦<dyn BlockDriver as BlockDriver>⟧
         devices.old.drives.items ⟦<dyn CharDriver as CharDriver>⟧ devices.old.terms.items) }
     requires start { CanStart start.now }
     requires volumes { All IsVolume images.old }
     ensures run { OnWorld
-        (λ before after. RunsImages (setup_of start.now images.old) images.new before after result)
-        H.Host host.old host.new
+        (λ before after. RunsImages (setup_of start.now images.old) images.new
+        (history_left result.records) before after result.end) H.Host host.old host.new
         ⟦<dyn BlockDriver as BlockDriver>⟧ devices.old.drives.items devices.new.drives.items
         ⟦<dyn CharDriver as CharDriver>⟧ devices.old.terms.items devices.new.terms.items }
     ensures count { length images.new ≡ length images.old }
@@ -63,7 +65,7 @@ pub fn run_images<H: Host>(
         images: images.len(),
         time: start.time,
     };
-    let end = run_machine(
+    let outcome = run_machine(
         alloc,
         config,
         start.file.as_slice(),
@@ -73,5 +75,5 @@ pub fn run_images<H: Host>(
         devices,
     );
     eject_images(alloc, images, devices);
-    end
+    outcome
 }

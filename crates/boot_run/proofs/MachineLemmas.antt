@@ -11,6 +11,7 @@ use Rattle.os9_outer.specs.TerminalState.{TerminalState}
 use Rattle.os9_outer.specs.declared.drive.BlockDriver.{Ghosts}
 use Rattle.script_text.specs.declared.script.ScriptKey.{ScriptKey}
 use Rattle.key_loading.specs.Loaded.{keys_for, loaded, loaded_from, with_keys, AreUnloaded}
+use Rattle.lock_model.specs.declared.history.Entry.{Entry}
 use Rattle.rbf_model.specs.Volume.{DiskVolume}
 use Rattle.file_rules.specs.Files.{DriveState, NoneFailed}
 use Rattle.file_drives.specs.Drives.{DriveView, boxed_drive_view, drive_states, drive_views, media_at, media_of, unused_drive}
@@ -224,18 +225,28 @@ module _ (setup : Setup) (kernel : Kernel) (before : World) (started later : Out
   runs-whole : {Value : Type 0} (value : Value) (new : Kernel) (after : World) (lives : Bool) (begun_slices : ℕ)
       → RunsSlices setup.slices kernel new (Ok value) (with_devices before later) after
       → ((t : State) → Represents new after.devices t → has_living t ≡ lives)
-      → ((t : State) → Represents new after.devices t → begun_slices ≡ t.inner.tick)
-      → All IsObserved before.devices.terms → RunsWhole setup lives begun_slices before after
-  runs-whole value new after lives begun_slices ran living counted told =
+      → ((t : State) → Represents new after.devices t → begun_slices ≡ t.inner.tick) → (history : List Entry)
+      → ((t : State) → Represents new after.devices t → history ≡ t.files.records.history)
+      → All IsObserved before.devices.terms → RunsWhole setup lives begun_slices history before after
+  runs-whole value new after lives begun_slices ran living counted history entered told =
       let (t, to, there) = runs-to value new after ran told in
-      record { s = begun; t = t; starts = starts-loaded; runs = to; living = living t there; ticks = counted t there }
+      record {
+        s = begun;
+        t = t;
+        starts = starts-loaded;
+        runs = to;
+        living = living t there;
+        ticks = counted t there;
+        recorded = entered t there;
+      }
 
   ran-ended : {Value : Type 0} (value : Value) (new : Kernel) (after : World) (ticks : ℕ) → RunsSlices setup.slices
       kernel new (Ok value) (with_devices before later) after → ((t : State) → Represents new after.devices t
       → living_count t.inner ≡ 0) → ((t : State) → Represents new after.devices t → ticks ≡ t.inner.tick)
-      → MachineCall setup before after (Ended ticks)
-  ran-ended value new after ticks ran none counted = record {
-    comes = runs-whole value new after false ticks ran (λ t there. none-living t (none t there)) counted;
+      → (history : List Entry) → ((t : State) → Represents new after.devices t → history ≡ t.files.records.history)
+      → MachineCall setup history before after (Ended ticks)
+  ran-ended value new after ticks ran none counted history entered = record {
+    comes = runs-whole value new after false ticks ran (λ t there. none-living t (none t there)) counted history entered;
     judged = tt;
     unrun = tt;
     output_fault = λ e. cc e;
@@ -246,9 +257,10 @@ module _ (setup : Setup) (kernel : Kernel) (before : World) (started later : Out
   ran-living : {Value : Type 0} (value : Value) (new : Kernel) (after : World) (ticks : ℕ) → RunsSlices setup.slices
       kernel new (Ok value) (with_devices before later) after → ((t : State) → Represents new after.devices t
       → living_count t.inner ≢ 0) → ((t : State) → Represents new after.devices t → ticks ≡ t.inner.tick)
-      → MachineCall setup before after (Living ticks)
-  ran-living value new after ticks ran some counted = record {
-    comes = runs-whole value new after true ticks ran (λ t there. some-living t (some t there)) counted;
+      → (history : List Entry) → ((t : State) → Represents new after.devices t → history ≡ t.files.records.history)
+      → MachineCall setup history before after (Living ticks)
+  ran-living value new after ticks ran some counted history entered = record {
+    comes = runs-whole value new after true ticks ran (λ t there. some-living t (some t there)) counted history entered;
     judged = tt;
     unrun = tt;
     output_fault = λ e. cc e;
@@ -261,11 +273,16 @@ module _ (setup : Setup) (kernel : Kernel) (before : World) (started later : Out
       → RunsSlices setup.slices kernel new (Ok value) (with_devices before later) after
       → ((t : State) → Represents new after.devices t → living ≡ living_count t.inner)
       → ((t : State) → Represents new after.devices t → ticks ≡ t.inner.tick) → (living ≡ 0 → end ≡ Ended ticks)
-      → (living ≢ 0 → end ≡ Living ticks) → MachineCall setup before after end
-  called-whole value new after zero ticks end ran alive counted idle lives =
-      subst (MachineCall setup before after) (sym (idle refl)) (ran-ended value new after ticks ran (λ t there. sym (alive t there)) counted)
-  called-whole value new after (suc living) ticks end ran alive counted idle lives =
-      subst (MachineCall setup before after) (sym (lives (λ e. omega (arith, e)))) (ran-living value new after ticks ran (λ t there none. omega (arith, alive t there, none)) counted)
+      → (living ≢ 0 → end ≡ Living ticks) → (history : List Entry)
+      → ((t : State) → Represents new after.devices t → history ≡ t.files.records.history)
+      → MachineCall setup history before after end
+  called-whole value new after zero ticks end ran alive counted idle lives history entered =
+      subst (MachineCall setup history before after) (sym (idle refl))
+      (ran-ended value new after ticks ran (λ t there. sym (alive t there)) counted history entered)
+  called-whole value new after (suc living) ticks end ran alive counted idle lives history entered =
+      subst (MachineCall setup history before after) (sym (lives (λ e. omega (arith, e))))
+      (ran-living value new after ticks ran (λ t there none. omega (arith, alive t there, none)) counted history
+      entered)
 
   partly : (after : World) → ((s : State) → All IsObserved later.terms → Represents kernel later s
       → RunsPartly setup.slices s (with_devices before later) after) → All IsObserved before.devices.terms
@@ -274,7 +291,7 @@ module _ (setup : Setup) (kernel : Kernel) (before : World) (started later : Out
 
   -- in part, since the output could not be written
   pub called-output : {Value : Type 0} (new : Kernel) (after : World) → RunsSlices {Value = Value} setup.slices kernel
-      new (Err Output) (with_devices before later) after → MachineCall setup before after OutputFailed
+      new (Err Output) (with_devices before later) after → MachineCall setup [] before after OutputFailed
   called-output new after ran = record {
     comes = λ told. record { s = begun; starts = starts-loaded; partly = partly after ran.partial told };
     judged = tt;
@@ -286,8 +303,8 @@ module _ (setup : Setup) (kernel : Kernel) (before : World) (started later : Out
 
   -- or since memory was out
   pub called-without_memory : {Value : Type 0} (new : Kernel) (after : World) → RunsSlices {Value = Value}
-      setup.slices kernel new (Err RunFault.NoMemory) (with_devices before later) after → MachineCall setup before
-      after NoMemory
+      setup.slices kernel new (Err RunFault.NoMemory) (with_devices before later) after → MachineCall setup []
+      before after NoMemory
   called-without_memory new after ran = record {
     comes = λ told. inr (record { s = begun; starts = starts-loaded; partly = partly after ran.partial told });
     judged = tt;
@@ -301,7 +318,7 @@ module _ (setup : Setup) (kernel : Kernel) (before : World) (started later : Out
 
 -- memory was out before the first slice
 pub called-nothing : (setup : Setup) (world : World) (devices : Outside) → NoneFailed (drive_states world.devices.drives) (drive_states devices.drives)
-    → media_of devices.drives ≡ media_of world.devices.drives → devices.terms ≡ world.devices.terms → MachineCall setup world (with_devices world devices) NoMemory
+    → media_of devices.drives ≡ media_of world.devices.drives → devices.terms ≡ world.devices.terms → MachineCall setup [] world (with_devices world devices) NoMemory
 called-nothing setup world devices none_failed media terms = record {
   comes = λ told. inl (record { out = refl; terminals = terms; none_failed = none_failed; media_kept = media });
   judged = tt;
@@ -320,7 +337,7 @@ pub called-refused : (setup : Setup) (config : Config) (world : World) (devices 
     → config.blocks ≡ setup.blocks → length setup.images ≡ config.images → StartIsRefused config setup.file error
     → WhereRefused error (devices ≡ world.devices) → StartsDrives {A = Kernel} config.images (drive_fault (Err error))
     world.devices.drives devices.drives → length devices.drives ≡ length world.devices.drives
-    → devices.terms ≡ world.devices.terms → MachineCall setup world (with_devices world devices) (start_end error)
+    → devices.terms ≡ world.devices.terms → MachineCall setup [] world (with_devices world devices) (start_end error)
 called-refused setup config world devices (Boot OutOfMemory) blocks images refused same moved count terms =
     called-nothing setup world devices moved.moves (media-kept world.devices.drives devices.drives count moved.media) terms
 called-refused setup config world devices (Boot (BadModule at error)) blocks images refused same moved count terms = record {

@@ -1,5 +1,6 @@
 -- A run of a machine from its start.
-use Rattle.std.specs.Prelude.{◌≡◌, ◌≢◌, ◌⊎◌, ◌<◌, ◌≤◌, ⊤, ℕ, Bool, true, false, List, length, All}
+use Rattle.std.specs.Prelude.{◌≡◌, ◌≢◌, ◌⊎◌, ◌<◌, ◌≤◌, ⊤, ℕ, Bool, true, false, Option, List, [], length, All}
+use Rattle.std.specs.Option.{option_map_or}
 use Rattle.os9_base.specs.declared.limits.TheConstants.{LAST_TICK}
 use Rattle.os9_base.specs.declared.registers.TimePacket.{TimePacket}
 use Rattle.os9_outer.specs.Stream.{stream_with}
@@ -8,6 +9,8 @@ use Rattle.file_drives.specs.Drives.{drive_states, media_of}
 use Rattle.file_rules.specs.Files.{NoneFailed, OneFailed}
 use Rattle.file_start.specs.Start.{HaveImages, HaveVolumes}
 use Rattle.key_loading.specs.Loaded.{AreUnloaded, loaded}
+use Rattle.lock_model.specs.Records.{Records}
+use Rattle.lock_model.specs.declared.history.Entry.{Entry}
 use Rattle.event_rules.specs.Start.{Refuses}
 use Rattle.event_rules.specs.declared.ends.BootFault.{BootFault}
 use Rattle.script_text.specs.declared.script.ScriptKey.{ScriptKey}
@@ -82,15 +85,21 @@ pub record RunsTo (setup : Setup) (s t : State) (before after : World) : Type 0 
   pub drives : HoldsVolumes t after.devices.drives
   pub images : KeepsImages (ComesInto setup.slices s) states before.devices.drives after.devices.drives
 
--- the machine was started and run to its end: a process lives then or none does, and `begun` slices were begun, each of
--- which is a tick
-pub record RunsWhole (setup : Setup) (lives : Bool) (begun : ℕ) (before after : World) : Type 0 where
-  pub s : State
-  pub t : State
-  pub starts : StartsLoaded setup before s
-  pub runs : RunsTo setup s t before after
-  pub living : has_living t ≡ lives
-  pub ticks : begun ≡ t.inner.tick
+-- the history in the record locks that a run leaves; empty if it leaves none
+abbrev pub history_left : Option Records → List Entry
+history_left left = option_map_or (λ records. records.history) left []
+
+-- the machine was started and run to its end: a process lives then or none does, `begun` slices were begun, each of
+-- which is a tick, and this is the history of its record locks
+pub record RunsWhole (setup : Setup) (lives : Bool) (begun : ℕ) (history : List Entry) (before after : World) : Type 0
+  where
+    pub s : State
+    pub t : State
+    pub starts : StartsLoaded setup before s
+    pub runs : RunsTo setup s t before after
+    pub living : has_living t ≡ lives
+    pub ticks : begun ≡ t.inner.tick
+    pub recorded : history ≡ t.files.records.history
 
 -- the machine was started and run over the first of its slices
 pub record RunsFirst (setup : Setup) (before after : World) : Type 0 where
@@ -106,12 +115,12 @@ pub record IsUnrun (before after : World) : Type 0 where
   pub media_kept : media_of after.devices.drives ≡ media_of before.devices.drives
 
 -- the outcome of a machine, by how its run ended, if the bytes of all terminals are observed
-abbrev pub ComesTo : Setup → World → World → RunEnd → Type 0
-ComesTo setup before after (Ended begun) = RunsWhole setup false begun before after
-ComesTo setup before after (Living begun) = RunsWhole setup true begun before after
-ComesTo setup before after OutputFailed = RunsFirst setup before after
-ComesTo setup before after NoMemory = IsUnrun before after ⊎ RunsFirst setup before after
-ComesTo setup before after end = ⊤
+abbrev pub ComesTo : Setup → List Entry → World → World → RunEnd → Type 0
+ComesTo setup history before after (Ended begun) = RunsWhole setup false begun history before after
+ComesTo setup history before after (Living begun) = RunsWhole setup true begun history before after
+ComesTo setup history before after OutputFailed = RunsFirst setup before after
+ComesTo setup history before after NoMemory = IsUnrun before after ⊎ RunsFirst setup before after
+ComesTo setup history before after end = ⊤
 
 -- what the end says of the boot file, observed or not: it has this fault; or none, if a drive failed
 abbrev pub Judges : Setup → RunEnd → Type 0
@@ -135,9 +144,9 @@ LeavesUnrun images before after (Refused fault) = after ≡ before
 LeavesUnrun images before after (DriveFailed drive number) = FailsToMount images drive number before after
 LeavesUnrun images before after end = ⊤
 
--- a machine was started, and its run ended with `end`
-pub record MachineCall (setup : Setup) (before after : World) (end : RunEnd) : Type 0 where
-  pub comes : All IsObserved before.devices.terms → ComesTo setup before after end
+-- a machine was started, its run ended with `end`, and this history was handed out
+pub record MachineCall (setup : Setup) (history : List Entry) (before after : World) (end : RunEnd) : Type 0 where
+  pub comes : All IsObserved before.devices.terms → ComesTo setup history before after end
   pub judged : Judges setup end
   pub unrun : LeavesUnrun (length setup.images) before after end
   -- the host failed, and last at a write to the output; at every other end it did not fail
@@ -146,7 +155,7 @@ pub record MachineCall (setup : Setup) (before after : World) (end : RunEnd) : T
   pub files_kept : after.files ≡ before.files
 
 -- the same with the images that were in the first drives
-abbrev pub MachineRuns : Config → List ℕ → List ScriptKey → List ℕ → RunEnd → World → World → Type 0
-MachineRuns config file keys slices end before after =
+abbrev pub MachineRuns : Config → List ℕ → List ScriptKey → List ℕ → RunEnd → List Entry → World → World → Type 0
+MachineRuns config file keys slices end history before after =
     (images : List (List ℕ)) → HaveImages config.images images before.devices.drives
-    → MachineCall (setup_with config file images keys slices) before after end
+    → MachineCall (setup_with config file images keys slices) history before after end

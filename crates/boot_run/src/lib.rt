@@ -3,7 +3,7 @@
 #![tactic(auto)]
 
 pub use console::pass_on;
-pub use machine::{RunEnd, end_of_start, run_end, run_machine};
+pub use machine::{RunEnd, RunOutcome, end_of_start, run_end, run_machine};
 pub use run::RunFault;
 
 mod console;

@@ -3,18 +3,20 @@
 ghost use Rattle.std.specs.Prelude.{◌≡◌, ◌≢◌, vec_len};
 ghost use Rattle.os9_kernel.specs.Outside.{outside};
 ghost use Rattle.os9_words.specs.Notes.{notes_of};
-ghost use Rattle.boot_run.specs.Machine.{CanRun, MachineRuns};
+ghost use Rattle.boot_run.specs.Machine.{CanRun, MachineRuns, history_left};
 ghost use Rattle.boot_run.specs.RunEnd.{start_end};
 ghost use Rattle.boot_run.specs.World.{OnWorld};
 
 use crate::run::{RunFault, run_slices};
 use device_table::devices::Devices;
 use key_loading::load_keys;
+use lock_model::history::Entry;
 use os9_base::limits::LAST_TICK;
 use os9_kernel::{BootFault, Config, Kernel, StartError};
 use os9_outer::drive::BlockDriver;
 use os9_outer::host::Host;
 use os9_outer::terminal::CharDriver;
+use record_locks::records::Records;
 use script_text::script::ScriptKey;
 use std::alloc::Global;
 
@@ -35,6 +37,28 @@ pub enum RunEnd {
     NoMemory,
 }
 
+/// A run of a machine that is over: how it ended, and what it leaves.
+#[derive(Drop)]
+pub struct RunOutcome {
+    /// How it ended.
+    pub end: RunEnd,
+    /// The record locks of its last state with their history, if it ran to its end.
+    pub records: Option<Records>,
+}
+
+impl RunOutcome {
+    /// The history of the record locks, oldest entry first; empty if the machine did not run to its
+    /// end.
+    pub fn history(&self) -> &[Entry]
+        ensures { result.now ≡ history_left self.now.records }
+    {
+        match &self.records {
+            Some(records) => records.history(),
+            None => &[],
+        }
+    }
+}
+
 /// Starts a machine with a boot file and the images in its first drives, and runs it over the
 /// slices. The bytes put on the terminals go to the output stream after each slice. The terminals
 /// are loaded with their keys once the kernel is made.
@@ -46,12 +70,12 @@ pub fn run_machine<H: Host>(
     slices: &[u32],
     host: &mut H,
     devices: &mut Devices,
-) -> RunEnd
+) -> RunOutcome
     requires { CanRun config slices.now
         (outside ⟦<dyn BlockDriver as BlockDriver>⟧ devices.old.drives.items
         ⟦<dyn CharDriver as CharDriver>⟧ devices.old.terms.items) }
-    ensures call { OnWorld (MachineRuns config file.now keys.now slices.now result)
-        H.Host host.old host.new
+    ensures call { OnWorld (MachineRuns config file.now keys.now slices.now result.end
+        (history_left result.records)) H.Host host.old host.new
         ⟦<dyn BlockDriver as BlockDriver>⟧ devices.old.drives.items devices.new.drives.items
         ⟦<dyn CharDriver as CharDriver>⟧ devices.old.terms.items devices.new.terms.items }
     ensures notes_kept { notes_of H.Host host.new ≡ notes_of H.Host host.old }
@@ -60,16 +84,32 @@ pub fn run_machine<H: Host>(
 {
     let mut kernel = match Kernel::new(alloc, config, file, devices) {
         Ok(kernel) => kernel,
-        Err(error) => return end_of_start(error),
+        Err(error) => {
+            let end = end_of_start(error);
+            return RunOutcome { end, records: None };
+        }
     };
     match load_keys(alloc, devices, keys) {
         Ok(()) => {}
-        Err(_) => return RunEnd::NoMemory,
+        Err(_) => {
+            let end = RunEnd::NoMemory;
+            return RunOutcome { end, records: None };
+        }
     }
     match run_slices(&mut kernel, slices, host, devices) {
-        Ok(()) => run_end(kernel.living(), kernel.ticks()),
-        Err(RunFault::Output) => RunEnd::OutputFailed,
-        Err(RunFault::NoMemory) => RunEnd::NoMemory,
+        Ok(()) => {
+            let end = run_end(kernel.living(), kernel.ticks());
+            let records = Some(kernel.into_records());
+            RunOutcome { end, records }
+        }
+        Err(RunFault::Output) => {
+            let end = RunEnd::OutputFailed;
+            RunOutcome { end, records: None }
+        }
+        Err(RunFault::NoMemory) => {
+            let end = RunEnd::NoMemory;
+            RunOutcome { end, records: None }
+        }
     }
 }
 

@@ -116,6 +116,14 @@ impl<'a> Fields<'a> {
         Ok(all)
     }
 
+    /// The same of a field that may be missing.
+    pub(crate) fn last_lines(&mut self, alloc: Global) -> Result<Vec<u8>, RowError> {
+        if self.rest.is_none() {
+            return Ok(Vec::new(alloc));
+        }
+        self.lines(alloc)
+    }
+
     /// The next field, which may be missing, as decimal numbers such as `5,2`.
     pub(crate) fn last_numbers(&mut self, alloc: Global) -> Result<Vec<u64>, RowError> {
         let field = self.last_text()?;

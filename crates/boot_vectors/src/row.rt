@@ -9,11 +9,16 @@ use std::alloc::Global;
 /// The names that the words of a row give the files of its images.
 const IMAGES: [&str; 2] = ["d0.img", "d1.img"];
 
+/// The word before the name of the file of a history, and that name.
+const HISTORY_OPTION: &str = "--history";
+
+pub(crate) const HISTORY: &str = "history";
+
 /// A command line with its files, and the program's answer to it.
 #[derive(Drop)]
 pub(crate) struct Row {
-    /// The words, separated by single spaces. They name the files `modules`, `slices`, `script` and
-    /// `commands`, and the images `d0.img` and `d1.img`.
+    /// The words, separated by single spaces. They name the files `modules`, `slices`, `script`,
+    /// `commands` and `history`, and the images `d0.img` and `d1.img`.
     pub(crate) words: String,
     /// The files that the run leaves as they are.
     pub(crate) files: Vec<HostFile>,
@@ -23,6 +28,8 @@ pub(crate) struct Row {
     pub(crate) err: String,
     /// The images, as they are before the run, with the trees after it.
     pub(crate) disks: Vec<Disk>,
+    /// The file of the history after a complete run, if the words name one.
+    pub(crate) history: Option<Vec<u8>>,
     /// The failing calls of drives.
     pub(crate) drives: Failing,
     /// The failing calls of terminals.
@@ -64,6 +71,7 @@ fn program(alloc: Global, fields: &mut Fields<'_>) -> Result<Row, RowError> {
         out,
         err,
         disks: Vec::new(alloc),
+        history: None,
         drives: Failing::nothing(alloc),
         terminals,
         host: fields.last_numbers(alloc)?,
@@ -73,20 +81,33 @@ fn program(alloc: Global, fields: &mut Fields<'_>) -> Result<Row, RowError> {
 /// The row of a guest program whose images are compared: the words, the file of modules, the number
 /// of zero bytes after it, the slice text, the script of keys, the status, the bytes written, the
 /// line on the error stream, for each of two images what it holds before the run, and its tree after
-/// it, and what fails (`Failing::parse`), a field that may be missing. If a drive stops, all this is
-/// of the run in which it does not.
+/// it; and two fields that may be missing, what fails (`Failing::parse`), and the lines of the
+/// history with `;` between them. If a drive stops, all this is of the run in which it does not.
 fn program_with_trees(alloc: Global, fields: &mut Fields<'_>) -> Result<Row, RowError> {
+    let words = fields.string(alloc)?;
+    let has_history = words.as_str().contains(HISTORY_OPTION);
     Ok(Row {
-        words: fields.string(alloc)?,
+        words,
         files: files(alloc, fields)?,
         status: fields.byte()?,
         out: fields.bytes(alloc)?,
         err: fields.string(alloc)?,
         disks: disks(alloc, fields)?,
         drives: Failing::parse(alloc, fields.last_text()?)?,
+        history: history(alloc, has_history, fields)?,
         terminals: Vec::new(alloc),
         host: Vec::new(alloc),
     })
+}
+
+/// The lines of the history, if there is to be one.
+fn history(
+    alloc: Global,
+    is_asked: bool,
+    fields: &mut Fields<'_>,
+) -> Result<Option<Vec<u8>>, RowError> {
+    let lines = fields.last_lines(alloc)?;
+    Ok(if is_asked { Some(lines) } else { None })
 }
 
 /// The row of a session of the debugger: the words, the file of modules, the number of zero bytes
@@ -104,6 +125,7 @@ fn session(alloc: Global, fields: &mut Fields<'_>) -> Result<Row, RowError> {
         out: fields.lines(alloc)?,
         err: fields.string(alloc)?,
         disks: Vec::new(alloc),
+        history: None,
         drives: Failing::nothing(alloc),
         terminals: terminal_calls(alloc, fields.last_text()?)?,
         host: Vec::new(alloc),

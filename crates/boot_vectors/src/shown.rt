@@ -10,7 +10,7 @@ ghost use Rattle.std.specs.Bool.{OnTrue};
 use crate::answering::are_answering;
 use crate::disk::Disk;
 use crate::failing::Plan;
-use crate::row::Row;
+use crate::row::{HISTORY, Row};
 use crate::stop::is_stop_of;
 use crate::terminals::terminal;
 use device_table::devices::Devices;
@@ -30,15 +30,20 @@ const LIVING: u8 = 5;
 /// The status of a run that did not begin, since a drive failed when its image was mounted.
 const NOT_MOUNTED: u8 = 9;
 
+/// What the file of a history holds before a run.
+const OLD_HISTORY: &[u8] = b"an older history\n";
+
 /// What a run shows.
 #[derive(Drop)]
 pub(crate) struct Shown {
     status: u8,
     out: Vec<u8>,
     err: Vec<u8>,
-    /// The files that are not images are unchanged.
+    /// The files that are neither images nor the history are unchanged.
     kept: bool,
     disks: Vec<Disk>,
+    /// The file of the history, if there is one.
+    history: Option<Vec<u8>>,
     /// Each drive answers a read after the run.
     answering: bool,
 }
@@ -54,7 +59,12 @@ impl Shown {
             None => self.err.is_empty() && row.err.is_empty(),
         };
         let written = self.out.as_slice() == row.out.as_slice();
-        self.status == row.status && written && told && self.kept && self.has_disks(row)
+        self.status == row.status
+            && written
+            && told
+            && self.kept
+            && self.has_disks(row)
+            && self.has_history(row)
     }
 
     /// Has no call of a stopping drive failed?
@@ -81,6 +91,18 @@ impl Shown {
         match self.status {
             ENDED | LIVING => pairs.all(|(disk, before)| disk.is_left_of(before)),
             _ => self.has_same_disks(row),
+        }
+    }
+
+    /// Is the history that of the row? Only a run that went to its end writes it.
+    fn has_history(&self, row: &Row) -> bool {
+        match (&self.history, &row.history) {
+            (Some(shown), Some(lines)) => match self.status {
+                ENDED | LIVING => shown.as_slice() == lines.as_slice(),
+                _ => shown.as_slice() == OLD_HISTORY,
+            },
+            (None, None) => true,
+            (Some(_), None) | (None, Some(_)) => false,
         }
     }
 
@@ -162,6 +184,7 @@ fn run_on(alloc: Global, row: &Row, devices: Devices) -> Result<Shown, AllocErro
         err: Vec::from_slice(alloc, host.err_bytes.as_slice())?,
         kept: are_kept(row, &host.files, &files(alloc, row)?),
         disks: disks(alloc, row, &host.files)?,
+        history: history(alloc, &host.files)?,
         answering: are_answering(alloc, &mut devices.drives)?,
     })
 }
@@ -180,6 +203,9 @@ fn files(alloc: Global, row: &Row) -> Result<Vec<HostFile>, AllocError> {
     let mut files = copies(alloc, row.files.as_slice())?;
     for disk in row.disks.as_slice() {
         files.push(file(alloc, disk.name.as_str(), disk.image.as_slice())?)?;
+    }
+    if row.history.is_some() {
+        files.push(file(alloc, HISTORY, OLD_HISTORY)?)?;
     }
     Ok(files)
 }
@@ -200,12 +226,14 @@ fn file(alloc: Global, name: &str, bytes: &[u8]) -> Result<HostFile, AllocError>
     })
 }
 
-/// Are these the files before the run, with those unchanged that are not images of the row?
+/// Are these the files before the run, with those unchanged that are neither images of the row nor
+/// its history?
 fn are_kept(row: &Row, files: &[HostFile], before: &[HostFile]) -> bool {
     files.len() == before.len()
         && files.iter().zip(before.iter()).all(|(file, old)| {
             let is_image = row.disks.iter().any(|disk| disk.name == file.name);
-            is_image || file.bytes.as_slice() == old.bytes.as_slice()
+            let is_history = file.name.as_str() == HISTORY;
+            is_image || is_history || file.bytes.as_slice() == old.bytes.as_slice()
         })
 }
 
@@ -221,4 +249,12 @@ fn disks(alloc: Global, row: &Row, files: &[HostFile]) -> Result<Vec<Disk>, Allo
         disks.push(Disk::read(alloc, disk.name.as_str(), image)?)?;
     }
     Ok(disks)
+}
+
+/// The file of the history, if there is one.
+fn history(alloc: Global, files: &[HostFile]) -> Result<Option<Vec<u8>>, AllocError> {
+    match files.iter().find(|file| file.name.as_str() == HISTORY) {
+        Some(file) => Ok(Some(Vec::from_slice(alloc, file.bytes.as_slice())?)),
+        None => Ok(None),
+    }
 }

@@ -52,6 +52,6 @@ run_file_name run Script = run.script
 run_file_name run Slices = Some run.slices
 run_file_name run Modules = slice_get run.files 0
 run_file_name run (Image number) = slice_get run.files number
-run_file_name run File = None
+run_file_name run File = run.history
 run_file_name run Source = None
 run_file_name run Commands = None

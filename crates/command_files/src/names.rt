@@ -15,7 +15,8 @@ pub fn name_in(run: &RunWords, input: Input) -> &str
         Input::Slices => run.slices.text(),
         Input::Modules => name_at(run, 0),
         Input::Image(number) => name_at(run, number),
-        Input::File | Input::Source | Input::Commands => "",
+        Input::File => history_name(run),
+        Input::Source | Input::Commands => "",
     }
 }
 
@@ -35,6 +36,16 @@ fn script_name(run: &RunWords) -> &str
 {
     match &run.script {
         Some(script) => script.text(),
+        None => "",
+    }
+}
+
+/// The name of the file for the history; empty without one.
+fn history_name(run: &RunWords) -> &str
+    ensures { result.now ≡ unwrap_or run.now.history [] }
+{
+    match &run.history {
+        Some(history) => history.text(),
         None => "",
     }
 }

@@ -16,8 +16,8 @@ pub enum Input {
     Modules,
     /// The image of a disk: 0 for that of `check` and of `vol`, or for a boot its place, from 0.
     Image(u8),
-    /// FILE of `vol put`, which is read, or of `vol get`, which is written; or OUT of `asm`, which
-    /// is written.
+    /// FILE of `vol put`, which is read; or FILE of `vol get`, OUT of `asm`, or the history of a
+    /// boot, which are written.
     File,
     /// SOURCE of `asm`.
     Source,
@@ -38,7 +38,8 @@ pub enum End {
     CannotWrite,
     /// The image of this place could not be written back.
     CannotWriteImage(u8),
-    /// The file that the command makes, FILE of `vol get` or OUT of `asm`, could not be written.
+    /// The file that the command makes, FILE of `vol get`, OUT of `asm` or the history of a boot,
+    /// could not be written.
     CannotWriteFile,
     /// Out of memory.
     NoMemory,

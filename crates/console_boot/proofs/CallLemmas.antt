@@ -1,6 +1,8 @@
 -- A boot at whose machine a person types.
-use Rattle.std.proofs.Common.{◌≡◌, ◌⊎◌, ℕ, Bool, true, false, Option, Some, None, List, length, refl, sym, ap, subst, ◌∙◌, inl, inr, All}
-use Rattle.std.specs.Prelude.{IfSome}
+use Rattle.std.proofs.Common.{◌≡◌, ◌⊎◌, ◌==◌, ℕ, Bool, true, false, Option, Some, None, List, length, refl, sym, ap, subst, ◌∙◌, inl, inr, All}
+use Rattle.std.specs.Prelude.{IfSome, if◌then◌else◌}
+use Rattle.std.proofs.lemmas.Bool.{eqb-true}
+use Rattle.lock_model.specs.declared.history.Entry.{Entry}
 use Rattle.os9_outer.specs.Host.{Files, IfObserved}
 use Rattle.event_rules.specs.declared.ends.BootFault.{BootFault}
 use Rattle.event_rules.specs.declared.ends.BootFault.TheVariants.{OutOfMemory, BadModule as BadModuleFault, NoFirst as NoFirstFault, TooLarge as TooLargeFault}
@@ -21,10 +23,11 @@ use Rattle.command_files.specs.Fails.{FailsAsTold}
 use Rattle.command_files.specs.Stops.{StopsAtRead}
 use Rattle.command_files.specs.declared.status.End.{End}
 use Rattle.command_files.specs.declared.status.End.TheVariants.{Ended, Living, CannotRead, CannotWrite, CannotWriteImage, NoMemory, BadImage, BadText, BadBounds, CannotWriteFile, Refused, BadSource, TerminalFailed}
-use Rattle.os9_boot.specs.Boots.{MachineComesTo}
+use Rattle.os9_boot.specs.Boots.{IfAllObserved, MachineComesTo}
+use Rattle.os9_boot.specs.History.{Outputs, output_bytes, output_names, outputs_of}
 use Rattle.os9_boot.specs.Images.{LackBootFile, RefusesImages}
 use Rattle.os9_boot.specs.BootLeft.{LeavesDevices}
-use Rattle.os9_boot.specs.Written.{EndsBoot, StopsAt, WritesBack}
+use Rattle.os9_boot.specs.Written.{EndsBoot, StopsAt, WritesBack, end_unwritten}
 use Rattle.os9_boot.proofs.BootCallLemmas.{kept-counts, still-silent, still-undone}
 use Rattle.os9_boot.proofs.MachineLemmas.{EndsSo, IsOfMachine, RunFails, machine-ends}
 use Rattle.session_text.specs.Typed.{kept_keys, kept_slices}
@@ -47,7 +50,7 @@ out-of-memory boot typed from to before after same = record {
   keyboard = tt;
   devices = tt;
   host = kept-counts before after same;
-  files = same-changes boot.files before.files after.files (λ i. (same i).files);
+  files = same-changes (output_names (outputs_of boot)) before.files after.files (λ i. (same i).files);
 }
   where
     by : (files : Option Files) → IfSome files (λ files. ConsoleComesTo files boot typed from to before after NoMemory)
@@ -105,110 +108,132 @@ console-refused boot typed keyboard before after end images same has refused = a
 
 -- ---- a machine ran
 
-fails-as : (boot : RunWords) (before after : World) (end : End) → RunFails boot.files end before after → FailsAsTold (run_file_name boot) end before after
+fails-as : (boot : RunWords) (before after : World) (end : End) → RunFails (outputs_of boot) end before after → FailsAsTold (run_file_name boot) end before after
 fails-as boot before after (CannotRead input) failed = absurd failed
 fails-as boot before after CannotWrite failed = failed
 fails-as boot before after (CannotWriteImage number) failed = failed
-fails-as boot before after CannotWriteFile failed = absurd failed
+fails-as boot before after CannotWriteFile failed = failed
 fails-as boot before after end kept = kept
 
-may-end : (end : End) → IsOfMachine end → ConsoleMayEnd end
-may-end (BadText input line) of = absurd of
-may-end CannotWriteFile of = absurd of
-may-end (Refused number) of = absurd of
-may-end (BadSource line error) of = absurd of
-may-end (TerminalFailed n) of = absurd of
-may-end end of = tt
+may-end : (outputs : Outputs) (before after : World) (end : End) → IsOfMachine end → RunFails outputs end before after → ConsoleMayEnd outputs end
+may-end outputs before after (BadText input line) of failed = absurd of
+may-end outputs before after CannotWriteFile of (name, named, failed) = rw named refl
+may-end outputs before after (Refused number) of failed = absurd of
+may-end outputs before after (BadSource line error) of failed = absurd of
+may-end outputs before after (TerminalFailed n) of failed = absurd of
+may-end outputs before after end of failed = tt
 
 -- what was written behind it is not part of the session
-leaves-then : (setup : Setup) (images : List (List ℕ)) (typed : Typed) (before mid after : World)
-    (turns : List TypedTurn) (t : State) → after.out ≡ mid.out → after.devices ≡ mid.devices → LeavesSession setup
-    images typed before mid turns t → LeavesSession setup images typed before after turns t
-leaves-then setup images typed before mid after turns t out devices it = record {
+leaves-then : (setup : Setup) (images : List (List ℕ)) (history : List Entry) (typed : Typed) (before mid after : World)
+    (turns : List TypedTurn) (t : State) → after.out ≡ mid.out → after.devices ≡ mid.devices
+    → LeavesSession setup images history typed before mid turns t
+    → LeavesSession setup images history typed before after turns t
+leaves-then setup images history typed before mid after turns t out devices it = record {
   s = it.s;
   starts = it.starts;
   session = subst (λ (stream : Option (List ℕ)). HasSession turns it.s t typed before.out stream) (sym out) it.session;
   terminals = ap (λ (devices : Outside). devices.terms) devices ∙ it.terminals;
   drives = ap (λ (devices : Outside). drive_states devices.drives) devices ∙ it.drives;
   volumes = it.volumes;
+  recorded = it.recorded;
 }
 
-stops-then : (setup : Setup) (images : List (List ℕ)) (typed : Typed) (lives : Bool) (stop : Stop)
+stops-then : (setup : Setup) (images : List (List ℕ)) (history : List Entry) (typed : Typed) (lives : Bool) (stop : Stop)
     (from to : KeyboardState) (before mid after : World) → after.out ≡ mid.out → after.devices ≡ mid.devices
-    → StopsSession (LeavesSession setup images typed before mid) lives stop from to
-    → StopsSession (LeavesSession setup images typed before after) lives stop from to
-stops-then setup images typed lives stop from to before mid after out devices it = record {
+    → StopsSession (LeavesSession setup images history typed before mid) lives stop from to
+    → StopsSession (LeavesSession setup images history typed before after) lives stop from to
+stops-then setup images history typed lives stop from to before mid after out devices it = record {
   turns = it.turns;
   t = it.t;
-  came = leaves-then setup images typed before mid after it.turns it.t out devices it.came;
+  came = leaves-then setup images history typed before mid after it.turns it.t out devices it.came;
   living = it.living;
   stops = it.stops;
 }
 
-module _ (setup : Setup) (typed : Typed) (names images : List (List ℕ)) (from to : KeyboardState) (before mid after : World) (answer : End) (still : mid.files ≡ before.files) where
-  none-refused : (fault : BootFault) → WasSession setup names typed from to before after (boot_end fault)
+module _ (setup : Setup) (typed : Typed) (outputs : Outputs) (images : List (List ℕ)) (history : List Entry)
+    (from to : KeyboardState) (before mid after : World) (answer : End) (still : mid.files ≡ before.files) where
+  none-refused : (fault : BootFault) → WasSession setup outputs typed from to before after (boot_end fault)
   none-refused OutOfMemory = tt
   none-refused (BadModuleFault at error) = tt
   none-refused NoFirstFault = tt
   none-refused TooLargeFault = tt
 
   -- it ran to its end, and its images were written
-  ends-as : (lives : Bool) → (All IsObserved before.devices.terms → StopsSession (LeavesSession setup images typed
+  ends-as : (lives : Bool) → (All IsObserved before.devices.terms → StopsSession (LeavesSession setup images history typed
       before mid) lives Stop.Over from to) → after.out ≡ mid.out → after.devices ≡ mid.devices
-      → IfObserved (WritesAll names images) mid.files after.files
-      → All IsObserved before.devices.terms → EndsAsSession setup names typed lives from to before after
+      → IfObserved (WritesAll (output_names outputs) (output_bytes outputs images history)) mid.files after.files
+      → All IsObserved before.devices.terms → EndsAsSession setup outputs typed lives from to before after
   ends-as lives it out devices wrote told = record {
     images = images;
-    session = stops-then setup images typed lives Stop.Over from to before mid after out devices (it told);
-    files = subst (λ files. IfObserved (WritesAll names images) files after.files) still wrote;
+    history = history;
+    session = stops-then setup images history typed lives Stop.Over from to before mid after out devices (it told);
+    files = subst (λ files. IfObserved (WritesAll (output_names outputs) (output_bytes outputs images history)) files after.files) still wrote;
   }
 
   -- or up to one
-  ends-part : (lives : Bool) → (All IsObserved before.devices.terms → StopsSession (LeavesSession setup images typed
+  ends-part : (lives : Bool) → (All IsObserved before.devices.terms → StopsSession (LeavesSession setup images history typed
       before mid) lives Stop.Over from to) → after.out ≡ mid.out → after.devices ≡ mid.devices → (number : ℕ)
-      → IfObserved (WritesUpTo number names images) mid.files after.files
-      → All IsObserved before.devices.terms → EndsUnwritten setup names typed number from to before after
+      → IfObserved (WritesUpTo number (output_names outputs) (output_bytes outputs images history)) mid.files after.files
+      → All IsObserved before.devices.terms → EndsUnwritten setup outputs typed number from to before after
   ends-part lives it out devices number wrote told = record {
     lives = lives;
     images = images;
-    session = stops-then setup images typed lives Stop.Over from to before mid after out devices (it told);
-    files = subst (λ files. IfObserved (WritesUpTo number names images) files after.files) still wrote;
+    history = history;
+    session = stops-then setup images history typed lives Stop.Over from to before mid after out devices (it told);
+    files = subst (λ files. IfObserved (WritesUpTo number (output_names outputs) (output_bytes outputs images history)) files after.files) still wrote;
   }
 
-  was-written : (end : End) → (after.out ≡ mid.out → after.devices ≡ mid.devices → IfObserved (WritesAll names images) mid.files after.files → WasSession setup names typed from to before after end)
+  was-part : (number : ℕ) → IfAllObserved before (EndsUnwritten setup outputs typed number from to before after) → WasSession setup outputs typed from to before after (end_unwritten outputs number)
+  was-part number part = by (number == length outputs.images) refl
+    where
+      by : (last : Bool) → (number == length outputs.images) ≡ last → WasSession setup outputs typed from to before after (if last then CannotWriteFile else CannotWriteImage number)
+      by true is = λ told.
+          subst (λ number. EndsUnwritten setup outputs typed number from to before after) (eqb-true number (length outputs.images) is) (part told)
+      by false is = part
+
+  was-written : (end : End) → (after.out ≡ mid.out → after.devices ≡ mid.devices
+      → IfObserved (WritesAll (output_names outputs) (output_bytes outputs images history)) mid.files after.files
+      → WasSession setup outputs typed from to before after end)
       → (after.out ≡ mid.out → after.devices ≡ mid.devices → (number : ℕ)
-      → IfObserved (WritesUpTo number names images) mid.files after.files → WasSession setup names typed from to
-      before after (CannotWriteImage number))
-      → WritesBack names images end answer mid after → WasSession setup names typed from to before after answer
+      → IfObserved (WritesUpTo number (output_names outputs) (output_bytes outputs images history)) mid.files after.files
+      → IfAllObserved before (EndsUnwritten setup outputs typed number from to before after))
+      → WritesBack outputs (output_bytes outputs images history) end answer mid after → WasSession setup outputs typed from to before after answer
   was-written end was part wrote = by wrote.files
     where
-      by : ((answer ≡ end) × HasNoFault mid after × IfObserved (WritesAll names images) mid.files after.files) ⊎
-          ((number : ℕ) × StopsAt names images number answer mid after) → WasSession setup names typed from to before
+      by : ((answer ≡ end) × HasNoFault mid after × IfObserved (WritesAll (output_names outputs) (output_bytes outputs images history)) mid.files after.files) ⊎
+          ((number : ℕ) × StopsAt outputs (output_bytes outputs images history) number answer mid after) → WasSession setup outputs typed from to before
           after answer
-      by (inl (is, kept, all)) = subst (WasSession setup names typed from to before after) (sym is) (was wrote.out_kept wrote.devices_kept all)
-      by (inr (number, (written, inl (is, failed)))) = subst (WasSession setup names typed from to before after) (sym is) (part wrote.out_kept wrote.devices_kept number written)
-      by (inr (number, (written, inr (is, kept)))) = subst (WasSession setup names typed from to before after) (sym is) tt
+      by (inl (is, kept, all)) = subst (WasSession setup outputs typed from to before after) (sym is) (was wrote.out_kept wrote.devices_kept all)
+      by (inr (number, (written, inl (is, failed)))) = subst (WasSession setup outputs typed from to before after) (sym is) (was-part number (part wrote.out_kept wrote.devices_kept number written))
+      by (inr (number, (written, inr (is, kept)))) = subst (WasSession setup outputs typed from to before after) (sym is) tt
 
-  was-session : (end : RunEnd) → (All IsObserved before.devices.terms → IsSessionTo (LeavesSession setup images typed
-      before mid) (OfRun end) from to) → EndsBoot names images end answer mid after → WasSession setup names typed
+  was-session : (end : RunEnd) → (All IsObserved before.devices.terms → IsSessionTo (LeavesSession setup images history typed
+      before mid) (OfRun end) from to) → EndsBoot outputs (output_bytes outputs images history) end answer mid after → WasSession setup outputs typed
       from to before after answer
   was-session (Run.Ended begun) it ends = was-written Ended (λ out devices wrote. ends-as false it out devices wrote) (λ out devices number wrote. ends-part false it out devices number wrote) ends
   was-session (Run.Living begun) it ends = was-written Living (λ out devices wrote. ends-as true it out devices wrote) (λ out devices number wrote. ends-part true it out devices number wrote) ends
-  was-session (Run.Refused fault) it (is, same) = subst (WasSession setup names typed from to before after) (sym is) (none-refused fault)
-  was-session (Run.DriveFailed drive number) it (is, same) = subst (WasSession setup names typed from to before after) (sym is) tt
-  was-session Run.OutputFailed it (is, same) = subst (WasSession setup names typed from to before after) (sym is) tt
-  was-session Run.NoMemory it (is, same) = subst (WasSession setup names typed from to before after) (sym is) tt
+  was-session (Run.Refused fault) it (is, same) = subst (WasSession setup outputs typed from to before after) (sym is) (none-refused fault)
+  was-session (Run.DriveFailed drive number) it (is, same) = subst (WasSession setup outputs typed from to before after) (sym is) tt
+  was-session Run.OutputFailed it (is, same) = subst (WasSession setup outputs typed from to before after) (sym is) tt
+  was-session Run.NoMemory it (is, same) = subst (WasSession setup outputs typed from to before after) (sym is) tt
 
 -- ---- the keyboard
 
-module _ (names images : List (List ℕ)) (from to : KeyboardState) (mid after : World) (answer : End) where
-  written-asked : (end : End) → LeavesKeyboard end from to → WritesBack names images end answer mid after → LeavesKeyboard answer from to
+module _ (outputs : Outputs) (bytes : List (List ℕ)) (from to : KeyboardState) (mid after : World) (answer : End) where
+  unwritten-asked : (number : ℕ) → LeavesKeyboard (end_unwritten outputs number) from to
+  unwritten-asked number = of (number == length outputs.images)
+    where
+      of : (last : Bool) → LeavesKeyboard (if last then CannotWriteFile else CannotWriteImage number) from to
+      of true = tt
+      of false = tt
+
+  written-asked : (end : End) → LeavesKeyboard end from to → WritesBack outputs bytes end answer mid after → LeavesKeyboard answer from to
   written-asked end asked wrote = by wrote.files
     where
-      by : ((answer ≡ end) × HasNoFault mid after × IfObserved (WritesAll names images) mid.files after.files) ⊎
-          ((number : ℕ) × StopsAt names images number answer mid after) → LeavesKeyboard answer from to
+      by : ((answer ≡ end) × HasNoFault mid after × IfObserved (WritesAll (output_names outputs) bytes) mid.files after.files) ⊎
+          ((number : ℕ) × StopsAt outputs bytes number answer mid after) → LeavesKeyboard answer from to
       by (inl (is, kept, all)) = subst (λ end. LeavesKeyboard end from to) (sym is) asked
-      by (inr (number, (written, inl (is, failed)))) = subst (λ end. LeavesKeyboard end from to) (sym is) tt
+      by (inr (number, (written, inl (is, failed)))) = subst (λ end. LeavesKeyboard end from to) (sym is) (unwritten-asked number)
       by (inr (number, (written, inr (is, kept)))) = subst (λ end. LeavesKeyboard end from to) (sym is) tt
 
   fault-asked : (fault : BootFault) → to ≡ from → LeavesKeyboard (boot_end fault) from to
@@ -217,7 +242,7 @@ module _ (names images : List (List ℕ)) (from to : KeyboardState) (mid after :
   fault-asked NoFirstFault kept = kept
   fault-asked TooLargeFault kept = kept
 
-  keyboard-left : (end : RunEnd) → AsksKeyboard (OfRun end) from to → EndsBoot names images end answer mid after → LeavesKeyboard answer from to
+  keyboard-left : (end : RunEnd) → AsksKeyboard (OfRun end) from to → EndsBoot outputs bytes end answer mid after → LeavesKeyboard answer from to
   keyboard-left (Run.Ended begun) kept ends = written-asked Ended tt ends
   keyboard-left (Run.Living begun) kept ends = written-asked Living tt ends
   keyboard-left (Run.Refused fault) kept (is, same) = subst (λ end. LeavesKeyboard end from to) (sym is) (fault-asked fault kept)
@@ -227,11 +252,12 @@ module _ (names images : List (List ℕ)) (from to : KeyboardState) (mid after :
 
 -- by how it ended
 module _ (files : Files) (boot : RunWords) (typed : Typed) (setup : Setup) (from to : KeyboardState) (before after : World) (sets : SetsUpSession files boot typed setup) where
-  machine-is : (end : End) → MachineComesTo setup boot.files before after end → WasSession setup boot.files typed from to before after end → MachineIsSession files boot typed from to before after end
+  machine-is : (end : End) → MachineComesTo setup (outputs_of boot) before after end
+      → WasSession setup (outputs_of boot) typed from to before after end → MachineIsSession files boot typed from to before after end
   machine-is end comes was = record { setup = setup; sets = sets; comes = comes; session = was }
 
-  console-comes : (end : End) → IsOfMachine end → EndsSo setup boot.files before after end
-      → WasSession setup boot.files typed from to before after end → ConsoleComesTo files boot typed from to before
+  console-comes : (end : End) → IsOfMachine end → EndsSo setup (outputs_of boot) before after end
+      → WasSession setup (outputs_of boot) typed from to before after end → ConsoleComesTo files boot typed from to before
       after end
   console-comes (CannotRead input) of comes was = tt
   console-comes (BadText input line) of comes was = absurd of
@@ -267,43 +293,46 @@ sets-up files boot typed file images volumes whole is = record {
 
 -- the machine was run with the images, and they were written if it came to its end
 pub console-ended : (boot : RunWords) (typed : Typed) (file : List ℕ) (images new : List (List ℕ))
-    (from to : KeyboardState) (before mid after : World) (end : RunEnd) (answer : End) → length images ≡ length
+    (history : List Entry) (from to : KeyboardState) (before mid after : World) (end : RunEnd) (answer : End) → length images ≡ length
     boot.files → All IsVolume images
     → IsBootFile images file → IfSome before.files (λ files. images ≡ images_of files boot.files)
-    → RunsConsole (boot_setup boot file images typed) typed new (OfRun end) from to before mid
-    → EndsBoot boot.files new end answer mid after → ConsoleCall boot typed answer from to before after
-console-ended boot typed file images new from to before mid after end answer many volumes whole has ran ends =
+    → RunsConsole (boot_setup boot file images typed) typed new history (OfRun end) from to before mid
+    → EndsBoot (outputs_of boot) (output_bytes (outputs_of boot) new history) end answer mid after → ConsoleCall boot typed answer from to before after
+console-ended boot typed file images new history from to before mid after end answer many volumes whole has ran ends =
     let setup : Setup = boot_setup boot file images typed in
-    let it = machine-ends setup boot.files new before mid after end answer ran.machine ends in
-    let was : WasSession setup boot.files typed from to before after answer = was-session setup typed boot.files new from to before mid after answer ran.machine.files_kept end ran.session ends in
+    let it = machine-ends setup (outputs_of boot) new history before mid after end answer ran.machine ends in
+    let was : WasSession setup (outputs_of boot) typed from to before after answer =
+    was-session setup typed (outputs_of boot) new history from to before mid after answer ran.machine.files_kept end ran.session ends in
     record {
       comes = of-files before.files boot images (λ files. ConsoleComesTo files boot typed from to before after answer)
           has (λ files is. console-comes files boot typed setup from to before after (sets-up files boot typed file
           images volumes whole is) answer it.kind it.comes was);
-      may = may-end answer it.kind;
-      keyboard = keyboard-left boot.files new from to mid after answer end ran.keyboard ends;
+      may = may-end (outputs_of boot) before after answer it.kind it.host;
+      keyboard = keyboard-left (outputs_of boot) (output_bytes (outputs_of boot) new history) from to mid after answer end ran.keyboard ends;
       devices = subst (λ count. LeavesDevices count before after answer) many it.devices;
       host = fails-as boot before after answer it.host;
       files = it.files;
     }
 
 -- or it came to a line for which memory was out
-pub console-lost : (boot : RunWords) (typed : Typed) (file : List ℕ) (images new : List (List ℕ)) (from to : KeyboardState) (before after : World) → All IsVolume images → IsBootFile images file
+pub console-lost : (boot : RunWords) (typed : Typed) (file : List ℕ) (images new : List (List ℕ))
+    (history : List Entry) (from to : KeyboardState) (before after : World) → All IsVolume images
+    → IsBootFile images file
     → IfSome before.files (λ files. images ≡ images_of files boot.files) → (end : RunEnd)
-    → RunsConsole (boot_setup boot file images typed) typed new (LineLost end) from to before after
+    → RunsConsole (boot_setup boot file images typed) typed new history (LineLost end) from to before after
     → ConsoleCall boot typed NoMemory from to before after
-console-lost boot typed file images new from to before after volumes whole has end ran =
+console-lost boot typed file images new history from to before after volumes whole has end ran =
     let setup : Setup = boot_setup boot file images typed in
     record {
       comes = of-files before.files boot images (λ files. ConsoleComesTo files boot typed from to before after NoMemory) has
           (λ files is. inr (inr (record {
             setup = setup;
             sets = sets-up files boot typed file images volumes whole is;
-            session = λ told. record { images = new; session = ran.session told; files = ran.machine.files_kept };
+            session = λ told. record { images = new; history = history; session = ran.session told; files = ran.machine.files_kept };
           })));
       may = tt;
       keyboard = tt;
       devices = tt;
       host = ran.machine.no_fault ran.at_line;
-      files = same-changes boot.files before.files after.files ran.machine.files_kept;
+      files = same-changes (output_names (outputs_of boot)) before.files after.files ran.machine.files_kept;
     }

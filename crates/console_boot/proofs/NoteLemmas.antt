@@ -8,6 +8,7 @@ use Rattle.command_files.specs.Stops.{NotesStop}
 use Rattle.command_files.specs.declared.status.End.{End}
 use Rattle.command_files.specs.declared.status.End.TheVariants.{CannotRead, NoMemory}
 use Rattle.os9_boot.specs.FileNames.{BootWrites}
+use Rattle.os9_boot.specs.History.{output_names, outputs_of}
 use Rattle.os9_boot.proofs.NameLemmas.{IsBehindReads}
 
 -- no file was written
@@ -16,7 +17,7 @@ still-written notes = λ i. record notes { written = sym (append-nil notes.writt
 
 -- the reads of its images stopped
 pub notes-stopped : (boot : RunWords) (end : End) (first next : Notes) → NotesStop (run_file_name boot) boot.files end
-    first next → NotesFiles (run_file_name boot) boot.files (BootWrites boot.files) end first next
+    first next → NotesFiles (run_file_name boot) boot.files (BootWrites (outputs_of boot)) end first next
 notes-stopped boot (CannotRead input) first next stopped = record {
   read = stopped.read;
   reads = stopped.stops;
@@ -28,7 +29,7 @@ notes-stopped boot NoMemory first next stopped = record {
   read = stopped.read;
   reads = stopped.stops;
   written = [];
-  writes = (boot.files, refl);
+  writes = (output_names (outputs_of boot), refl);
   noted = stopped.noted.is ∙ still-written _;
 }
 notes-stopped boot end first next stopped = absurd stopped.stops
@@ -40,8 +41,8 @@ all-read boot end behind = refl
 
 -- all images were read, and then these were written
 pub notes-after : (boot : RunWords) (end : End) (first mid next : Notes) → IsBehindReads end → HasRead boot.files
-    first mid → (written : List (List ℕ)) → BootWrites boot.files end written → HasWritten written mid next
-    → NotesFiles (run_file_name boot) boot.files (BootWrites boot.files) end first next
+    first mid → (written : List (List ℕ)) → BootWrites (outputs_of boot) end written → HasWritten written mid next
+    → NotesFiles (run_file_name boot) boot.files (BootWrites (outputs_of boot)) end first next
 notes-after boot end first mid next behind read written writes noted = record {
   read = boot.files;
   reads = all-read boot end behind;

@@ -1,5 +1,6 @@
 -- A session with images in the drives.
 use Rattle.std.proofs.Common.{◌≡◌, Bool, true, false, List, ℕ, Some, length, slice_get, sym, subst, ap, ◌∙◌}
+use Rattle.lock_model.specs.declared.history.Entry.{Entry}
 use Rattle.rbf_model.specs.Volume.{Vol}
 use Rattle.os9_outer.specs.TerminalState.{TerminalState}
 use Rattle.key_loading.specs.Loaded.{loaded}
@@ -33,7 +34,7 @@ use Rattle.console_boot.specs.Images.{LeavesSession}
 -- the devices as they are before a call, with the images in the drives, and at the end
 module _ (setup : Setup) (typed : Typed) (before ran : World) (inside left : Outside) (new : List (List ℕ))
     (as_many : length new ≡ length setup.images) (taken : TakesImages new ran.devices.drives left.drives)
-    (put : inside.drives ≡ holding setup.images before.devices.drives) (terms_put : inside.terms ≡
+    (history : List Entry) (put : inside.drives ≡ holding setup.images before.devices.drives) (terms_put : inside.terms ≡
     before.devices.terms) (terms_left : left.terms ≡ ran.devices.terms) where
   abbrev held : World
   held = record before { devices = inside }
@@ -41,7 +42,7 @@ module _ (setup : Setup) (typed : Typed) (before ran : World) (inside left : Out
   abbrev after : World
   after = record ran { devices = left }
 
-  module _ (turns : List TypedTurn) (t : State) (it : LeadsSession setup typed held ran turns t) where
+  module _ (turns : List TypedTurn) (t : State) (it : LeadsSession setup typed history held ran turns t) where
     image-of : (drive : ℕ) (was now : List ℕ) → slice_get setup.images drive ≡ Some was → slice_get new drive ≡ Some now → IsImageOf t drive was now
     image-of drive was now at there =
         let (v, first, vol) = start-has-images _ it.s it.starts drive was at in
@@ -54,7 +55,7 @@ module _ (setup : Setup) (typed : Typed) (before ran : World) (inside left : Out
           back = written-back was now v w vol (subst (λ (image : List ℕ). Vol image w) (sym is) holds.on.vol) kept;
         }
 
-    leaves : LeavesSession setup new typed before after turns t
+    leaves : LeavesSession setup new history typed before after turns t
     leaves =
         let same : drive_states inside.drives ≡ drive_states before.devices.drives = ap drive_states put ∙ counts-holding setup.images before.devices.drives in
         record {
@@ -66,10 +67,11 @@ module _ (setup : Setup) (typed : Typed) (before ran : World) (inside left : Out
           terminals = terms_left ∙ it.terminals;
           drives = ap drive_states taken.left ∙ counts-without ran.devices.drives ∙ sym it.drives.counts;
           volumes = record { as_many = as_many; each = image-of };
+          recorded = it.recorded;
         }
 
-  stopped : (lives : Bool) (stop : Stop) (from to : KeyboardState) → StopsSession (LeadsSession setup typed held ran)
-      lives stop from to → StopsSession (LeavesSession setup new typed before after) lives stop from to
+  stopped : (lives : Bool) (stop : Stop) (from to : KeyboardState) → StopsSession (LeadsSession setup typed history held ran)
+      lives stop from to → StopsSession (LeavesSession setup new history typed before after) lives stop from to
   stopped lives stop from to it = record {
     turns = it.turns;
     t = it.t;
@@ -78,8 +80,8 @@ module _ (setup : Setup) (typed : Typed) (before ran : World) (inside left : Out
     stops = it.stops;
   }
 
-  pub session-between : (end : SessionEnd) (from to : KeyboardState) → IsSessionTo (LeadsSession setup typed held ran)
-      end from to → IsSessionTo (LeavesSession setup new typed before after) end from to
+  pub session-between : (end : SessionEnd) (from to : KeyboardState) → IsSessionTo (LeadsSession setup typed history held ran)
+      end from to → IsSessionTo (LeavesSession setup new history typed before after) end from to
   session-between (OfRun (Ended begun)) from to it = stopped false Stop.Over from to it
   session-between (OfRun (Living begun)) from to it = stopped true Stop.Over from to it
   session-between (OfRun end) from to it = tt

@@ -9,6 +9,7 @@ use Rattle.command_files.specs.Noted.{NotesFiles}
 use Rattle.command_files.specs.declared.status.End.{End}
 use Rattle.command_files.specs.declared.status.End.TheVariants.{NoMemory}
 use Rattle.os9_boot.specs.FileNames.{BootWrites}
+use Rattle.os9_boot.specs.History.{output_names, outputs_of}
 use Rattle.os9_boot.specs.TopCall.{Reports, words_status}
 use Rattle.session_text.specs.declared.typed.Typed.{Typed}
 use Rattle.console_run.specs.Keyboard.{KeyboardState}
@@ -23,7 +24,7 @@ use Rattle.console_boot.specs.declared.words.ConsoleWords.{ConsoleWords}
 
 -- the files of a session, and then those of its record
 notes-then : (words : ConsoleWords) (end : End) (recording : Recording) (noted half done : Notes)
-    → NotesFiles (run_file_name words.boot) words.boot.files (BootWrites words.boot.files) end noted half
+    → NotesFiles (run_file_name words.boot) words.boot.files (BootWrites (outputs_of words.boot)) end noted half
     → HasWrittenRecord words.boot recording half done → NotesConsole words.boot end recording noted done
 notes-then words end recording noted half done files (texts, records, wrote) =
     let read : Notes = having_read files.read noted in
@@ -42,7 +43,7 @@ pub console-reported : (words : ConsoleWords) (typed : Typed) (from to : Keyboar
     World) (noted half done notes : Notes) (end : End) (recording : Recording) (status : ℕ) → after ≡ between
     → status ≡ console_status end recording
     → ConsoleCall words.boot typed end from to before mid → NotesFiles (run_file_name words.boot) words.boot.files
-    (BootWrites words.boot.files) end noted half → Records words typed end recording mid between
+    (BootWrites (outputs_of words.boot)) end noted half → Records words typed end recording mid between
     → HasWrittenRecord words.boot recording half done
     → Reports (console_line words.boot end recording) done notes → ConsoleReport words from to before after noted notes status
 console-reported words typed from to before mid between after noted half done notes end recording status same is call files recorded wrote line = record {
@@ -88,7 +89,7 @@ module _ (words : List (List ℕ)) (from to : KeyboardState) (before after : Wor
               read = [];
               reads = (read.boot.files, refl);
               images = [];
-              writes = (read.boot.files, refl);
+              writes = (output_names (outputs_of read.boot), refl);
               texts = [];
               records = refl;
               noted = λ i. record noted { read = sym (append-nil noted.read) i; written = sym (append-nil noted.written) i };

@@ -1,5 +1,6 @@
 -- A session with images in the drives (this project's own).
 use Rattle.std.specs.Prelude.{◌≡◌, ℕ, List, All}
+use Rattle.lock_model.specs.declared.history.Entry.{Entry}
 use Rattle.file_drives.specs.Drives.{drive_states}
 use Rattle.machine_model.specs.State.{State}
 use Rattle.boot_images.specs.Outcome.{AreImagesOf, RunsImages, setup_of}
@@ -20,22 +21,24 @@ session_setup start images typed =
     record (setup_of start images) { keys = kept_keys typed; slices = kept_slices typed }
 
 -- The machine that is set up so was started, and there was a session over these turns from its start to this state. Its
--- terminals and the states of its drives are those that are there now, and these images hold its volumes.
-pub record LeavesSession (setup : Setup) (images : List (List ℕ)) (typed : Typed) (before after : World)
-    (turns : List TypedTurn) (t : State) : Type 0 where
+-- terminals and the states of its drives are those that are there now, these images hold its volumes, and this is its
+-- history.
+pub record LeavesSession (setup : Setup) (images : List (List ℕ)) (history : List Entry) (typed : Typed)
+    (before after : World) (turns : List TypedTurn) (t : State) : Type 0 where
   pub s : State
   pub starts : StartsLoaded (untyped setup) before s
   pub session : HasSession turns s t typed before.out after.out
   pub terminals : after.devices.terms ≡ t.terms
   pub drives : drive_states after.devices.drives ≡ t.files.drives
   pub volumes : AreImagesOf t setup.images images
+  pub recorded : history ≡ t.files.records.history
 
--- The machine that is set up so was run with its images in the drives, and these were taken out again; it was a
--- session if the bytes of all terminals are observed.
-pub record RunsConsole (setup : Setup) (typed : Typed) (images : List (List ℕ)) (end : SessionEnd)
-    (from to : KeyboardState) (before after : World) : Type 0 where
-  pub machine : RunsImages setup images before after (run_end end)
+-- The machine that is set up so was run with its images in the drives, these were taken out again, and this history was
+-- handed out; it was a session if the bytes of all terminals are observed.
+pub record RunsConsole (setup : Setup) (typed : Typed) (images : List (List ℕ)) (history : List Entry)
+    (end : SessionEnd) (from to : KeyboardState) (before after : World) : Type 0 where
+  pub machine : RunsImages setup images history before after (run_end end)
   pub at_line : EndsAtLine end
   pub keyboard : AsksKeyboard end from to
   pub session : All IsObserved before.devices.terms
-      → IsSessionTo (LeavesSession setup images typed before after) end from to
+      → IsSessionTo (LeavesSession setup images history typed before after) end from to

@@ -13,6 +13,7 @@ use Rattle.command_files.specs.declared.status.Input.{Input}
 use Rattle.console_run.specs.Keyboard.{KeyboardState}
 use Rattle.session_text.specs.declared.typed.Typed.{Typed}
 use Rattle.os9_boot.specs.FileNames.{BootWrites}
+use Rattle.os9_boot.specs.History.{outputs_of}
 use Rattle.os9_boot.specs.TopCall.{Reports, WordsReport}
 use Rattle.console_boot.specs.Call.{ConsoleCall}
 use Rattle.console_boot.specs.Record.{RecordWrites, Records}
@@ -50,7 +51,7 @@ pub record NotesConsole (boot : RunWords) (end : End) (recording : Recording) (b
   pub read : List (List ℕ)
   pub reads : Reads (run_file_name boot) boot.files end read
   pub images : List (List ℕ)
-  pub writes : BootWrites boot.files end images
+  pub writes : BootWrites (outputs_of boot) end images
   pub texts : List (List ℕ)
   pub records : RecordWrites boot recording texts
   pub noted : after ≡ having_written (images ++ texts) (having_read read before)

@@ -10,11 +10,13 @@ ghost use Rattle.console_run.specs.Keyboard.{keyboard_state};
 ghost use Rattle.console_run.specs.Seen.{devices_seen, OnCall};
 ghost use Rattle.file_drives.specs.Drives.{drives_seen};
 ghost use Rattle.os9_boot.specs.FileNames.{BootWrites};
+ghost use Rattle.os9_boot.specs.History.{outputs_of};
 ghost use Rattle.os9_words.specs.Command.{IsBoot};
 ghost use Rattle.os9_words.specs.Notes.{notes_of};
 
 use crate::images::run_on_images;
 use boot_images::machine::Start;
+use boot_run::RunOutcome;
 use command_files::files::read_images;
 use command_files::status::End;
 use console_run::keyboard::Keyboard;
@@ -42,8 +44,8 @@ pub(crate) fn boot_console<H: Host, K: Keyboard + Drop>(
         (keyboard_state K.Keyboard console.old.keyboard)
         (keyboard_state K.Keyboard console.new.keyboard))
         H.Host host.old host.new BlockDriver-box CharDriver-box devices.old devices.new }
-    ensures noted { NotesFiles (run_file_name boot.now) boot.now.files (BootWrites boot.now.files)
-        result (notes_of H.Host host.old) (notes_of H.Host host.new) }
+    ensures noted { NotesFiles (run_file_name boot.now) boot.now.files (BootWrites
+        (outputs_of boot.now)) result (notes_of H.Host host.old) (notes_of H.Host host.new) }
     ensures drives { AreEmptyAgain (drives_seen BlockDriver-box devices.old)
         (drives_seen BlockDriver-box devices.new) }
 {
@@ -62,8 +64,13 @@ pub(crate) fn boot_console<H: Host, K: Keyboard + Drop>(
         keys: Vec::new(console.alloc),
         slices: Vec::new(console.alloc),
     };
-    match run_on_images(&start, &mut images, console, host, devices) {
-        SessionEnd::OfRun(end) => write_back(&boot.files, &images, end, host),
+    let session = run_on_images(&start, &mut images, console, host, devices);
+    match session.end {
+        SessionEnd::OfRun(end) => {
+            let records = session.records;
+            let outcome = RunOutcome { end, records };
+            write_back(console.alloc, boot, &images, &outcome, host)
+        }
         SessionEnd::LineLost(_) => End::NoMemory,
     }
 }

@@ -3,6 +3,7 @@
 ghost use Rattle.std.specs.Prelude.{◌≡◌, All, length};
 ghost use Rattle.boot_images.specs.BootFile.{IsVolume};
 ghost use Rattle.boot_images.specs.Ready.{AreFree, CanStart};
+ghost use Rattle.boot_run.specs.Machine.{history_left};
 ghost use Rattle.console_boot.specs.Images.{session_setup, RunsConsole};
 ghost use Rattle.session_text.specs.Typed.{IsUntyped};
 ghost use Rattle.console_run.specs.Keyboard.{keyboard_state};
@@ -13,7 +14,7 @@ use boot_images::drives::{eject_images, insert_images};
 use boot_images::images::Images;
 use boot_images::machine::Start;
 use console_run::keyboard::Keyboard;
-use console_run::{Console, SessionEnd, run_session};
+use console_run::{Console, SessionOutcome, run_session};
 use device_table::devices::Devices;
 use os9_kernel::Config;
 use os9_outer::drive::BlockDriver;
@@ -28,14 +29,15 @@ pub(crate) fn run_on_images<H: Host, K: Keyboard + Drop>(
     console: &mut Console<K>,
     host: &mut H,
     devices: &mut Devices,
-) -> SessionEnd
+) -> SessionOutcome
     requires untyped { IsUntyped console.old.typed }
     requires devices { AreFree (length images.old)
         (devices_seen BlockDriver-box CharDriver-box devices.old) }
     requires start { CanStart start.now }
     requires volumes { All IsVolume images.old }
     ensures run { OnCall (RunsConsole (session_setup start.now images.old console.new.typed)
-        console.new.typed images.new result (keyboard_state K.Keyboard console.old.keyboard)
+        console.new.typed images.new (history_left result.records) result.end
+        (keyboard_state K.Keyboard console.old.keyboard)
         (keyboard_state K.Keyboard console.new.keyboard))
         H.Host host.old host.new BlockDriver-box CharDriver-box devices.old devices.new }
     ensures count { length images.new ≡ length images.old }
@@ -47,7 +49,7 @@ pub(crate) fn run_on_images<H: Host, K: Keyboard + Drop>(
         images: images.len(),
         time: start.time,
     };
-    let end = run_session(config, start.file.as_slice(), console, host, devices);
+    let outcome = run_session(config, start.file.as_slice(), console, host, devices);
     eject_images(console.alloc, images, devices);
-    end
+    outcome
 }

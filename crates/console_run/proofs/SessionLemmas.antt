@@ -3,6 +3,7 @@ use Rattle.std.proofs.Common.{◌≡◌, ◌≢◌, ℕ, zero, suc, Bool, true, 
 use Rattle.std.proofs.lemmas.List.Elements.{All-nil}
 use Rattle.os9_outer.specs.TerminalState.{TerminalState}
 use Rattle.key_loading.specs.Loaded.{HasNoKeys, loaded}
+use Rattle.lock_model.specs.declared.history.Entry.{Entry}
 use Rattle.file_rules.specs.Files.{DriveState, NoneFailed}
 use Rattle.file_drives.specs.Drives.{drive_states}
 use Rattle.event_rules.specs.State.{living_count}
@@ -74,7 +75,8 @@ loaded-nothing terms none = loaded-typed [] terms (All-nil IsOfTerm) none ∙ lo
 module _ (setup : Setup) (typed : Typed) (from to : KeyboardState) (kernel later : Kernel) (before after : World)
     (started : Outside) (unloaded : All HasNoKeys before.devices.terms)
     (none_failed : NoneFailed (drive_states before.devices.drives) (drive_states started.drives))
-    (terms : started.terms ≡ before.devices.terms) (begins : Begins setup kernel started) where
+    (terms : started.terms ≡ before.devices.terms) (begins : Begins setup kernel started) (history : List Entry)
+    (entered : (t : State) → Represents later after.devices t → history ≡ t.files.records.history) where
   abbrev began : World
   began = with_devices before started
 
@@ -88,7 +90,7 @@ module _ (setup : Setup) (typed : Typed) (from to : KeyboardState) (kernel later
   pub session-stopped : (stop : Stop) (lives : Bool) → ((s : State) → All IsObserved started.terms → Represents kernel
       started s → RunsSession stop s later typed from to began after) → ((t : State) → Represents later after.devices
       t → has_living t ≡ lives) → All IsObserved before.devices.terms
-      → StopsSession (LeadsSession setup typed before after) lives stop from to
+      → StopsSession (LeadsSession setup typed history before after) lives stop from to
   session-stopped stop lives session living told =
       let told_started : All IsObserved started.terms = subst (λ (terms : List TerminalState). All IsObserved terms) (sym terms) told in
       let it : RunsSession stop begins.0 later typed from to began after = session begins.0 told_started begins.2 in
@@ -101,6 +103,7 @@ module _ (setup : Setup) (typed : Typed) (from to : KeyboardState) (kernel later
           session = it.session;
           terminals = terms-standing later after.devices it.t it.there;
           drives = holds-volumes later after.devices it.t it.there;
+          recorded = entered it.t it.there;
         };
         living = living it.t it.there;
         stops = it.stops;
@@ -111,19 +114,19 @@ module _ (setup : Setup) (typed : Typed) (from to : KeyboardState) (kernel later
       → Represents kernel started s → RunsSession Stop.Over s later typed from to began after)
       → ((t : State) → Represents later after.devices t → living ≡ living_count t.inner)
       → (living ≡ 0 → end ≡ Ended ticks) → (living ≢ 0 → end ≡ Living ticks)
-      → All IsObserved before.devices.terms → IsSessionTo (LeadsSession setup typed before after) (OfRun end) from to
+      → All IsObserved before.devices.terms → IsSessionTo (LeadsSession setup typed history before after) (OfRun end) from to
   session-over zero ticks end session alive idle lives told =
-      subst (λ (end : RunEnd). IsSessionTo (LeadsSession setup typed before after) (OfRun end) from to)
+      subst (λ (end : RunEnd). IsSessionTo (LeadsSession setup typed history before after) (OfRun end) from to)
       (sym (idle refl)) (session-stopped Stop.Over false session (λ t there. none-living t (sym (alive t there)))
       told)
   session-over (suc living) ticks end session alive idle lives told =
-      subst (λ (end : RunEnd). IsSessionTo (LeadsSession setup typed before after) (OfRun end) from to) (sym (lives (λ e. omega (arith, e))))
+      subst (λ (end : RunEnd). IsSessionTo (LeadsSession setup typed history before after) (OfRun end) from to) (sym (lives (λ e. omega (arith, e))))
       (session-stopped Stop.Over true session (λ t there. some-living t (λ none. omega (arith, alive t there, none))) told)
 
   -- to a line for which memory was out; a process lives then
   pub session-lost : (end : RunEnd) → ((s : State) → All IsObserved started.terms → Represents kernel started s
       → RunsSession Stop.LineLost s later typed from to began after) → All IsObserved before.devices.terms
-      → IsSessionTo (LeadsSession setup typed before after) (LineLost end) from to
+      → IsSessionTo (LeadsSession setup typed history before after) (LineLost end) from to
   session-lost end session told =
       let told_started : All IsObserved started.terms = subst (λ (terms : List TerminalState). All IsObserved terms) (sym terms) told in
       let it : RunsSession Stop.LineLost begins.0 later typed from to began after = session begins.0 told_started begins.2 in
@@ -136,6 +139,7 @@ module _ (setup : Setup) (typed : Typed) (from to : KeyboardState) (kernel later
           session = it.session;
           terminals = terms-standing later after.devices it.t it.there;
           drives = holds-volumes later after.devices it.t it.there;
+          recorded = entered it.t it.there;
         };
         living = it.stops.3;
         stops = it.stops;

@@ -1,6 +1,7 @@
 -- A session of a machine at whose terminal a person types.
 use Rattle.std.specs.Prelude.{◌≡◌, ◌≢◌, ◌++◌, ℕ, ⊤, Bool, true, false, Option, Result, List, [], map, IfOk, All}
 use Rattle.os9_outer.specs.Stream.{stream_with}
+use Rattle.lock_model.specs.declared.history.Entry.{Entry}
 use Rattle.file_start.specs.Start.{HaveImages}
 use Rattle.event_rules.specs.declared.ends.SliceEnd.{SliceEnd}
 use Rattle.machine_model.specs.Run.{Run}
@@ -79,14 +80,15 @@ abbrev pub untyped : Setup → Setup
 untyped setup = record setup { keys = []; slices = [] }
 
 -- The machine that is set up so was started, and there was a session over these turns from its start to this state, in
--- which its terminals are now, and whose volumes its drives hold.
-pub record LeadsSession (setup : Setup) (typed : Typed) (before after : World) (turns : List TypedTurn) (t : State)
-    : Type 0 where
+-- which its terminals are now, whose volumes its drives hold, and whose history this is.
+pub record LeadsSession (setup : Setup) (typed : Typed) (history : List Entry) (before after : World)
+    (turns : List TypedTurn) (t : State) : Type 0 where
   pub s : State
   pub starts : StartsLoaded (untyped setup) before s
   pub session : HasSession turns s t typed before.out after.out
   pub terminals : after.devices.terms ≡ t.terms
   pub drives : HoldsVolumes t after.devices.drives
+  pub recorded : history ≡ t.files.records.history
 
 -- a session came so to its last state, in which a process lives or none does, and stopped
 pub record StopsSession (comes : List TypedTurn → State → Type 0) (lives : Bool) (stop : Stop)
@@ -122,15 +124,18 @@ run_end (LineLost end) = end
 
 -- It is the run of the machine over the slices and with the keys that are kept, and a session if the bytes of all
 -- terminals are observed.
-pub record SessionCall (setup : Setup) (end : SessionEnd) (typed : Typed) (from to : KeyboardState)
-    (before after : World) : Type 0 where
-  pub machine : MachineCall setup before after (run_end end)
+pub record SessionCall (setup : Setup) (end : SessionEnd) (history : List Entry) (typed : Typed)
+    (from to : KeyboardState) (before after : World) : Type 0 where
+  pub machine : MachineCall setup history before after (run_end end)
   pub at_line : EndsAtLine end
   pub keyboard : AsksKeyboard end from to
-  pub session : All IsObserved before.devices.terms → IsSessionTo (LeadsSession setup typed before after) end from to
+  pub session : All IsObserved before.devices.terms → IsSessionTo (LeadsSession setup typed history before after) end
+      from to
 
 -- so with the images that were in the first drives
-abbrev pub SessionRuns : Config → List ℕ → SessionEnd → Typed → KeyboardState → KeyboardState → World → World → Type 0
-SessionRuns config file end typed from to before after =
+abbrev pub SessionRuns : Config → List ℕ → SessionEnd → List Entry → Typed → KeyboardState → KeyboardState → World
+    → World → Type 0
+SessionRuns config file end history typed from to before after =
     (images : List (List ℕ)) → HaveImages config.images images before.devices.drives
-    → SessionCall (setup_with config file images (kept_keys typed) (kept_slices typed)) end typed from to before after
+    → SessionCall (setup_with config file images (kept_keys typed) (kept_slices typed)) end history typed from to
+    before after

@@ -3,7 +3,7 @@
 #![tactic(auto)]
 
 pub use console::Console;
-pub use session::{SessionEnd, run_session};
+pub use session::{SessionEnd, SessionOutcome, run_session};
 pub use turns::Stop;
 
 mod console;

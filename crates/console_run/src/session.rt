@@ -2,7 +2,7 @@
 
 ghost use Rattle.std.specs.Prelude.{◌≡◌, []};
 ghost use Rattle.os9_words.specs.Notes.{notes_of};
-ghost use Rattle.boot_run.specs.Machine.{CanRun};
+ghost use Rattle.boot_run.specs.Machine.{CanRun, history_left};
 ghost use Rattle.session_text.specs.Typed.{IsUntyped};
 ghost use Rattle.console_run.specs.Keyboard.{keyboard_state};
 ghost use Rattle.console_run.specs.Seen.{devices_seen, AreAsMany, OnCall};
@@ -17,6 +17,7 @@ use os9_kernel::{Config, Kernel};
 use os9_outer::drive::BlockDriver;
 use os9_outer::host::Host;
 use os9_outer::terminal::CharDriver;
+use record_locks::records::Records;
 
 /// How a session ended.
 #[derive(Clone, Copy, Debug, PartialEq, Eq)]
@@ -25,6 +26,16 @@ pub enum SessionEnd {
     OfRun(RunEnd),
     /// Memory was out for a line. The run of its machine over the slices that are kept ended so.
     LineLost(RunEnd),
+}
+
+/// A session that is over: how it ended, and what it leaves.
+#[derive(Drop)]
+pub struct SessionOutcome {
+    /// How it ended.
+    pub end: SessionEnd,
+    /// The record locks of the machine's last state with their history, if its run over the slices
+    /// that are kept came to its end.
+    pub records: Option<Records>,
 }
 
 /// Starts a machine with a boot file and the images in its first drives, and runs it as a person
@@ -37,12 +48,12 @@ pub fn run_session<H: Host, K: Keyboard + Drop>(
     console: &mut Console<K>,
     host: &mut H,
     devices: &mut Devices,
-) -> SessionEnd
+) -> SessionOutcome
     requires untyped { IsUntyped console.old.typed }
     requires machine { CanRun config []
         (devices_seen BlockDriver-box CharDriver-box devices.old) }
-    ensures call { OnCall (SessionRuns config file.now result console.new.typed
-        (keyboard_state K.Keyboard console.old.keyboard)
+    ensures call { OnCall (SessionRuns config file.now result.end (history_left result.records)
+        console.new.typed (keyboard_state K.Keyboard console.old.keyboard)
         (keyboard_state K.Keyboard console.new.keyboard))
         H.Host host.old host.new BlockDriver-box CharDriver-box devices.old devices.new }
     ensures notes_kept { notes_of H.Host host.new ≡ notes_of H.Host host.old }
@@ -50,16 +61,32 @@ pub fn run_session<H: Host, K: Keyboard + Drop>(
 {
     let mut kernel = match Kernel::new(console.alloc, config, file, devices) {
         Ok(kernel) => kernel,
-        Err(error) => return SessionEnd::OfRun(end_of_start(error)),
+        Err(error) => {
+            let end = SessionEnd::OfRun(end_of_start(error));
+            return SessionOutcome { end, records: None };
+        }
     };
     let stop = match run_turns(&mut kernel, console, host, devices) {
         Ok(stop) => stop,
-        Err(RunFault::Output) => return SessionEnd::OfRun(RunEnd::OutputFailed),
-        Err(RunFault::NoMemory) => return SessionEnd::OfRun(RunEnd::NoMemory),
+        Err(RunFault::Output) => {
+            let end = SessionEnd::OfRun(RunEnd::OutputFailed);
+            return SessionOutcome { end, records: None };
+        }
+        Err(RunFault::NoMemory) => {
+            let end = SessionEnd::OfRun(RunEnd::NoMemory);
+            return SessionOutcome { end, records: None };
+        }
     };
     let end = run_end(kernel.living(), kernel.ticks());
+    let records = Some(kernel.into_records());
     match stop {
-        Stop::Over => SessionEnd::OfRun(end),
-        Stop::LineLost => SessionEnd::LineLost(end),
+        Stop::Over => {
+            let end = SessionEnd::OfRun(end);
+            SessionOutcome { end, records }
+        }
+        Stop::LineLost => {
+            let end = SessionEnd::LineLost(end);
+            SessionOutcome { end, records }
+        }
     }
 }

@@ -47,13 +47,13 @@ pub(crate) fn waits_for_line(
     has_no_keys(alloc, devices)
 }
 
-/// Does a process sleep until a tick?
+/// Does a tick end what a process waits for?
 fn wakes_by_clock(kernel: &Kernel) -> bool
     ensures one { IsTrue result → (devices : Outside) (s : State)
         → Represents kernel.now devices s
-        → (p : ℕ) × (p < PROCESS_PLACES) × IsTrue (wakes_by_clock_lem s.inner p) }
+        → (p : ℕ) × (p < PROCESS_PLACES) × IsTrue (wakes_by_clock_lem s p) }
     ensures none { IsFalse result → (devices : Outside) (s : State)
-        → Represents kernel.now devices s → NoneWakes s.inner }
+        → Represents kernel.now devices s → NoneWakes s }
 {
     for number in 0..PROCESS_PLACES {
         if kernel.wakes_by_clock(Pid(number)) {

@@ -1,5 +1,5 @@
 -- What an attempt leaves that stores bytes, by how it ends.
-use Rattle.std.proofs.Common.{◌≡◌, ◌≢◌, ◌+◌, ◌<◌, ◌≤◌, ℕ, Bool, None, Some, IsSome, List, sym, subst, arith}
+use Rattle.std.proofs.Common.{◌≡◌, ◌≢◌, ◌⊎◌, ◌+◌, ◌<◌, ◌≤◌, ℕ, Bool, None, Some, IsSome, List, inl, inr, sym, subst, arith}
 use Rattle.os9_base.specs.Cells.{Cells, FitsIn}
 use Rattle.os9_base.specs.declared.call.CallEnd.{CallEnd}
 use Rattle.os9_base.specs.declared.registers.Regs.{Regs}
@@ -11,10 +11,11 @@ use Rattle.io_model.specs.Pipe.{read_answer, read_line_answer, bytes_moved}
 use Rattle.io_model.specs.declared.kept.Kept.{Kept}
 use Rattle.io_model.specs.declared.pipe.PipeAns.{PipeAns}
 use Rattle.io_rules.specs.Attempts.{caller_of}
+use Rattle.io_rules.specs.Codes.{direction_of}
 use Rattle.io_rules.specs.Io.{Io, pipe_bytes, with_call}
 use Rattle.io_rules.specs.Pipes.{count_regs, after_taking, read_end, read_leaves, reads_pipe, read_line_end, read_line_leaves, reads_pipe_line}
 use Rattle.io_rules.specs.Step.{stores, answers, fails, keeps}
-use Rattle.io_state.specs.Sound.{MayWait}
+use Rattle.io_state.specs.Sound.{MayWait, SetsStatus}
 use Rattle.proc_state.specs.Tie.{Represents}
 use Rattle.proc_state.specs.declared.state.ProcState.{ProcState}
 use Rattle.device_io.specs.Leaving.{Leaves}
@@ -37,11 +38,16 @@ module _ (m : Inner) (p : ℕ) (at : ℕ) (bytes : List ℕ) (io : Io) (end : Ca
   pub leaves-refusal : (number : ℕ) → end ≡ CallEnd.Error number → Represents processes m → new ≡ with_call io p None → Leaves (stores at bytes (fails number) io) m p end processes new
   leaves-refusal number is tied left = ((is, tied), left)
 
--- a call may wait still after an attempt that moved bytes, where they were not the last
+-- a call of which more bytes were moved moves bytes or sets a status, as before
+moves-on : (paths : PathTable) (call : Kept) (count : ℕ) → IsSome (direction_of call.code) ⊎ SetsStatus paths call → IsSome (direction_of call.code) ⊎ SetsStatus paths (moved_on call count)
+moves-on paths call count (inl way) = inl way
+moves-on paths call count (inr it) = inr (record { sets = it.sets; target = it.target; on = it.on; on_disk = it.on_disk })
+
+-- a call may wait still after an attempt that moved bytes, if they were not the last
 pub may-wait-on : (paths : PathTable) (p : ℕ) (call new : Kept) (count : ℕ) → new ≡ moved_on call count
     → call.moved + count ≤ call.count → MayWait paths p call → new.moved ≢ new.count → MayWait paths p new
 may-wait-on paths p call new count is few may =
-    subst (λ (k : Kept). k.moved ≢ k.count → MayWait paths p k) (sym is) (λ differ. record { moves = may.moves; left = omega arith; held = may.held; reads = may.reads })
+    subst (λ (k : Kept). k.moved ≢ k.count → MayWait paths p k) (sym is) (λ differ. record { moves = moves-on paths call count may.moves; left = omega arith; held = may.held; reads = may.reads })
 
 -- a range that fits has parts that fit
 pub fits-behind : (cells : Cells) (at count moved most : ℕ) → FitsIn cells at count → moved + most ≤ count → FitsIn cells (at + moved) most

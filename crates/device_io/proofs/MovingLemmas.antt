@@ -1,5 +1,5 @@
 -- What is known of a read or a write once its path is found.
-use Rattle.std.proofs.Common.{◌≡◌, ◌≢◌, ℕ, Bool, true, false, Option, Some, None, is_some, is_none, option_map, option_and_then, unwrap_or, sym, ap, refl, ◌∙◌, subst, arith}
+use Rattle.std.proofs.Common.{◌≡◌, ◌≢◌, ℕ, Bool, true, false, Option, Some, None, is_some, is_none, option_map, option_and_then, unwrap_or, inl, sym, ap, refl, ◌∙◌, subst, arith}
 use Rattle.std.specs.Prelude.{IfSome}
 use Rattle.std.proofs.lemmas.Bool.{false≢true}
 use Rattle.os9_base.specs.declared.registers.Regs.{Regs}
@@ -131,7 +131,7 @@ read-call kind regs io p opened call is again open_is call_is some = by (kept_at
     begun none = record {
       move = record {
         may = record {
-          moves = ap (λ (o : Option Direction). is_some o) (way-of kind);
+          moves = inl (ap (λ (o : Option Direction). is_some o) (way-of kind));
           left = omega arith;
           held = slot-held io.paths p regs.a opened.path parts.0;
           reads = λ n at. way-of kind;

@@ -5,11 +5,10 @@ use Rattle.os9_base.specs.declared.call.CallEnd.TheVariants.{Done, Error, Wait, 
 use Rattle.os9_base.specs.declared.registers.Regs.{Regs}
 use Rattle.os9_outer.specs.TerminalState.{TerminalState}
 use Rattle.call_rules.specs.Inner.{Inner, regs_at}
-use Rattle.io_model.specs.declared.terminal.Progress.TheVariants as Answer
 use Rattle.io_rules.specs.Attempts.{Does, caller_of, io_after, result_by, result_of, step_of}
 use Rattle.io_rules.specs.Io.{Io}
 use Rattle.io_rules.specs.Memory.{WantsMemory}
-use Rattle.io_rules.specs.Step.{Caller, IoEffect, IoEnd, IoStep, stores, comes}
+use Rattle.io_rules.specs.Step.{Caller, IoEffect, IoEnd, IoStep, stores}
 use Rattle.io_rules.specs.declared.io_call.IoCall.{IoCall}
 use Rattle.io_state.specs.Attempt.{Attempts}
 use Rattle.proc_state.specs.Tie.{Comes, Represents}

@@ -6,7 +6,7 @@ use Rattle.rbf_access.specs.declared.volume.Volume.{Volume}
 use Rattle.rbf_walk.specs.Walk.{directory_fault}
 use Rattle.rbf_walk.specs.declared.error.DirError.{DirError}
 use Rattle.file_rules.specs.Files.{Files, file_in, volume_at, with_drives, with_volume}
-use Rattle.file_rules.specs.declared.places.FilePlace.{FilePlace}
+use Rattle.lock_model.specs.declared.place.FilePlace.{FilePlace}
 use Rattle.file_drives.specs.Changed.{Asked, ChangesVolume, IsRefused, is_refused}
 use Rattle.file_drives.specs.Drives.{DriveView, drive_states}
 use Rattle.file_drives.specs.Mounted.{HasFileAt, OnDisks, ReadsFile}
@@ -28,18 +28,18 @@ module _ (files : Files) (place : FilePlace) (v : DiskVolume) (file : DiskFile) 
   of-found fact holds = holds files.volumes v file was.stands.mounted volume_is file_is
 
   pub read-again : (fault : Option ℕ) (most : DiskVolume → DiskFile → ℕ) → new.io ≡ mid.io → new.directories ≡
-      mid.directories → ReadsFile place fault most mid.disks views new.disks now → HasRead fault place.drive files new
-      before now
-  read-again fault most io directories reads =
+      mid.directories → new.records ≡ mid.records → ReadsFile place fault most mid.disks views new.disks now
+      → HasRead fault place.drive files new before now
+  read-again fault most io directories records reads =
       reached.has-read-then fault place.drive files mid new before views now was
-      (reached.has-read mid new views now (with_drives files (drive_states views)) place file fault most was.stands file-there io directories reads)
+      (reached.has-read mid new views now (with_drives files (drive_states views)) place file fault most was.stands file-there io directories records reads)
 
   pub changed-again : (asked : Asked) (answer : Result ℕ DirError) (most : DiskVolume → DiskFile → DiskVolume → ℕ)
-      → new.io ≡ mid.io → new.directories ≡ mid.directories → ChangesVolume place asked answer most mid.disks views
-      new.disks now → HasChanged asked answer place.drive v file files new before now
-  changed-again asked answer most io directories changes =
+      → new.io ≡ mid.io → new.directories ≡ mid.directories → new.records ≡ mid.records → ChangesVolume place asked
+      answer most mid.disks views new.disks now → HasChanged asked answer place.drive v file files new before now
+  changed-again asked answer most io directories records changes =
       reached.has-changed-then asked answer place.drive v file files mid new before views now was
-      (reached.has-changed mid new views now (with_drives files (drive_states views)) place v file asked answer most was.stands volume_is file_is io directories changes)
+      (reached.has-changed mid new views now (with_drives files (drive_states views)) place v file asked answer most was.stands volume_is file_is io directories records changes)
 
   -- how often the drive was called for it
   pub read-calls : (fault : Option ℕ) (most : DiskVolume → DiskFile → ℕ) → ReadsFile place fault most mid.disks views new.disks now → CalledAtMost (most v file) views now

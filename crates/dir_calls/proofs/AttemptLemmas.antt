@@ -1,5 +1,5 @@
 -- How a call ends that answers X past its path list, or is refused.
-use Rattle.std.proofs.Common.{◌≡◌, ◌∙◌, ℕ, ◌%◌, None, List, Result, Ok, Err, ap, sym, subst}
+use Rattle.std.proofs.Common.{◌≡◌, ◌∙◌, ℕ, ◌%◌, None, List, Result, Ok, Err, ap, sym, subst, inl}
 use Rattle.os9_base.specs.declared.call.CallEnd.{CallEnd}
 use Rattle.os9_base.specs.declared.call.CallEnd.TheVariants.{Done, Error}
 use Rattle.os9_base.specs.declared.registers.TimePacket.{TimePacket}
@@ -23,7 +23,7 @@ module _ (step : FileStep) (most : ℕ) (m : Inner) (was : Files) (now : TimePac
     (terms : List TerminalState) (mid : FileState) (before views : List DriveView) (end : CallEnd)
     (processes : ProcState) (io : Io) (io_is : io ≡ with_call mid.io p None) where
   abbrev Ended : Type 0
-  Ended = Ends step most m was now p end processes (record { io = io; disks = mid.disks; directories = mid.directories }) before views terms
+  Ended = Ends step most m was now p end processes (record mid { io = io }) before views terms
 
   abbrev Tried : Result ℕ ℕ → Type 0
   Tried result = Tries step most (asker_of m p now) was result mid before views
@@ -33,7 +33,8 @@ module _ (step : FileStep) (most : ℕ) (m : Inner) (was : Files) (now : TimePac
     effect = leaves (fails number) it.left;
     does = it.does terms;
     comes = (end_is, tied);
-    stands = stands-with_io mid views it.left (with_call it.left.io p None) io (ap (λ (old : Io). with_call old p None) it.stands.io ∙ sym io_is) it.stands;
+    stands =
+        inl (stands-with_io mid views it.left (with_call it.left.io p None) io (ap (λ (old : Io). with_call old p None) it.stands.io ∙ sym io_is) it.stands);
     calls = it.calls;
     drives = subst (λ (end : CallEnd). KeepsDrives step (asker_of m p now) was end before views) (sym end_is) it.drives;
   }
@@ -43,7 +44,8 @@ module _ (step : FileStep) (most : ℕ) (m : Inner) (was : Files) (now : TimePac
     effect = leaves (answers (record (regs_at m p) { x = next % 65536 })) it.left;
     does = it.does terms;
     comes = (end_is, tied);
-    stands = stands-with_io mid views it.left (with_call it.left.io p None) io (ap (λ (old : Io). with_call old p None) it.stands.io ∙ sym io_is) it.stands;
+    stands =
+        inl (stands-with_io mid views it.left (with_call it.left.io p None) io (ap (λ (old : Io). with_call old p None) it.stands.io ∙ sym io_is) it.stands);
     calls = it.calls;
     drives = subst (λ (end : CallEnd). KeepsDrives step (asker_of m p now) was end before views) (sym end_is) it.drives;
   }

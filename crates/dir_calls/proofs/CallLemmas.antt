@@ -20,7 +20,7 @@ use Rattle.file_rules.specs.Files.{Asker, Files, volume_at}
 use Rattle.file_rules.specs.MakDir.{new_directory_size}
 use Rattle.file_rules.specs.Step.{Step, refused, comes, reaches, drive_of, needs}
 use Rattle.file_rules.specs.Way.{Way, along, to_device, nowhere, Found, before_last, last_of, list_of, reads_list, walk_ends, walks, way_of}
-use Rattle.file_rules.specs.declared.places.FilePlace.{FilePlace}
+use Rattle.lock_model.specs.declared.place.FilePlace.{FilePlace}
 use Rattle.file_drives.specs.Calls as drives
 use Rattle.file_drives.specs.Drives.{DriveView}
 use Rattle.file_state.proofs.CountLemmas.{called-more, called-none}

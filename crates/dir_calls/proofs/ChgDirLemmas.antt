@@ -12,7 +12,7 @@ use Rattle.io_rules.specs.Io.{Io, with_call}
 use Rattle.io_rules.specs.Step.{answers}
 use Rattle.proc_state.specs.Tie.{Represents}
 use Rattle.proc_state.specs.declared.state.ProcState.{ProcState}
-use Rattle.file_rules.specs.Attempts.{files_after}
+use Rattle.file_rules.specs.Attempts.{files_kept}
 use Rattle.file_rules.specs.Files.{Asker, Files, directories_at, with_directories_of, with_directory, with_drives, with_io}
 use Rattle.file_drives.specs.Drives.{DriveView, drive_states}
 use Rattle.file_state.proofs.StateLemmas.{stands-with_io}
@@ -21,7 +21,7 @@ use Rattle.file_state.specs.declared.state.FileState.{FileState}
 use Rattle.file_rules.specs.Open.{is_for_execution, tests_mode}
 use Rattle.file_rules.specs.Step.{FileStep, Step, refused, comes, leaves, reaches, refuses, with_drives_after}
 use Rattle.file_rules.specs.Way.{Way, along, to_device, nowhere, Found, list_of, reads_list, walks, way_of}
-use Rattle.file_rules.specs.declared.places.FilePlace.{FilePlace}
+use Rattle.lock_model.specs.declared.place.FilePlace.{FilePlace}
 use Rattle.file_routes.specs.Ways.{mode_refusal, next_step, refuses_by}
 use Rattle.dir_calls.proofs.CallLemmas.{located-seen, located-within}
 use Rattle.dir_calls.proofs.LookLemmas.{walks-on}
@@ -102,19 +102,18 @@ module _ (asker : Asker) (files : Files) (terms : ℕ) (execute : Bool) (same : 
 pub gone-there : (mid final : FileState) (views : List DriveView) (was : Files) (p : ℕ) (regs : Regs) (io : Io)
     (execute searched : Bool) (place found : FilePlace) → io ≡ with_call mid.io p None → execute ≡ searched
     → found ≡ place → StandsFor mid views (with_drives was (drive_states views))
-    → ((views : List DriveView) (files : Files)
-    → StandsFor (record { io = io; disks = mid.disks; directories = mid.directories }) views files
+    → ((views : List DriveView) (files : Files) → StandsFor (record mid { io = io }) views files
     → StandsFor final views (with_directories_of files p (with_directory (directories_at files p) execute place)))
-    → StandsFor final views (files_after p
+    → StandsFor final views (files_kept p
     (with_drives_after (leaves (answers regs) (with_directories_of was p (with_directory (directories_at was p)
     searched found))) (drive_states views)))
 gone-there mid final views was p regs io execute searched place found io_is searches place_is stands goes =
     subst (λ (place : FilePlace). StandsFor final views
-    (files_after p (with_drives_after
+    (files_kept p (with_drives_after
     (leaves (answers regs) (with_directories_of was p (with_directory (directories_at was p) searched place)))
     (drive_states views)))) (sym place_is)
     (subst (λ (execute : Bool). StandsFor final views
-    (files_after p (with_drives_after
+    (files_kept p (with_drives_after
     (leaves (answers regs) (with_directories_of was p (with_directory (directories_at was p) execute place)))
     (drive_states views)))) searches
     (goes views (with_io (with_drives was (drive_states views)) (with_call was.io p None))

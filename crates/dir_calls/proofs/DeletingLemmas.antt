@@ -22,7 +22,7 @@ use Rattle.file_rules.specs.Files.{Asker, Files, volume_at, with_drives}
 use Rattle.file_rules.specs.MakDir.{past_list}
 use Rattle.file_rules.specs.Sharing.{is_open}
 use Rattle.file_rules.specs.Step.{FileStep, Step, VolumeChange, comes, changes, deed_of, drive_of, leaves, leaves_so, needs, refuses, refuses_so}
-use Rattle.file_rules.specs.declared.places.FilePlace.{FilePlace}
+use Rattle.lock_model.specs.declared.place.FilePlace.{FilePlace}
 use Rattle.io_rules.specs.Step.{answers}
 use Rattle.file_drives.specs.Calls as drives
 use Rattle.file_drives.specs.Changed.{Asked, ChangesVolume, file_answer}
@@ -260,9 +260,10 @@ module _ (user : ℕ) (execute : Bool) (last : LastLocated) (look : Step NamedBy
     (files : Files) (old mid : FileState) (before between views : List DriveView) (who : asker.user ≡ user)
     (loc : HasFound (IsNamed Existing look files) look seen last files old before between)
     (found : Result Deletable DirError) (io : mid.io ≡ old.io) (directories : mid.directories ≡ old.directories)
-    (answer : OnDisks old.disks between last.directory (λ v file. AnswersWalk (deletion_end v.files file last.name
-    user execute) (descriptor_found found))) (reads : ReadsFile last.directory (directory_fault found)
-    (λ v file. deletion_calls file last.name user execute) old.disks between mid.disks views) where
+    (records : mid.records ≡ old.records) (answer : OnDisks old.disks between last.directory
+    (λ v file. AnswersWalk (deletion_end v.files file last.name user execute) (descriptor_found found)))
+    (reads : ReadsFile last.directory (directory_fault found) (λ v file. deletion_calls file last.name user execute)
+    old.disks between mid.disks views) where
   abbrev way : FileStep
   way = next_step look (deletes_it asker files execute)
 
@@ -309,7 +310,8 @@ module _ (user : ℕ) (execute : Bool) (last : LastLocated) (look : Step NamedBy
 
   was-read : HasRead (directory_fault found) last.directory.drive files mid before views
   was-read = again.read-again files last.directory volume folder volume-there file-there old mid before between views
-      searched (directory_fault found) (λ v file. deletion_calls file last.name user execute) io directories reads
+      searched (directory_fault found) (λ v file. deletion_calls file last.name user execute) io directories records
+      reads
 
   -- no entry was found
   pub entry-refused : (error : DirError) (number : ℕ) → found ≡ Err error → number ≡ directory_error error → Tries way bound asker files (Err number) mid before views
@@ -338,10 +340,10 @@ module _ (user : ℕ) (execute : Bool) (last : LastLocated) (look : Step NamedBy
     file-shared taken = is-shared user execute last look seen asker files old mid before between views who loc called entry.descriptor ends shared shared_is taken read
 
     module _ (quiet : shared ≡ false) (new : FileState) (now : List DriveView) (new_io : new.io ≡ mid.io)
-        (new_directories : new.directories ≡ mid.directories) (result : Result (Unit {0}) FileFault)
-        (at : IsDeletableOn views last.directory last.name entry) (deletes_so : (asked : Asked)
-        → IsDeletionOn last.directory entry asked views → ChangesVolume last.directory asked (file_answer result)
-        (drives.deleting_calls entry.descriptor) mid.disks views new.disks now) where
+        (new_directories : new.directories ≡ mid.directories) (new_records : new.records ≡ mid.records)
+        (result : Result (Unit {0}) FileFault) (at : IsDeletableOn views last.directory last.name entry)
+        (deletes_so : (asked : Asked) → IsDeletionOn last.directory entry asked views → ChangesVolume last.directory
+        asked (file_answer result) (drives.deleting_calls entry.descriptor) mid.disks views new.disks now) where
       abbrev wanted : Asked
       wanted = asked user execute last look seen asker files old mid before between views who loc called entry.descriptor ends shared shared_is quiet
 
@@ -356,7 +358,7 @@ module _ (user : ℕ) (execute : Bool) (last : LastLocated) (look : Step NamedBy
       changed : HasChanged wanted (file_answer result) last.directory.drive volume folder files new before now
       changed = again.changed-again files last.directory volume folder volume-there file-there mid new before views
           now read wanted (file_answer result) (drives.deleting_calls entry.descriptor) new_io new_directories
-          deleting-it
+          new_records deleting-it
 
       -- the calls for the deletion besides
       abbrev freeing : ℕ

@@ -1,5 +1,5 @@
 -- How a call ends that looked for a file, is done, and changes no volume.
-use Rattle.std.proofs.Common.{◌≡◌, ◌∙◌, ℕ, None, List, ap, sym, subst}
+use Rattle.std.proofs.Common.{◌≡◌, ◌∙◌, ℕ, None, List, ap, sym, subst, inl}
 use Rattle.os9_base.specs.declared.call.CallEnd.{CallEnd}
 use Rattle.os9_base.specs.declared.call.CallEnd.TheVariants.{Done}
 use Rattle.os9_base.specs.declared.registers.Regs.{Regs}
@@ -10,7 +10,7 @@ use Rattle.io_rules.specs.Step.{answers}
 use Rattle.proc_state.specs.Tie.{Represents}
 use Rattle.proc_state.specs.declared.state.ProcState.{ProcState}
 use Rattle.file_drives.specs.Drives.{DriveView, drive_states}
-use Rattle.file_rules.specs.Attempts.{asker_of, files_after}
+use Rattle.file_rules.specs.Attempts.{asker_of, files_kept}
 use Rattle.file_rules.specs.Files.{Files}
 use Rattle.file_rules.specs.Step.{Deed, FileStep, Step, deed_of, done, leaves, leaves_so, with_drives_after}
 use Rattle.file_state.proofs.CountLemmas.{called-more}
@@ -34,7 +34,7 @@ module _ {A R : Type 0} (fact : A → R → Type 0) (look : Step A) (next : A �
 
   pub ends-found : (step : FileStep) (regs : Regs) (files : Files) (final : FileState) (end : CallEnd)
       (processes : ProcState) → step ≡ whole → next loc.it ≡ done regs files → StandsFor final views
-      (files_after p (with_drives_after (leaves (answers regs) files) (drive_states views))) → end ≡ Done
+      (files_kept p (with_drives_after (leaves (answers regs) files) (drive_states views))) → end ≡ Done
       → Represents processes (with_regs_of m p regs) → Ends step most m was now p end processes final before views
       terms
   ends-found step regs files final end processes parts goes stands end_is tied =
@@ -45,7 +45,7 @@ module _ {A R : Type 0} (fact : A → R → Type 0) (look : Step A) (next : A �
         effect = with_drives_after (leaves (answers regs) files) (drive_states views);
         does = goes-well whole (asker_of m p now) was (leaves (answers regs) files) (drive_states views) terms deed loc.read.moved;
         comes = (end_is, tied);
-        stands = stands;
+        stands = inl stands;
         calls = called-more (calls_of look most) (calls_of whole most) before views (calls-next look next most) loc.calls;
         drives = subst (λ (end : CallEnd). KeepsDrives whole (asker_of m p now) was end before views) (sym end_is)
             (keeps-read whole (asker_of m p now) was Done loc.drive before views (reaches-next look next loc.drive before views loc.reached) may None mid loc.read);

@@ -10,7 +10,7 @@ use Rattle.os9_base.specs.declared.errors.TheConstants.{E_FNA}
 use Rattle.file_rules.specs.ChgDir.{may_go_to}
 use Rattle.file_rules.specs.Files.{Asker, Files, volume_at}
 use Rattle.file_rules.specs.Step.{Step, refused, comes, drive_of, refuses}
-use Rattle.file_rules.specs.declared.places.FilePlace.{FilePlace}
+use Rattle.lock_model.specs.declared.place.FilePlace.{FilePlace}
 use Rattle.file_drives.specs.Drives.{DriveView}
 use Rattle.file_drives.specs.Mounted.{OnDisks, ReadsFile}
 use Rattle.file_state.proofs.CountLemmas.{called-more, called-then}
@@ -66,7 +66,8 @@ unfound look next few most number files new before now more it = by it.answer it
 
 module _ (look : Step FoundBy) (seen : ℕ) (files : Files) (located : Located) (mid new : FileState)
     (before views now : List DriveView) (loc : HasFound (IsLocated look files) look seen located files mid before
-    views) (io : new.io ≡ mid.io) (directories : new.directories ≡ mid.directories) where
+    views) (io : new.io ≡ mid.io) (directories : new.directories ≡ mid.directories)
+    (records : new.records ≡ mid.records) where
   volume-is : volume_at files located.place.drive ≡ Some loc.it.found.volume
   volume-is = ap (λ (at : FilePlace). volume_at files at.drive) (sym loc.is.place_is) ∙ loc.is.there.volume_is
 
@@ -89,7 +90,7 @@ module _ (look : Step FoundBy) (seen : ℕ) (files : Files) (located : Located) 
 
     module _ (fault : Option ℕ) (reads : ReadsFile located.place fault (λ v file. 1) mid.disks views new.disks now) where
       read-again : HasRead fault located.place.drive files new before now
-      read-again = again.read-again files located.place loc.it.found.volume loc.it.found.file volume-is file-is mid new before views now was-read fault (λ v file. 1) io directories reads
+      read-again = again.read-again files located.place loc.it.found.volume loc.it.found.file volume-is file-is mid new before views now was-read fault (λ v file. 1) io directories records reads
 
       called : CalledAtMost (calls_of (next_step look next) most) before now
       called =
@@ -161,33 +162,33 @@ pub of-found : (look : Step FoundBy) (seen : ℕ) (files : Files) (located : Loc
     (before views : List DriveView) (loc : HasFound (IsLocated look files) look seen located files mid before views)
     (fact : DiskVolume → DiskFile → Type 0) → OnDisks mid.disks views located.place fact → fact loc.it.found.volume
     loc.it.found.file
-of-found look seen files located mid before views loc = of-this look seen files located mid mid before views views loc refl refl
+of-found look seen files located mid before views loc = of-this look seen files located mid mid before views views loc refl refl refl
 
 -- what the test of a directory says of it
 module _ (look : Step FoundBy) (seen : ℕ) (files : Files) (located : Located) (mid new : FileState)
     (before views now : List DriveView) (loc : HasFound (IsLocated look files) look seen located files mid before
-    views) (io : new.io ≡ mid.io) (directories : new.directories ≡ mid.directories) (asker : Asker) (most : ℕ)
-    (enough : seen + 1 ≤ most) (reads : ReadsFile located.place None (λ v file. 1) mid.disks views new.disks now)
-  where
-    by-test : (allowed : Bool) → may_go_to loc.it.found.file asker.user asker.caller.regs.a ≡ allowed
-        → Locates (next_step look (allows_to_go asker)) most (if allowed then Ok located else Err E_FNA) files new
-        before now
-    by-test true is =
-        still-located look seen files located mid new before views now loc io directories (allows_to_go asker) most enough reads
-        (ap (λ (b : Bool). refuses (not b) E_FNA (comes loc.it)) is)
-    by-test false is =
-        not-wanted look seen files located mid new before views now loc io directories (allows_to_go asker) most enough E_FNA reads
-        (ap (λ (b : Bool). refuses (not b) E_FNA (comes loc.it)) is)
+    views) (io : new.io ≡ mid.io) (directories : new.directories ≡ mid.directories)
+    (records : new.records ≡ mid.records) (asker : Asker) (most : ℕ) (enough : seen + 1 ≤ most)
+    (reads : ReadsFile located.place None (λ v file. 1) mid.disks views new.disks now) where
+  by-test : (allowed : Bool) → may_go_to loc.it.found.file asker.user asker.caller.regs.a ≡ allowed
+      → Locates (next_step look (allows_to_go asker)) most (if allowed then Ok located else Err E_FNA) files new
+      before now
+  by-test true is =
+      still-located look seen files located mid new before views now loc io directories records (allows_to_go asker) most enough reads
+      (ap (λ (b : Bool). refuses (not b) E_FNA (comes loc.it)) is)
+  by-test false is =
+      not-wanted look seen files located mid new before views now loc io directories records (allows_to_go asker) most enough E_FNA reads
+      (ap (λ (b : Bool). refuses (not b) E_FNA (comes loc.it)) is)
 
-    pub tested : (user mode : ℕ) (result : Result Located ℕ) → asker.user ≡ user → asker.caller.regs.a ≡ mode
-        → result ≡ (if may_go_to loc.it.found.file user mode then Ok located else Err E_FNA)
-        → Locates (next_step look (allows_to_go asker)) most result files new before now
-    tested user mode result user_is mode_is is =
-        subst (λ (r : Result Located ℕ). Locates (next_step look (allows_to_go asker)) most r files new before now)
-        (ap (λ (n : ℕ). let r : Result Located ℕ = if may_go_to loc.it.found.file n asker.caller.regs.a then Ok located else Err E_FNA in r) user_is
-        ∙ ap (λ (n : ℕ). let r : Result Located ℕ = if may_go_to loc.it.found.file user n then Ok located else Err E_FNA in r) mode_is
-        ∙ sym is)
-        (by-test (may_go_to loc.it.found.file asker.user asker.caller.regs.a) refl)
+  pub tested : (user mode : ℕ) (result : Result Located ℕ) → asker.user ≡ user → asker.caller.regs.a ≡ mode
+      → result ≡ (if may_go_to loc.it.found.file user mode then Ok located else Err E_FNA)
+      → Locates (next_step look (allows_to_go asker)) most result files new before now
+  tested user mode result user_is mode_is is =
+      subst (λ (r : Result Located ℕ). Locates (next_step look (allows_to_go asker)) most r files new before now)
+      (ap (λ (n : ℕ). let r : Result Located ℕ = if may_go_to loc.it.found.file n asker.caller.regs.a then Ok located else Err E_FNA in r) user_is
+      ∙ ap (λ (n : ℕ). let r : Result Located ℕ = if may_go_to loc.it.found.file user n then Ok located else Err E_FNA in r) mode_is
+      ∙ sym is)
+      (by-test (may_go_to loc.it.found.file asker.user asker.caller.regs.a) refl)
 
 -- one step, said in two ways
 pub locates-same : (one two : Step FoundBy) (few most : ℕ) (result : Result Located ℕ) (files : Files)

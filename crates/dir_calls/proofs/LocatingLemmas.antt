@@ -11,7 +11,7 @@ use Rattle.rbf_walk.specs.declared.error.DirError.{DirError}
 use Rattle.file_rules.specs.Files.{Asker, DriveState, Files, volume_at}
 use Rattle.file_rules.specs.Step.{Step, refused, comes, reaches}
 use Rattle.file_rules.specs.Way.{Way, along, to_device, nowhere, list_of, reads_list, walks, way_of}
-use Rattle.file_rules.specs.declared.places.FilePlace.{FilePlace}
+use Rattle.lock_model.specs.declared.place.FilePlace.{FilePlace}
 use Rattle.file_drives.specs.Drives.{DriveView, drive_state}
 use Rattle.file_drives.specs.Mounted.{ArrivesOn, HasFileAt}
 use Rattle.device_paths.specs.Standing.{NamesFrom}
@@ -70,9 +70,9 @@ module _ (asker : Asker) (files : Files) (terms : ℕ) (execute : Bool) (refusal
 module _ (asker : Asker) (walker : Walker) (files : Files) (list : PathList) (from : FilePlace)
     (state new : FileState) (views now : List DriveView) (user : asker.user ≡ walker.user)
     (stands : StandsFor state views files) (has : HasFileAt state.disks views from) (io : new.io ≡ state.io)
-    (directories : new.directories ≡ state.directories) (most : ℕ) (enough : (v : DiskVolume)
-    → volume_at files from.drive ≡ Some v → walk_calls v.files walker.user walker.execute from.number list.names ≤
-    most) where
+    (directories : new.directories ≡ state.directories) (records : new.records ≡ state.records) (most : ℕ)
+    (enough : (v : DiskVolume) → volume_at files from.drive ≡ Some v → walk_calls v.files walker.user walker.execute
+    from.number list.names ≤ most) where
   abbrev step : Step FoundBy
   step = walks asker files walker.execute from list.names (λ found. comes (found_by list found))
 
@@ -81,7 +81,7 @@ module _ (asker : Asker) (walker : Walker) (files : Files) (list : PathList) (fr
       now
   walk-located (Ok place) next next_is it =
       walk-found (IsLocated step files) (found_by list) asker walker files from list.names state new views now user
-      stands has io directories most enough place (record { place = place; next = next }) it
+      stands has io directories records most enough place (record { place = place; next = next }) it
       (λ found. record {
         place_is = found.place_is;
         next_is = next_is;
@@ -89,7 +89,7 @@ module _ (asker : Asker) (walker : Walker) (files : Files) (list : PathList) (fr
         reached = reached-there asker walker files from list.names user (λ found. comes (found_by list found)) place found;
       })
   walk-located (Err error) next next_is it =
-      walk-lost (IsLocated step files) (found_by list) asker walker files from list.names state new views now user stands has io directories most enough error it
+      walk-lost (IsLocated step files) (found_by list) asker walker files from list.names state new views now user stands has io directories records most enough error it
 
 -- ---- the query
 
@@ -145,17 +145,18 @@ module _ (asker : Asker) (files : Files) (terms : ℕ) (execute : Bool) (refusal
 
     pub along-located : (walker : Walker) (state new : FileState) (views now : List DriveView)
         → walker.execute ≡ execute → asker.user ≡ walker.user → StandsFor state views files → HasFileAt state.disks
-        views from → new.io ≡ state.io → new.directories ≡ state.directories → (arrived : Result FilePlace DirError)
-        (result : Result Located ℕ) → result ≡ located_by arrived route.next → Walks walker from it.list.names arrived
-        state.disks views new.disks now → Locates (locates execute refusal asker files terms)
-        (located_calls execute (λ v file. 0) asker files terms) result files new views now
-    along-located walker state new views now searches user stands has io directories arrived result result_is walk =
+        views from → new.io ≡ state.io → new.directories ≡ state.directories → new.records ≡ state.records
+        → (arrived : Result FilePlace DirError) (result : Result Located ℕ) → result ≡ located_by arrived route.next
+        → Walks walker from it.list.names arrived state.disks views new.disks now
+        → Locates (locates execute refusal asker files terms) (located_calls execute (λ v file. 0) asker files terms)
+        result files new views now
+    along-located walker state new views now searches user stands has io directories records arrived result result_is walk =
         subst (λ (step : Step FoundBy). Locates step (located_calls execute (λ v file. 0) asker files terms) result files new views now)
         (ap (λ (e : Bool). walks asker files e from it.list.names (λ found. comes (found_by it.list found))) searches ∙ sym locates-along)
         (subst (λ (r : Result Located ℕ). Locates (walks asker files walker.execute from it.list.names
         (λ found. comes (found_by it.list found))) (located_calls execute (λ v file. 0) asker files terms) r files
         new views now) (sym result_is)
-        (walk-located asker walker files it.list from state new views now user stands has io directories
+        (walk-located asker walker files it.list from state new views now user stands has io directories records
         (located_calls execute (λ v file. 0) asker files terms) (calls-enough walker searches user) arrived
         route.next it.route_is.next_is walk))
 

@@ -12,7 +12,7 @@ use Rattle.file_rules.specs.Files.{Asker, Files, directory_of, volume_at}
 use Rattle.file_rules.specs.MakDir.{i_makdir, makes_in, makes_on_way}
 use Rattle.file_rules.specs.Step.{comes, needs}
 use Rattle.file_rules.specs.Way.{Way, along, to_device, nowhere, before_last, is_root, last_of, list_of, reads_list, walks, way_by, way_from, way_of, way_of_device, way_on_drive, way_to_new}
-use Rattle.file_rules.specs.declared.places.FilePlace.{FilePlace}
+use Rattle.lock_model.specs.declared.place.FilePlace.{FilePlace}
 use Rattle.file_routes.specs.Ways.{next_step, refuses_by}
 use Rattle.file_routes.specs.declared.way.Purpose.TheVariants.{New}
 use Rattle.dir_calls.proofs.LookLemmas.{walks-on}

@@ -23,7 +23,7 @@ use Rattle.file_rules.specs.Create.{clusters_for}
 use Rattle.file_rules.specs.Files.{Asker, Files, volume_at}
 use Rattle.file_rules.specs.MakDir.{new_directory_size, past_list}
 use Rattle.file_rules.specs.Step.{FileStep, Step, VolumeChange, comes, changes, deed_of, drive_of, leaves, leaves_so, refuses, refuses_so}
-use Rattle.file_rules.specs.declared.places.FilePlace.{FilePlace}
+use Rattle.lock_model.specs.declared.place.FilePlace.{FilePlace}
 use Rattle.io_rules.specs.Step.{answers}
 use Rattle.file_drives.specs.Calls as drives
 use Rattle.file_drives.specs.Changed.{Asked, ChangesVolume, is_refused}
@@ -280,9 +280,10 @@ module _ (making : Making) (last : LastLocated) (look : Step NamedBy) (seen : �
     (old mid : FileState) (before between views : List DriveView) (who : Makes making asker)
     (loc : HasFound (IsNamed New look files) look seen last files old before between)
     (found : Result NewPlace DirError) (io : mid.io ≡ old.io) (directories : mid.directories ≡ old.directories)
-    (answer : OnDisks old.disks between last.directory (λ v file. AnswersPlace file last.name making.user false
-    (place_found found))) (reads : ReadsFile last.directory (directory_fault found) (λ v file. place_calls file
-    last.name making.user false) old.disks between mid.disks views) where
+    (records : mid.records ≡ old.records) (answer : OnDisks old.disks between last.directory
+    (λ v file. AnswersPlace file last.name making.user false (place_found found))) (reads : ReadsFile last.directory
+    (directory_fault found) (λ v file. place_calls file last.name making.user false) old.disks between mid.disks
+    views) where
   abbrev way : FileStep
   way = next_step look (makes_it asker files)
 
@@ -328,7 +329,8 @@ module _ (making : Making) (last : LastLocated) (look : Step NamedBy) (seen : �
 
   was-read : HasRead (directory_fault found) last.directory.drive files mid before views
   was-read = again.read-again files last.directory volume folder volume-there file-there old mid before between views
-      searched (directory_fault found) (λ v file. place_calls file last.name making.user false) io directories reads
+      searched (directory_fault found) (λ v file. place_calls file last.name making.user false) io directories records
+      reads
 
   -- no place was found
   pub place-refused : (error : DirError) (number : ℕ) → found ≡ Err error → number ≡ directory_error error → Tries way bound asker files (Err number) mid before views
@@ -342,7 +344,7 @@ module _ (making : Making) (last : LastLocated) (look : Step NamedBy) (seen : �
 
   module _ (place : NewPlace) (is : found ≡ Ok place) (user_is : place.user ≡ making.user) (new : FileState)
       (now : List DriveView) (new_io : new.io ≡ mid.io) (new_directories : new.directories ≡ mid.directories)
-      (result : Result ℕ FileFault) (makes : ChangesVolume last.directory
+      (new_records : new.records ≡ mid.records) (result : Result ℕ FileFault) (makes : ChangesVolume last.directory
       (record {
         change = makes_directory last.directory.number last.name making.attributes;
         user = place.user;
@@ -362,7 +364,7 @@ module _ (making : Making) (last : LastLocated) (look : Step NamedBy) (seen : �
 
     changed : HasChanged wanted (widened result) last.directory.drive volume folder files new before now
     changed = again.changed-again files last.directory volume folder volume-there file-there mid new before views now
-        read wanted (widened result) (drives.making_calls (widened result)) new_io new_directories makes
+        read wanted (widened result) (drives.making_calls (widened result)) new_io new_directories new_records makes
 
     -- the calls for the new directory besides
     abbrev making-it : ℕ

@@ -14,7 +14,7 @@ use Rattle.rbf_walk.specs.declared.error.DirError.{DirError}
 use Rattle.file_rules.specs.Files.{Asker, Files, volume_at}
 use Rattle.file_rules.specs.Step.{Step, refused, comes}
 use Rattle.file_rules.specs.Way.{Way, along, nowhere, before_last, is_root, last_of, walks, way_of}
-use Rattle.file_rules.specs.declared.places.FilePlace.{FilePlace}
+use Rattle.lock_model.specs.declared.place.FilePlace.{FilePlace}
 use Rattle.file_drives.specs.Drives.{DriveView}
 use Rattle.file_drives.specs.Mounted.{ArrivesOn, HasFileAt}
 use Rattle.device_paths.specs.Standing.{NamesFrom, NamesStand, name_list}
@@ -82,9 +82,9 @@ proper-name New asker files terms execute list from names name is last made =
 module _ (purpose : Purpose) (asker : Asker) (walker : Walker) (files : Files) (list : PathList) (from : FilePlace)
     (state new : FileState) (views now : List DriveView) (user : asker.user ≡ walker.user)
     (stands : StandsFor state views files) (has : HasFileAt state.disks views from) (io : new.io ≡ state.io)
-    (directories : new.directories ≡ state.directories) (most : ℕ) (enough : (v : DiskVolume)
-    → volume_at files from.drive ≡ Some v → walk_calls v.files walker.user walker.execute from.number
-    (before_last list.names) ≤ most) where
+    (directories : new.directories ≡ state.directories) (records : new.records ≡ state.records) (most : ℕ)
+    (enough : (v : DiskVolume) → volume_at files from.drive ≡ Some v → walk_calls v.files walker.user walker.execute
+    from.number (before_last list.names) ≤ most) where
   abbrev step : Step NamedBy
   step = names_on purpose asker files walker.execute list (along from list.names) (last_of list.names)
 
@@ -97,8 +97,8 @@ module _ (purpose : Purpose) (asker : Asker) (walker : Walker) (files : Files) (
         (step-of name) most (last_by reached next) files new views now
     last-located name last (Ok at) it =
         walk-found (IsNamed purpose (step-of name) files) (named_by list name) asker walker files from
-        (before_last list.names) state new views now user stands has io directories most enough at.directory
-        (record { directory = at.directory; name = at.name; next = next }) it.walks
+        (before_last list.names) state new views now user stands has io directories records most enough
+        at.directory (record { directory = at.directory; name = at.name; next = next }) it.walks
         (λ found. record {
           place_is = found.place_is;
           name_is = let same : Some name ≡ Some at.name = sym last ∙ it.name in cc;
@@ -109,7 +109,8 @@ module _ (purpose : Purpose) (asker : Asker) (walker : Walker) (files : Files) (
         })
     last-located name last (Err error) it =
         walk-lost (IsNamed purpose (step-of name) files) (named_by list name) asker walker files from
-        (before_last list.names) state new views now user stands has io directories most enough error it.walks
+        (before_last list.names) state new views now user stands has io directories records most enough error
+        it.walks
 
 -- of a list without names no drive is called
 pub unnamed-there : (purpose : Purpose) (asker : Asker) (files : Files) (execute : Bool) (whole : Step NamedBy)
@@ -208,20 +209,20 @@ module _ (purpose : Purpose) (asker : Asker) (files : Files) (terms : ℕ) (exec
     -- by its last name
     pub along-named : (walker : Walker) (state new : FileState) (views now : List DriveView)
         → walker.execute ≡ execute → asker.user ≡ walker.user → StandsFor state views files → HasFileAt state.disks
-        views from → new.io ≡ state.io → new.directories ≡ state.directories → (name : List ℕ) → last_of it.list.names
-        ≡ Some name → (reached : Result LastName DirError) (result : Result LastLocated ℕ) → result ≡ last_by reached
-        route.next → WalksToLast walker from it.list.names reached state.disks views new.disks now
-        → LocatesLast purpose whole most result files new views now
-    along-named walker state new views now searches user stands has io directories name last reached result result_is walk =
+        views from → new.io ≡ state.io → new.directories ≡ state.directories → new.records ≡ state.records
+        → (name : List ℕ) → last_of it.list.names ≡ Some name → (reached : Result LastName DirError)
+        (result : Result LastLocated ℕ) → result ≡ last_by reached route.next → WalksToLast walker from it.list.names
+        reached state.disks views new.disks now → LocatesLast purpose whole most result files new views now
+    along-named walker state new views now searches user stands has io directories records name last reached result result_is walk =
         subst (λ (step : Step NamedBy). LocatesLast purpose step most result files new views now)
         (ap (λ (e : Bool). walks asker files e from (before_last it.list.names) (λ directory. comes (named_by it.list name directory))) searches
         ∙ sym (names-along-way ∙ ap (names_on purpose asker files execute it.list (along from it.list.names)) last))
         (subst (λ (r : Result LastLocated ℕ). LocatesLast purpose (walks asker files walker.execute from
         (before_last it.list.names) (λ directory. comes (named_by it.list name directory))) most r files new views
         now) (sym result_is)
-        (last-located purpose asker walker files it.list from state new views now user stands has io directories most
-        (calls-enough name last walker searches user) proper route.next it.route_is.next_is name last reached
-        walk))
+        (last-located purpose asker walker files it.list from state new views now user stands has io directories
+        records most (calls-enough name last walker searches user) proper route.next it.route_is.next_is name last
+        reached walk))
 
 -- ---- some names
 

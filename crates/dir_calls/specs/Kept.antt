@@ -6,3 +6,4 @@ use Rattle.file_state.specs.declared.state.FileState.{FileState}
 pub record KeepsAllButDisks (before after : FileState) : Type 0 where
   pub io : after.io ≡ before.io  -- paths, terminals, pipes and pending calls
   pub directories : after.directories ≡ before.directories  -- of each process
+  pub records : after.records ≡ before.records  -- locks, requests and their history

@@ -5,7 +5,7 @@ use Rattle.io_rules.specs.PathList.{PathList}
 use Rattle.file_rules.specs.Files.{Asker, Files, volume_at}
 use Rattle.file_rules.specs.Step.{Step, refused, comes, drive_of}
 use Rattle.file_rules.specs.Way.{Way, along, to_device, nowhere, Found, list_of, reads_list, walks, way_of}
-use Rattle.file_rules.specs.declared.places.FilePlace.{FilePlace}
+use Rattle.lock_model.specs.declared.place.FilePlace.{FilePlace}
 use Rattle.file_drives.specs.Drives.{DriveView}
 use Rattle.file_state.specs.declared.state.FileState.{FileState}
 use Rattle.file_routes.specs.Ways.{refuses_by}

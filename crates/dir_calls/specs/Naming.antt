@@ -6,7 +6,7 @@ use Rattle.io_rules.specs.PathList.{PathList}
 use Rattle.file_rules.specs.Files.{Asker, Files}
 use Rattle.file_rules.specs.Step.{Step, refused, comes, drive_of}
 use Rattle.file_rules.specs.Way.{Way, along, to_device, nowhere, Found, before_last, last_of, list_of, reads_list, walks}
-use Rattle.file_rules.specs.declared.places.FilePlace.{FilePlace}
+use Rattle.lock_model.specs.declared.place.FilePlace.{FilePlace}
 use Rattle.file_drives.specs.Drives.{DriveView}
 use Rattle.file_state.specs.declared.state.FileState.{FileState}
 use Rattle.file_routes.specs.Ways.{refuses_by, way_for}

@@ -4,7 +4,7 @@ use Rattle.std.specs.Prelude.{MatchBool, MatchOption, option_map}
 use Rattle.std.proofs.lemmas.Option.{none-some}
 use Rattle.os9_base.specs.declared.registers.Pid.{Pid}
 use Rattle.call_rules.specs.Choice.{choice_of, after_choice}
-use Rattle.io_rules.specs.Waiting.{io_may_go}
+use Rattle.file_rules.specs.Locking.{files_may_go}
 use Rattle.event_rules.specs.Console.{console_bytes, terminals_emptied}
 use Rattle.event_rules.specs.declared.ends.EventEnd.{EventEnd}
 use Rattle.event_rules.specs.declared.ends.SliceEnd.{SliceEnd}
@@ -118,8 +118,8 @@ pub record Opened (n : ℕ) (slices : List ℕ) (t : State) (states : List State
 
 abbrev begun : State → State
 begun s = record s {
-  inner = after_choice (io_may_go s.files.io) s.inner;
-  chosen = option_map (λ (p : Pid). p.0) (choice_of (io_may_go s.files.io) s.inner).chosen;
+  inner = after_choice (files_may_go s.files s.inner.tick) s.inner;
+  chosen = option_map (λ (p : Pid). p.0) (choice_of (files_may_go s.files s.inner.tick) s.inner).chosen;
 }
 
 abbrev Begun : ℕ → State → Option ℕ → List State → SliceEnd → State → Type 0

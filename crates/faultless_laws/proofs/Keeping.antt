@@ -14,7 +14,7 @@ use Rattle.call_rules.specs.Ready.{Act, act_of, attempts, delivers, executes}
 use Rattle.call_rules.specs.declared.proc_call.ProcCall.TheVariants as Call
 use Rattle.file_rules.specs.Attempts.{asker_of, file_step, files_after}
 use Rattle.file_rules.specs.Files.{Asker, DriveState, Files, volume_at, with_drives, with_volume}
-use Rattle.file_rules.specs.Step.{Deed, DoesDeed, FileDoes, FileEffect, MayBeLeft, as_io, changes, deed_of, drive_of, leaves_so}
+use Rattle.file_rules.specs.Step.{Deed, DoesDeed, FileDoes, FileEffect, MayBeLeft, as_io, changes, deed_of, drive_of, leaves_so, on_files}
 use Rattle.file_rules.specs.declared.path_call.PathCall.{PathCall}
 use Rattle.file_laws.specs.Kinds.{AreKinds}
 use Rattle.file_laws.proofs.Kept.{volume-new, volume-other}
@@ -28,6 +28,7 @@ use Rattle.machine_model.specs.Run.{Choose, Tick}
 use Rattle.machine_model.specs.Services.{Serves, Service, files_after_call, files_after_fork, loads, no_call, on_paths, on_processes, on_time, service_of}
 use Rattle.machine_model.specs.State.{Rest, State}
 use Rattle.run_laws.specs.Mounted.{CanGo}
+use Rattle.run_laws.proofs.Keeping.{ends-volumes}
 use Rattle.faultless_laws.specs.InOrder.{AreInOrder, IsInOrder}
 use Rattle.faultless_laws.proofs.Ordered.{order-left, order-made}
 use Rattle.faultless_laws.proofs.Plain.{IsPlain, step-plain}
@@ -56,9 +57,9 @@ module _ (call : PathCall) (asker : Asker) (files : Files) (kinds : AreKinds fil
   deed-order : (reached : Option ℕ) (deed : Deed) (it : FileEffect) (drives : List DriveState) → Splits call asker files (length old) reached deed → IsPlain asker files deed
       → DoesDeed deed asker files it old new → AreInOrder (with_drives it.files drives)
   deed-order reached (leaves_so effect) it drives left plain (is, same) =
-      subst (λ (it : FileEffect). AreInOrder (with_drives it.files drives)) (sym is) (order-same files (with_drives effect.files drives) left.volumes order)
+      subst (λ (it : FileEffect). AreInOrder (with_drives it.files drives)) (sym is) (order-same files (with_drives effect.files drives) (ends-volumes call asker files (length old) effect left) order)
   deed-order reached (as_io step) it drives on plain (effect, does, is) =
-      subst (λ (it : FileEffect). AreInOrder (with_drives it.files drives)) (sym is) (order-same files (with_drives (record files { io = effect.io }) drives) refl order)
+      subst (λ (it : FileEffect). AreInOrder (with_drives it.files drives)) (sym is) (order-same files (with_drives (on_files asker.caller.process.0 files effect).files drives) refl order)
   deed-order reached (changes change) it drives answers plain (inl changed, same) =
       subst (λ (it : FileEffect). AreInOrder (with_drives it.files drives)) (sym changed.effect_is)
       (order-set files (with_drives (with_volume (change.effect changed.number).files change.drive changed.new) drives) change.drive changed.old changed.new changed.is

@@ -22,10 +22,10 @@ use Rattle.file_rules.specs.Create.{clusters_for, creates_in, creates_on_device,
 use Rattle.file_rules.specs.Files.{Asker, Files, NoneFailed, volume_at}
 use Rattle.file_rules.specs.MakDir.{makes_in, makes_on_way, new_directory_size, past_list}
 use Rattle.file_rules.specs.Open.{is_for_execution, says_directory, tests_mode}
-use Rattle.file_rules.specs.Step.{Deed, DoesDeed, FileDoes, FileEffect, FileStep, VolumeChange, changes, comes, deed_of, leaves, reaches, refused, refuses, refuses_so, with_drives_after, with_volume_after}
+use Rattle.file_rules.specs.Step.{Deed, DoesDeed, FileDoes, FileEffect, FileStep, VolumeChange, changes, comes, deed_of, leaves, on_files, reaches, refused, refuses, refuses_so, with_drives_after, with_volume_after}
 use Rattle.file_rules.specs.Way.{Found, Way, along, before_last, last_of, list_of, nowhere, to_device, walk_ends, walks, way_to_new}
 use Rattle.file_rules.specs.declared.path_call.PathCall.TheVariants as Call
-use Rattle.file_rules.specs.declared.places.FilePlace.{FilePlace}
+use Rattle.lock_model.specs.declared.place.FilePlace.{FilePlace}
 use Rattle.file_laws.specs.Kinds.{AreKinds}
 use Rattle.file_laws.proofs.Steps.{IsFound, needs-by, refuses-by}
 use Rattle.touch_laws.proofs.Splits.{list-by}
@@ -106,7 +106,7 @@ module _ (asker : Asker) (files : Files) (terms : List TerminalState) where
         (record { same = tt; pipes = λ pipes. tt; dup = tt; close = tt; on_terminal = λ terminal within. tt; on_pipe = λ pipe free. tt }) in
         let it = some-effect step asker.caller files.io terms (call-there Device.Create asker.caller files.io (length terms) step on gives) in
         record {
-          it = record { end = it.effect.end; at = it.effect.at; bytes = it.effect.bytes; files = record files { io = it.effect.io } };
+          it = on_files asker.caller.process.0 files it.effect;
           after = it.after;
           does = (it.effect, it.does, refl);
           counts = it.counts;

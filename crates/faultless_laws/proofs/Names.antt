@@ -18,7 +18,7 @@ use Rattle.rbf_model.specs.Volume.{DiskVolume}
 use Rattle.io_rules.specs.PathList.{Behind, Names, PathList, a_slash, another, behind, device_list, ends_in_dots, from_device, has_slash_behind_device, list_with, name_before, names_at, names_behind, names_from, names_with, nothing, path_list, relative_list, unreadable}
 use Rattle.file_rules.specs.Files.{Asker, Files, directory_of, volume_at}
 use Rattle.file_rules.specs.Way.{Way, along, is_root, last_of, list_of, nowhere, to_device, way_by, way_from, way_of, way_of_device, way_on_drive, way_to_new}
-use Rattle.file_rules.specs.declared.places.FilePlace.{FilePlace}
+use Rattle.lock_model.specs.declared.place.FilePlace.{FilePlace}
 
 -- ---- one name
 

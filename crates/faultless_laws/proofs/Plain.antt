@@ -1,8 +1,9 @@
 -- No call deletes a directory.
-use Rattle.std.proofs.Common.{◌≡◌, ℕ, ◌+◌, ◌%◌, ◌==◌, not, Bool, true, false, Option, Some, None, is_some, List, length, refl, sym, ap, ◌∙◌}
+use Rattle.std.proofs.Common.{◌≡◌, ℕ, ◌+◌, ◌%◌, ◌==◌, not, Bool, true, false, Option, Some, None, is_some, List, [], length, refl, sym, ap, ◌∙◌}
 use Rattle.std.specs.Prelude.{◌&&◌, if◌then◌else◌, nat_lt}
 use Rattle.std.proofs.lemmas.Bool.{and_parts, both_ways, not-true}
 use Rattle.std.proofs.lemmas.Option.{same_Some}
+use Rattle.os9_base.specs.declared.calls.TheConstants.{F_PERR, I_WRITE, I_WRITLN}
 use Rattle.os9_base.specs.declared.errors.TheConstants.{E_BMODE, E_BPADDR, E_BPNAM, E_CEF, E_FNA, E_FULL, E_MNF, E_PNNF, E_PTHFUL, E_SHARE, E_SLF, E_UNKSVC}
 use Rattle.os9_base.specs.declared.registers.Regs.{Regs}
 use Rattle.call_rules.specs.UserBytes.{user_bytes}
@@ -20,27 +21,31 @@ use Rattle.io_rules.specs.PathList.{PathList}
 use Rattle.io_rules.specs.Pipes.{count_regs}
 use Rattle.io_rules.specs.Status.{i_setstt as sets_of_device}
 use Rattle.io_rules.specs.Step.{IoStep, answers}
-use Rattle.io_rules.specs.Transfer.{line_at}
 use Rattle.io_rules.specs.Write.{error_line, f_perr as tells_device, i_write as writes_device, i_writln as writes_device_line}
 use Rattle.io_rules.specs.declared.modes.TheConstants.{STANDARD_ERROR}
 use Rattle.file_rules.specs.Attempts.{file_step}
 use Rattle.file_rules.specs.Change.{Change, creates, deletes, makes_directory, sets_attributes, sizes, writes}
 use Rattle.file_rules.specs.Create.{clusters_for, creates_in, creates_on_way, creates_with_path, has_room_for, opens_new}
 use Rattle.file_rules.specs.Delete.{deletes_by, deletes_file, deletes_in, deletes_named}
-use Rattle.file_rules.specs.Files.{Asker, Files, OpenFile, open_file, volume_at, with_position}
+use Rattle.file_rules.specs.Files.{Asker, Files, OpenFile, open_file, volume_at, with_position, with_records}
+use Rattle.file_rules.specs.Locking.{answer_to, asks_by, is_for_update, request_kept, request_now}
 use Rattle.file_rules.specs.MakDir.{makes_in, makes_on_way, new_directory_size, past_list}
 use Rattle.file_rules.specs.OnFile.{by_kind, on_file}
 use Rattle.file_rules.specs.Open.{is_for_execution, says_directory, tests_mode}
 use Rattle.file_rules.specs.Seek.{long_of}
 use Rattle.file_rules.specs.Sharing.{is_open}
-use Rattle.file_rules.specs.Status.{sets_attributes_of, sets_size}
+use Rattle.file_rules.specs.Status.{after_size, lock_claim, locks_bytes, locks_range, sets_attributes_of, sets_lock, sets_size, sets_ticks, size_claim, sizes_locked}
 use Rattle.file_rules.specs.Step.{Deed, FileStep, VolumeChange, as_io, changes, comes, deed_of, done, drive_of, leaves, leaves_so, needs, reaches, refused, refuses}
 use Rattle.file_rules.specs.Way.{Found, Way, along, before_last, last_of, list_of, nowhere, to_device, walk_ends, walks, way_of, way_to_new}
-use Rattle.file_rules.specs.Write.{changes_file, sends_bytes, writes_bytes}
+use Rattle.file_rules.specs.Write.{changes_file, line_moved, sends_bytes, write_claim, writes_bytes, writes_locked}
 use Rattle.file_rules.specs.declared.path_call.PathCall.{PathCall}
 use Rattle.file_rules.specs.declared.path_call.PathCall.TheVariants as Call
-use Rattle.file_rules.specs.declared.places.FilePlace.{FilePlace}
-use Rattle.file_rules.specs.declared.status.TheConstants.{SS_ATTR, SS_SIZE}
+use Rattle.lock_model.specs.Records.{holding, without_lock, written_by}
+use Rattle.lock_model.specs.declared.lock.Grant.{Grant}
+use Rattle.lock_model.specs.declared.lock.Grant.TheVariants.{Deadlock, Granted, Locked, Wait}
+use Rattle.lock_model.specs.declared.lock.Request.{Request}
+use Rattle.lock_model.specs.declared.place.FilePlace.{FilePlace}
+use Rattle.file_rules.specs.declared.status.TheConstants.{SS_ATTR, SS_LOCK, SS_SIZE, SS_TICKS}
 use Rattle.file_laws.proofs.Opening.{of-not}
 use Rattle.file_laws.proofs.Steps.{IsFound, list-by, needs-by, refuses-by}
 use Rattle.touch_laws.specs.Touch.{may_change_volume}
@@ -180,35 +185,74 @@ module _ (asker : Asker) (files : Files) where
       record { drive = opened.place.drive; change = change; effect = λ n. leaves (answers regs) after }
 
   change-plain : (opened : OpenFile) (change : Change) (size : ℕ) (regs : Regs) (after : Files) → ((v : DiskVolume) → DeletesNoDirectory change v)
-      → P (changes_file files opened change size regs after)
+      → P (changes_file opened change size regs after)
   change-plain opened change size regs after plain =
       refuses-by P no (nat_lt (free_total opened.volume) (clusters_needed (cluster_size opened.volume) opened.file.segments size)) E_FULL (comes (changes (changing opened change regs after)))
       (λ fits v is. plain v)
 
-  write-plain : (opened : OpenFile) (bytes : List ℕ) (regs : Regs) → P (writes_bytes files opened bytes regs)
-  write-plain opened bytes regs =
-      change-plain opened (writes opened.place.number opened.opened.desc.at bytes) (length (written opened.file.contents opened.opened.desc.at bytes)) regs
-      (with_position files opened.opened (opened.opened.desc.at + length bytes)) (λ v. tt)
+  -- a request: the call goes on, is refused or waits
+  asks-plain : (grant : Grant) (request : Request) (next : FileStep) → P next → P (asks_by grant files request next)
+  asks-plain Granted request next holds = holds
+  asks-plain Locked request next holds = tt
+  asks-plain Deadlock request next holds = tt
+  asks-plain Wait request next holds = tt
 
-  send-plain : (opened : OpenFile) (bytes : List ℕ) → P (sends_bytes asker files opened bytes)
-  send-plain opened bytes =
+  locked-plain : (opened : OpenFile) (request : Request) (bytes : List ℕ) (regs : Regs) → P (writes_locked asker files opened request bytes regs)
+  locked-plain opened request bytes regs =
+      asks-plain (answer_to asker files request) request
+      (changes_file opened (writes opened.place.number request.lock.range.start bytes) (length (written opened.file.contents request.lock.range.start bytes)) regs after)
+      (change-plain opened (writes opened.place.number request.lock.range.start bytes) (length (written opened.file.contents request.lock.range.start bytes)) regs after (λ v. tt))
+    where
+      after : Files
+      after =
+          with_position (with_records files (written_by files.records opened.opened.path.0 request.lock bytes)) opened.opened (request.lock.range.start + length bytes)
+
+  write-plain : (opened : OpenFile) (code : ℕ) (bytes : List ℕ) (regs : Regs) → P (writes_bytes asker files opened code bytes regs)
+  write-plain opened code bytes regs = locked-plain opened (request_now asker files opened (write_claim opened code (length bytes))) bytes regs
+
+  send-plain : (opened : OpenFile) (code : ℕ) (bytes : List ℕ) → P (sends_bytes asker files opened code bytes)
+  send-plain opened code bytes =
       refuses-by P no (not (can_write opened.opened.desc.mode)) E_BMODE
-      (if asker.caller.regs.y == 0 then done asker.caller.regs files else writes_bytes files opened bytes (count_regs asker.caller (length bytes)))
+      (if asker.caller.regs.y == 0 then done asker.caller.regs files else writes_bytes asker files opened code bytes (count_regs asker.caller (length bytes)))
       (λ allowed. by_none (asker.caller.regs.y == 0))
     where
-      by_none : (none : Bool) → P (if none then done asker.caller.regs files else writes_bytes files opened bytes (count_regs asker.caller (length bytes)))
+      by_none : (none : Bool) → P (if none then done asker.caller.regs files else writes_bytes asker files opened code bytes (count_regs asker.caller (length bytes)))
       by_none true = tt
-      by_none false = write-plain opened bytes (count_regs asker.caller (length bytes))
+      by_none false = write-plain opened code bytes (count_regs asker.caller (length bytes))
 
-  status-plain : (opened : OpenFile) (size attributes : Bool) → P (if size then sets_size asker files opened else (if attributes then sets_attributes_of asker files opened else refused E_UNKSVC))
-  status-plain opened true attributes =
+  size-plain : (opened : OpenFile) (size : ℕ) (request : Request) → P (sizes_locked asker files opened size request)
+  size-plain opened size request =
+      asks-plain (answer_to asker files request) request
+      (changes_file opened (sizes opened.place.number size) size asker.caller.regs (after_size files opened size request.lock))
+      (change-plain opened (sizes opened.place.number size) size asker.caller.regs (after_size files opened size request.lock) (λ v. tt))
+
+  lock-plain : (opened : OpenFile) (count : ℕ) (nothing : Bool)
+      → P (if nothing then done asker.caller.regs
+      (with_records files (without_lock files.records opened.opened.path.0)) else reaches opened.place.drive
+      (locks_range asker files opened (request_now asker files opened (lock_claim opened count))))
+  lock-plain opened count true = tt
+  lock-plain opened count false =
+      let request = request_now asker files opened (lock_claim opened count) in
+      asks-plain (answer_to asker files request) request
+      (done asker.caller.regs (with_records files (holding files.records opened.opened.path.0 request.lock []))) tt
+
+  status-plain : (opened : OpenFile) (size ticks lock attributes : Bool)
+      → P (if size then sets_size asker files opened else (if ticks then sets_ticks asker files opened else
+      (if lock then sets_lock asker files opened else (if attributes then sets_attributes_of asker files opened else
+      refused E_UNKSVC))))
+  status-plain opened true ticks lock attributes =
+      let size = long_of asker.caller.regs in
+      let request = request_now asker files opened (size_claim opened size) in
       refuses-by P no (not (can_write opened.opened.desc.mode)) E_BMODE
-      (changes_file files opened (sizes opened.place.number (long_of asker.caller.regs)) (long_of asker.caller.regs) asker.caller.regs files)
-      (λ allowed. change-plain opened (sizes opened.place.number (long_of asker.caller.regs)) (long_of asker.caller.regs) asker.caller.regs files (λ v. tt))
-  status-plain opened false true =
+      (reaches opened.place.drive (sizes_locked asker files opened size request)) (λ allowed. size-plain opened size request)
+  status-plain opened false true lock attributes = tt
+  status-plain opened false false true attributes =
+      refuses-by P no (not (is_for_update opened.opened.desc.mode)) E_BMODE (locks_bytes asker files opened (long_of asker.caller.regs))
+      (λ allowed. lock-plain opened (long_of asker.caller.regs) (long_of asker.caller.regs == 0))
+  status-plain opened false false false true =
       refuses-by P no (not (owns_file opened.file asker.user)) E_FNA (comes (changes (changing opened (sets_attributes opened.place.number (asker.caller.regs.x % 256)) asker.caller.regs files)))
       (λ owns v is. tt)
-  status-plain opened false false = tt
+  status-plain opened false false false false = tt
 
   -- ---- every call
 
@@ -237,22 +281,25 @@ module _ (asker : Asker) (files : Files) where
         delete-by terms (is_for_execution asker.caller.regs.a) (tests_mode (is_mode asker.caller.regs.a)) (mode-plain (is_mode asker.caller.regs.a))
     step-plain Call.Write =
         number-plain asker.caller.regs.a (writes_device asker.caller files.io)
-        (λ opened. needs (user_bytes asker.caller.cells asker.caller.regs.x asker.caller.regs.y) E_BPADDR (sends_bytes asker files opened))
-        (λ opened. needs-by P no (user_bytes asker.caller.cells asker.caller.regs.x asker.caller.regs.y) E_BPADDR (sends_bytes asker files opened) (λ bytes there. send-plain opened bytes))
+        (λ opened. needs (user_bytes asker.caller.cells asker.caller.regs.x asker.caller.regs.y) E_BPADDR (sends_bytes asker files opened I_WRITE))
+        (λ opened. needs-by P no (user_bytes asker.caller.cells asker.caller.regs.x asker.caller.regs.y) E_BPADDR
+        (sends_bytes asker files opened I_WRITE) (λ bytes there. send-plain opened I_WRITE bytes))
     step-plain Call.WritLn =
         number-plain asker.caller.regs.a (writes_device_line asker.caller files.io)
-        (λ opened. needs (line_at asker.caller.cells asker.caller.regs.x asker.caller.regs.y) E_BPADDR (sends_bytes asker files opened))
-        (λ opened. needs-by P no (line_at asker.caller.cells asker.caller.regs.x asker.caller.regs.y) E_BPADDR (sends_bytes asker files opened) (λ bytes there. send-plain opened bytes))
+        (λ opened. needs (line_moved asker (request_kept asker files)) E_BPADDR (sends_bytes asker files opened I_WRITLN))
+        (λ opened. needs-by P no (line_moved asker (request_kept asker files)) E_BPADDR (sends_bytes asker files opened I_WRITLN) (λ bytes there. send-plain opened I_WRITLN bytes))
     step-plain Call.SetStt =
         number-plain asker.caller.regs.a (sets_of_device asker.caller files.io)
         (λ opened. if asker.caller.regs.b == SS_SIZE then sets_size asker files opened
-        else (if asker.caller.regs.b == SS_ATTR then sets_attributes_of asker files opened else refused E_UNKSVC))
-        (λ opened. status-plain opened (asker.caller.regs.b == SS_SIZE) (asker.caller.regs.b == SS_ATTR))
+        else (if asker.caller.regs.b == SS_TICKS then sets_ticks asker files opened
+        else (if asker.caller.regs.b == SS_LOCK then sets_lock asker files opened
+        else (if asker.caller.regs.b == SS_ATTR then sets_attributes_of asker files opened else refused E_UNKSVC))))
+        (λ opened. status-plain opened (asker.caller.regs.b == SS_SIZE) (asker.caller.regs.b == SS_TICKS) (asker.caller.regs.b == SS_LOCK) (asker.caller.regs.b == SS_ATTR))
     step-plain Call.PErr =
         number-plain STANDARD_ERROR (tells_device asker.caller files.io)
-        (λ opened. refuses (not (can_write opened.opened.desc.mode)) E_BMODE (writes_bytes files opened (error_line asker.caller.regs.b) asker.caller.regs))
-        (λ opened. refuses-by P no (not (can_write opened.opened.desc.mode)) E_BMODE (writes_bytes files opened (error_line asker.caller.regs.b) asker.caller.regs)
-        (λ allowed. write-plain opened (error_line asker.caller.regs.b) asker.caller.regs))
+        (λ opened. refuses (not (can_write opened.opened.desc.mode)) E_BMODE (writes_bytes asker files opened F_PERR (error_line asker.caller.regs.b) asker.caller.regs))
+        (λ opened. refuses-by P no (not (can_write opened.opened.desc.mode)) E_BMODE (writes_bytes asker files opened F_PERR (error_line asker.caller.regs.b) asker.caller.regs)
+        (λ allowed. write-plain opened F_PERR (error_line asker.caller.regs.b) asker.caller.regs))
     step-plain Call.Dup = unchanging Call.Dup refl
     step-plain Call.Open = unchanging Call.Open refl
     step-plain Call.ChgDir = unchanging Call.ChgDir refl

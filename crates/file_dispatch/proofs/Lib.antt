@@ -1,3 +1,4 @@
+pub mod Closing
 pub mod Lifting
 pub mod OnCalls
 pub mod OnNumbers

@@ -1,11 +1,10 @@
 -- What an attempt of a call on terminals and pipes comes to, in the state of files.
-use Rattle.std.proofs.Common.{◌≡◌, ◌≢◌, ◌∙◌, ℕ, None, List, [], length, replicate, refl, sym, subst, arith}
+use Rattle.std.proofs.Common.{◌≡◌, ◌≢◌, ◌∙◌, ℕ, None, List, [], length, replicate, refl, sym, ap, subst, inl, inr, arith}
 use Rattle.os9_base.specs.declared.call.CallEnd.{CallEnd}
-use Rattle.os9_base.specs.declared.call.CallEnd.TheVariants.{Done, Error, Wait, Ended, NoMemory}
+use Rattle.os9_base.specs.declared.call.CallEnd.TheVariants.{NoMemory}
 use Rattle.os9_base.specs.declared.registers.TimePacket.{TimePacket}
 use Rattle.os9_outer.specs.TerminalState.{TerminalState}
 use Rattle.call_rules.specs.CallResult.{CallResult}
-use Rattle.call_rules.specs.CallResult as Result
 use Rattle.call_rules.specs.Inner.{Inner}
 use Rattle.io_rules.specs.Attempts.{Does, IoAttempts, caller_of, io_after, result_of, step_of}
 use Rattle.io_rules.specs.Io.{Io}
@@ -15,31 +14,27 @@ use Rattle.io_state.specs.Attempt.{Attempts as AttemptsOnDevice}
 use Rattle.proc_state.specs.Tie.{Comes}
 use Rattle.proc_state.specs.declared.state.ProcState.{ProcState}
 use Rattle.io_rules.specs.Memory.{WantsMemory}
-use Rattle.file_rules.specs.Attempts.{asker_of, file_step, files_after}
-use Rattle.file_rules.specs.Files.{Asker, Files}
+use Rattle.file_rules.specs.Attempts.{asker_of, file_step, files_after, files_kept}
+use Rattle.file_rules.specs.Files.{Asker, Files, with_io}
 use Rattle.file_rules.specs.Step.{Deed, FileEffect, as_io, deed_of, on_files}
 use Rattle.file_rules.specs.declared.path_call.PathCall.{PathCall}
 use Rattle.file_drives.specs.Drives.{DriveView}
 use Rattle.file_state.proofs.CountLemmas.{called-more, called-none}
-use Rattle.file_state.proofs.EndLemmas.{goes-as-io}
+use Rattle.file_state.proofs.EndLemmas.{goes-as-io, stands-settled}
 use Rattle.file_state.proofs.KeepLemmas.{MayKeepAll, keeps-same}
-use Rattle.file_state.proofs.StateLemmas.{stands-with_io}
+use Rattle.file_state.proofs.RequestLemmas.{not-memory}
+use Rattle.file_state.proofs.StateLemmas.{stands-with_io, stands-with_records}
 use Rattle.file_state.specs.Attempt.{Attempts, Standing}
 use Rattle.file_state.specs.Counted.{AttemptsIn, AttemptsWithin, calls_of}
+use Rattle.file_state.specs.Lacks.{AttemptsOrLacks, TriesWithin}
 use Rattle.file_state.specs.Tie.{IsSound, StandsFor}
 use Rattle.file_state.specs.declared.state.FileState.{FileState}
 use Rattle.dir_calls.proofs.SameLemmas.{some-machine}
 use Rattle.device_paths.specs.Quiet.{Ends, IsQuiet, effect_of}
+use Rattle.lock_model.specs.Records.{Records, with_waiting}
 use Rattle.file_rules.specs.Memory.{LacksMemory}
 use Rattle.file_dispatch.specs.Attempts.{IsOnDevice, Tries}
 use Rattle.file_dispatch.specs.Bounds.{attempt_calls}
-
--- an attempt comes to something else than want of memory
-pub not-memory : (m : Inner) (p : ℕ) (result : CallResult) (end : CallEnd) (processes : ProcState) → Comes m p result end processes → end ≢ NoMemory
-not-memory m p (Result.done after) end processes told is = let e : Done ≡ NoMemory = sym told.0 ∙ is in cc
-not-memory m p (Result.refused number) end processes told is = let e : Error number ≡ NoMemory = sym told.0 ∙ is in cc
-not-memory m p (Result.waits after) end processes told is = let e : Wait ≡ NoMemory = sym told.0 ∙ is in cc
-not-memory m p (Result.ends status) end processes told is = let e : Ended ≡ NoMemory = sym told.0 ∙ is in cc
 
 -- so many terminals
 abbrev pub unused_terminal : TerminalState
@@ -68,6 +63,24 @@ tries-of call m files now p end terms terms_after before after it = record {
   memory = λ is. absurd (not-memory m p it.attempts.result end after.processes it.attempts.comes is);
 }
 
+-- or for an entry in the history
+pub tries-or : (call : PathCall) (m : Inner) (files : Files) (now : TimePacket) (p : ℕ) (end : CallEnd)
+    (terms terms_after : List TerminalState) (before after : Standing)
+    → AttemptsOrLacks (attempt_calls call (asker_of m p now) files (length terms)) call m files now p end terms
+    terms_after before after → Tries call m files now p end terms terms_after before after
+tries-or call m files now p end terms terms_after before after it =
+    record { attempted = it.attempted; memory = λ is. inr (it.lacks is) }
+
+-- memory for an entry was not lacking if each attempt has a result
+pub within-tries : (most : Asker → Files → ℕ → ℕ) (call : PathCall) (now : TimePacket) (p : ℕ) (end : CallEnd)
+    (terms terms_after : List TerminalState) (before after : Standing) → AttemptsWithin most call now p end terms
+    terms_after before after → TriesWithin most call now p end terms terms_after before after
+within-tries most call now p end terms terms_after before after attempts m was tied stands kinds =
+    let it = attempts m was tied stands kinds in record {
+      attempted = λ differ. it;
+      lacks = λ is. absurd (not-memory m p it.attempts.result end after.processes it.attempts.comes is);
+    }
+
 module _ (call : PathCall) (m : Inner) (files : Files) (now : TimePacket) (p : ℕ) (end : CallEnd) (processes : ProcState) where
   -- no drive is called where the step is one of terminals and pipes
   pub uncalled-in : (most : ℕ) (step : IoStep) (old : ProcState) (state new : FileState) (views : List DriveView)
@@ -83,13 +96,15 @@ module _ (call : PathCall) (m : Inner) (files : Files) (now : TimePacket) (p : �
   }
 
   -- what a step of a call on terminals and pipes comes to
-  module _ (state : FileState) (io : Io) (views : List DriveView) (before after : List TerminalState) (stands : StandsFor state views files) where
+  module _ (state : FileState) (io : Io) (records : Records) (views : List DriveView)
+      (before after : List TerminalState) (stands : StandsFor state views files) (cancelled : records ≡ with_waiting
+      state.records p None) where
     pub lifts-step : (step : IoStep) (effect : IoEffect) → deed_of (file_step call (asker_of m p now) files
         (length before)) files ≡ as_io step → Does step (caller_of m p) files.io effect before after
         → Comes m p (result_of m p effect) end processes → io ≡ io_after p effect → Attempts call m files now p end
-        processes (record { io = io; disks = state.disks; directories = state.directories }) views before after
+        processes (record state { io = io; records = records }) views before after
     lifts-step step effect on does told io_is =
-        let lifted : FileEffect = on_files files effect in
+        let lifted : FileEffect = on_files p files effect in
         record {
           result = result_of m p effect;
           left = files_after p lifted;
@@ -100,14 +115,16 @@ module _ (call : PathCall) (m : Inner) (files : Files) (now : TimePacket) (p : �
             state = refl;
           };
           comes = told;
-          stands = stands-with_io state views files (io_after p effect) io (sym io_is) stands;
+          stands =
+              stands-settled m p effect effect.end end processes (record state { io = io; records = records }) views (files_kept p lifted) told
+              (inl (stands-with_records (record state { io = io }) views (with_io files (io_after p effect)) (with_waiting files.records p None) records
+              (ap (λ (records : Records). with_waiting records p None) stands.records ∙ sym cancelled)
+              (stands-with_io state views files (io_after p effect) io (sym io_is) stands)));
         }
 
     -- a call on terminals and pipes
     module _ (device : IoCall) (drives : ℕ) (on : IsOnDevice call device m files now p drives before) where
-      pub lifts : AttemptsOnDevice device m state.io drives p end processes io before after → Attempts call m files
-          now p end processes (record { io = io; disks = state.disks; directories = state.directories }) views before
-          after
+      pub lifts : AttemptsOnDevice device m state.io drives p end processes io before after → Attempts call m files now p end processes (record state { io = io; records = records }) views before after
       lifts attempts =
           let here : IoAttempts device m files.io drives p attempts.result io before after = subst
           (λ (old : Io). IoAttempts device m old drives p attempts.result io before after) (sym stands.io)
@@ -125,22 +142,12 @@ module _ (call : PathCall) (m : Inner) (files : Files) (now : TimePacket) (p : �
           processes io before after) → (end ≡ NoMemory → WantsMemory (step_of device m p state.io drives before)
           (caller_of m p) state.io before after) → Tries call m files now p end before after
           (record { processes = old; files = state; views = views })
-          (record {
-            processes = processes;
-            files = record {
-              io = io;
-              disks = state.disks;
-              directories =
-                  state.directories;
-            };
-            views = views;
-          })
+          (record { processes = processes; files = record state { io = io; records = records }; views = views })
       tries-on-device old attempts wants = record {
         attempted = λ differ. uncalled-in (attempt_calls call (asker_of m p now) files (length before))
-            (step_of device m p files.io drives before) old state
-            (record { io = io; disks = state.disks; directories = state.directories }) views before after on
-            (lifts (attempts differ));
-        memory = λ is. lacks (wants is);
+            (step_of device m p files.io drives before) old state (record state { io = io; records = records }) views
+            before after on (lifts (attempts differ));
+        memory = λ is. inl (record { lacks = lacks (wants is); views = refl });
       }
 
 -- ---- attempts that reach no terminal
@@ -152,13 +159,13 @@ does-quiet (reads read) caller io terms quiet = absurd quiet
 does-quiet (writes write) caller io terms quiet = absurd quiet
 
 pub lifts-quiet : (call : PathCall) (m : Inner) (files : Files) (now : TimePacket) (p : ℕ) (end : CallEnd)
-    (processes : ProcState) (state : FileState) (io : Io) (views : List DriveView) (terms : List TerminalState)
-    (step : Io → IoStep) → StandsFor state views files → deed_of (file_step call (asker_of m p now) files
-    (length terms)) files ≡ as_io (step files.io) → IsQuiet (step files.io) → Ends (step state.io) m state.io p end
-    processes io → Attempts call m files now p end processes
-    (record { io = io; disks = state.disks; directories = state.directories }) views terms terms
-lifts-quiet call m files now p end processes state io views terms step stands on quiet ends =
+    (processes : ProcState) (state : FileState) (io : Io) (records : Records) (views : List DriveView)
+    (terms : List TerminalState) (step : Io → IoStep) → StandsFor state views files → records ≡ with_waiting
+    state.records p None → deed_of (file_step call (asker_of m p now) files (length terms)) files ≡ as_io
+    (step files.io) → IsQuiet (step files.io) → Ends (step state.io) m state.io p end processes io
+    → Attempts call m files now p end processes (record state { io = io; records = records }) views terms terms
+lifts-quiet call m files now p end processes state io records views terms step stands cancelled on quiet ends =
     let here : Ends (step files.io) m files.io p end processes io = subst (λ (old : Io). Ends (step old) m old p end processes io) (sym stands.io) ends in
-    lifts-step call m files now p end processes state io views terms terms stands (step files.io)
+    lifts-step call m files now p end processes state io records views terms terms stands cancelled (step files.io)
     (effect_of (step files.io) files.io) on (does-quiet (step files.io) (caller_of m p) files.io terms quiet)
     here.0 here.1

@@ -13,6 +13,7 @@ use Rattle.file_rules.specs.declared.path_call.PathCall.{PathCall}
 use Rattle.file_drives.specs.Drives.{DriveView}
 use Rattle.file_state.specs.Attempt.{Standing}
 use Rattle.file_state.specs.Counted.{AttemptsWithin}
+use Rattle.file_state.specs.Lacks.{TriesWithin}
 use Rattle.file_state.specs.declared.state.FileState.{FileState}
 use Rattle.file_dispatch.specs.Attempts.{MayAttempt, TriesFrom}
 use Rattle.file_dispatch.specs.Bounds.{attempt_calls}
@@ -24,12 +25,12 @@ use Rattle.file_dispatch.specs.declared.lists.ListCall.TheVariants as Listed
 
 -- a call that takes a path list is at its first attempt
 pub list-first : (list : ListCall) (processes : ProcState) (state : FileState) (p terms : ℕ) → IsIo state.io → MayAttempt (list_call list) processes state p terms → kept_at state.io p ≡ None
-list-first Listed.Create processes state p terms sound may = is-first Device.Create (record_at processes.table p).regs state.io p refl sound may.again
-list-first Listed.Open processes state p terms sound may = is-first Device.Open (record_at processes.table p).regs state.io p refl sound may.again
-list-first Listed.MakDir processes state p terms sound may = may
-list-first Listed.ChgDir processes state p terms sound may = may
-list-first Listed.Delete processes state p terms sound may = may
-list-first Listed.DeletX processes state p terms sound may = may
+list-first Listed.Create processes state p terms sound may = is-first Device.Create (record_at processes.table p).regs state.io p refl (λ same. cc) sound may.attempt.again
+list-first Listed.Open processes state p terms sound may = is-first Device.Open (record_at processes.table p).regs state.io p refl (λ same. cc) sound may.attempt.again
+list-first Listed.MakDir processes state p terms sound may = may.attempt
+list-first Listed.ChgDir processes state p terms sound may = may.attempt
+list-first Listed.Delete processes state p terms sound may = may.attempt
+list-first Listed.DeletX processes state p terms sound may = may.attempt
 
 -- the call that a kind of call is
 pub call-is : (kind other : CallKind) (call : PathCall) → kind ≡ other → kind_call kind ≡ call → kind_call other ≡ call
@@ -44,12 +45,29 @@ time-for call other now time is known dated = known (sym (ap sets_date is) ∙ d
 
 -- an attempt of a call that sets a date is one at its time
 pub at-time : (call : PathCall) (now time : TimePacket) (p : ℕ) → sets_date call ≡ true → IsTimeFor call now time → (end : CallEnd) (terms terms_after : List TerminalState) (before after : Standing)
-    → AttemptsWithin (attempt_calls call) call now p end terms terms_after before after → AttemptsWithin (attempt_calls call) call time p end terms terms_after before after
+    → TriesWithin (attempt_calls call) call now p end terms terms_after before after → TriesWithin (attempt_calls call) call time p end terms terms_after before after
 at-time call now time p dated is end terms terms_after before after attempts =
+    subst (λ (t : TimePacket). TriesWithin (attempt_calls call) call t p end terms terms_after before after) (sym (is dated)) attempts
+
+pub at-time-within : (call : PathCall) (now time : TimePacket) (p : ℕ) → sets_date call ≡ true → IsTimeFor call now time
+    → (end : CallEnd) (terms terms_after : List TerminalState) (before after : Standing)
+    → AttemptsWithin (attempt_calls call) call now p end terms terms_after before after → AttemptsWithin (attempt_calls call) call time p end terms terms_after before after
+at-time-within call now time p dated is end terms terms_after before after attempts =
     subst (λ (t : TimePacket). AttemptsWithin (attempt_calls call) call t p end terms terms_after before after) (sym (is dated)) attempts
 
 -- what comes of a call is what comes of the one that it is
 module _ (call other : PathCall) (now : TimePacket) (p : ℕ) (is : other ≡ call) where
+  pub call-within : (end : CallEnd) (terms terms_after : List TerminalState) (old processes : ProcState)
+      (state new : FileState) (views later : List DriveView) → TriesWithin (attempt_calls other) other now p end terms
+      terms_after (record { processes = old; files = state; views = views })
+      (record { processes = processes; files = new; views = later }) → TriesWithin (attempt_calls call) call now p end
+      terms terms_after (record { processes = old; files = state; views = views })
+      (record { processes = processes; files = new; views = later })
+  call-within end terms terms_after old processes state new views later attempts =
+      subst (λ (c : PathCall). TriesWithin (attempt_calls c) c now p end terms terms_after
+      (record { processes = old; files = state; views = views })
+      (record { processes = processes; files = new; views = later })) is attempts
+
   pub call-attempts : (end : CallEnd) (terms terms_after : List TerminalState) (old processes : ProcState)
       (state new : FileState) (views later : List DriveView) → AttemptsWithin (attempt_calls other) other now p end
       terms terms_after (record { processes = old; files = state; views = views })

@@ -19,13 +19,13 @@ use Rattle.file_dispatch.specs.declared.path_use.PathUse.TheVariants as Use
 -- what a use of a path asks for
 pub may-use : (used : PathUse) (processes : ProcState) (state : FileState) (p terms : ℕ) → MayAttempt (call_of used)
     processes state p terms → MayAttemptOnDevice (device_of used) processes state.io p terms
-may-use Use.Read processes state p terms may = may
-may-use Use.ReadLn processes state p terms may = may
-may-use Use.Write processes state p terms may = may
-may-use Use.WritLn processes state p terms may = may
-may-use Use.GetStt processes state p terms may = may
-may-use Use.SetStt processes state p terms may = may
-may-use Use.PErr processes state p terms may = may
+may-use Use.Read processes state p terms may = may.attempt
+may-use Use.ReadLn processes state p terms may = may.attempt
+may-use Use.Write processes state p terms may = may.attempt
+may-use Use.WritLn processes state p terms may = may.attempt
+may-use Use.GetStt processes state p terms may = may.attempt
+may-use Use.SetStt processes state p terms may = may.attempt
+may-use Use.PErr processes state p terms may = may.attempt
 
 -- what comes of a call is what comes of the one that it is
 pub number-tries : (call other : NumberCall) (m : Inner) (files : Files) (now : TimePacket) (p : ℕ) → call ≡ other

@@ -1,31 +1,34 @@
--- Calls that use an open path: on a number that names no file they are those on terminals and pipes, and on one that
--- names a file no read of a terminal waits.
-use Rattle.std.proofs.Common.{◌≡◌, ℕ, Option, Some, None, IfSome, List, length, ◌∙◌, ap, refl, sym, subst}
+-- Calls that use an open path: on a number that names no file they are those on terminals and pipes, and none of them
+-- that sets a status waits there.
+use Rattle.std.proofs.Common.{◌≡◌, ◌⊎◌, ℕ, Bool, true, false, not, Option, Some, None, IfSome, IsSome, is_some, option_map, option_and_then, List, length, inl, inr, ◌∙◌, ap, refl, sym, subst}
+use Rattle.std.proofs.lemmas.Bool.{false≢true}
+use Rattle.std.proofs.lemmas.Option.{none-some, same_Some}
 use Rattle.os9_base.specs.declared.errors.TheConstants.{E_BPNUM}
 use Rattle.os9_base.specs.declared.registers.Regs.{Regs}
 use Rattle.os9_base.specs.declared.registers.TimePacket.{TimePacket}
 use Rattle.os9_outer.specs.TerminalState.{TerminalState}
 use Rattle.call_rules.specs.Inner.{Inner, regs_at}
-use Rattle.io_rules.specs.Again.{IsAgain, path_number}
+use Rattle.io_rules.specs.Again.{IsAgain, IsKept, path_number}
 use Rattle.io_rules.specs.Attempts.{caller_of}
 use Rattle.io_rules.specs.Io.{Io, OpenPath, kept_at, open_path}
 use Rattle.io_rules.specs.Step.{Caller, IoStep, needs, done as io_done}
+use Rattle.io_rules.specs.Codes.{direction_of, direction_of_call, io_call_of}
 use Rattle.io_rules.specs.declared.io_call.IoCall.{IoCall}
+use Rattle.io_rules.specs.declared.io_call.IoCall.TheVariants as Device
+use Rattle.io_model.specs.Path.{desc_of}
+use Rattle.io_model.specs.declared.path.Desc.{Desc}
+use Rattle.io_model.specs.declared.path.SysPath.{SysPath}
+use Rattle.io_model.specs.declared.path.Target.{Target}
 use Rattle.io_model.specs.declared.kept.Kept.{Kept}
-use Rattle.io_state.specs.Sound.{IsNoRead}
+use Rattle.io_state.specs.Files.{IsOnDisk}
+use Rattle.io_state.specs.Sound.{IsIo, SetsStatus}
+use Rattle.file_state.specs.Opened.{NamesNoFile}
 use Rattle.file_rules.specs.Attempts.{asker_of, file_step}
 use Rattle.file_rules.specs.Files.{Files, OpenFile, open_file}
 use Rattle.file_rules.specs.OnFile.{by_kind}
 use Rattle.file_rules.specs.Seek.{seeks_nothing}
 use Rattle.file_rules.specs.Step.{FileStep, as_io, deed_of}
 use Rattle.file_rules.specs.declared.path_call.PathCall.TheVariants as Call
-use Rattle.file_drives.specs.Drives.{DriveView}
-use Rattle.file_state.specs.Tie.{IsSound}
-use Rattle.file_state.specs.declared.state.FileState.{FileState}
-use Rattle.file_state.specs.declared.state.OpenFile.{OpenFile as KernelFile}
-use Rattle.file_io.proofs.AgainLemmas.{again-no_read}
-use Rattle.file_io.proofs.OpenedLemmas.{is-named}
-use Rattle.file_io.specs.Opened.{IsOpened, ReadsNoTerminal}
 use Rattle.device_paths.specs.Quiet.{IsQuiet}
 use Rattle.file_dispatch.specs.Attempts.{IsOnDevice}
 use Rattle.file_dispatch.specs.Uses.{call_of, device_of}
@@ -52,6 +55,11 @@ pub seeks-on-device : (m : Inner) (files : Files) (now : TimePacket) (p : ℕ) (
     files ≡ as_io (seeks_nothing (caller_of m p) files.io)
 seeks-on-device m files now p terms none = other-wise files _ _ _ none
 
+-- I$Close there
+pub closes-on-device : (m : Inner) (files : Files) (now : TimePacket) (p drives : ℕ) (terms : List TerminalState)
+    → open_file files p (regs_at m p).a ≡ None → IsOnDevice Call.Close Device.Close m files now p drives terms
+closes-on-device m files now p drives terms none = other-wise files _ _ _ none
+
 -- by the call that it is there
 pub on-device-as : (m : Inner) (files : Files) (now : TimePacket) (p drives : ℕ) (terms : List TerminalState)
     (call : PathUse) (device : IoCall) → device ≡ device_of call → open_file files p (path_number (device_of call)
@@ -66,16 +74,49 @@ quiet-seek caller io (Some opened) = tt
 pub seeks-quiet : (caller : Caller) (io : Io) → IsQuiet (seeks_nothing caller io)
 seeks-quiet caller io = quiet-seek caller io (open_path io caller.process.0 caller.regs.a)
 
--- what waits of a process is no read of a terminal, where the number of its call names a file
-pub no-read : (state : FileState) (views : List DriveView) (p : ℕ) (opened : KernelFile) (call : IoCall) (regs : Regs)
-    → IsSound state views → IsOpened state p (path_number call regs) opened → IsAgain call regs state.io p
-    → ReadsNoTerminal state.io p
-no-read state views p opened call regs sound is again =
-    again-no_read state.io p (path_number call regs) opened call regs again refl (is-named state views sound p (path_number call regs) opened is)
+-- what a test of the pending call says
+pub nothing-kept : (kept : Option Kept) (none : Bool) → is_some kept ≡ not none → none ≡ true → kept ≡ None
+nothing-kept None none is holds = refl
+nothing-kept (Some call) none is holds = absurd (let e : true ≡ false = is ∙ ap not holds in cc)
 
--- and nothing waits where nothing is kept
-pub none-reads : (io : Io) (p : ℕ) → kept_at io p ≡ None → ReadsNoTerminal io p
-none-reads io p none = subst (λ (o : Option Kept). IfSome o (IsNoRead io)) (sym none) tt
+pub something-kept : (kept : Option Kept) (none : Bool) → is_some kept ≡ not none → none ≡ false → kept ≡ None → ⊥
+something-kept kept none is fails nothing = let e : false ≡ true = sym (ap is_some nothing) ∙ is ∙ ap not fails in cc
+
+-- a call that sets a status waits on a file alone
+pub no-status : (io : Io) (p : ℕ) (regs : Regs) → IsIo io → IsAgain Device.SetStt regs io p → NamesNoFile io p regs.a → kept_at io p ≡ None
+no-status io p regs sound again none = by (kept_at io p) refl again
+  where
+    named : (desc : Option Desc) (path : SysPath) (target : Target) → option_map (λ (desc : Desc). desc.target) desc ≡
+        Some target → IfSome (option_map {U = OpenPath} (λ (desc : Desc). record { path = path; desc = desc }) desc)
+        (λ opened. IsOnDisk opened.desc.target → ⊥) → IsOnDisk target → ⊥
+    named None path target is none on = none-some target is
+    named (Some desc) path target is none on = none (subst IsOnDisk (sym (same_Some desc.target target is)) on)
+
+    waits : (kept : Kept) → IsKept Device.SetStt regs io p kept → IsSome (direction_of kept.code) ⊎ SetsStatus io.paths kept → ⊥
+    waits kept it (inl moves) =
+        let still : option_and_then direction_of_call (io_call_of kept.code) ≡ None = ap (option_and_then direction_of_call) it.code in
+        false≢true (ap is_some (sym still) ∙ moves)
+    waits kept it (inr sets) =
+        named (desc_of io.paths kept.path.0) kept.path sets.target sets.on
+        (subst (λ (slot : Option SysPath). IfSome (option_and_then (λ (path : SysPath). option_map {U = OpenPath}
+        (λ (desc : Desc). record { path = path; desc = desc }) (desc_of io.paths path.0)) slot)
+        (λ opened. IsOnDisk opened.desc.target → ⊥)) it.path none) sets.on_disk
+
+    by : (kept : Option Kept) → kept_at io p ≡ kept → IfSome kept (IsKept Device.SetStt regs io p) → kept ≡ None
+    by None is again = refl
+    by (Some kept) is again = absurd (waits kept again (sound.waits.calls p kept is).moves)
+
+pub status-first : (call : PathUse) (io : Io) (p n : ℕ) (regs : Regs) → call ≡ Use.SetStt → IsIo io
+    → IsAgain (device_of call) regs io p → n ≡ path_number (device_of call) regs → NamesNoFile io p n → kept_at io p ≡
+    None
+status-first call io p n regs same sound again number none =
+    no-status io p regs sound (subst (λ (call : PathUse). IsAgain (device_of call) regs io p) same again)
+    (subst (λ (k : ℕ). NamesNoFile io p k) (number ∙ ap (λ (call : PathUse). path_number (device_of call) regs) same) none)
+
+-- a test for a call that fails
+pub not-false : (same : Bool) → not same ≡ false → same ≡ true
+not-false true is = refl
+not-false false is = sym is
 
 -- the number that a call takes is that of its process on the machine
 pub none-named : (files : Files) (p : ℕ) (call : IoCall) (m : Inner) (regs : Regs) (n : ℕ) → n ≡ path_number call regs

@@ -1,6 +1,6 @@
 -- What attempts of the calls on paths, files and directories require, and what they do (System Programmer's Manual,
 -- "I/O service requests"; Level Two manual, "I/O system").
-use Rattle.std.specs.Prelude.{◌≡◌, ◌≢◌, ℕ, Option, Some, None, List, length}
+use Rattle.std.specs.Prelude.{◌≡◌, ◌≢◌, ◌⊎◌, ℕ, Option, Some, None, List, length}
 use Rattle.os9_base.specs.declared.call.CallEnd.{CallEnd}
 use Rattle.os9_base.specs.declared.call.CallEnd.TheVariants.{NoMemory}
 use Rattle.os9_base.specs.declared.registers.TimePacket.{TimePacket}
@@ -17,8 +17,10 @@ use Rattle.file_rules.specs.Files.{Files}
 use Rattle.file_rules.specs.Memory.{LacksMemory}
 use Rattle.file_rules.specs.Step.{as_io, deed_of}
 use Rattle.file_rules.specs.declared.path_call.PathCall.{PathCall}
+use Rattle.file_state.specs.Asking.{KeepsRequest}
 use Rattle.file_state.specs.Attempt.{OnEach, Standing}
-use Rattle.file_state.specs.Counted.{AttemptsIn, AttemptsWithin}
+use Rattle.file_state.specs.Counted.{AttemptsIn}
+use Rattle.file_state.specs.Lacks.{LacksItsEntry, TriesWithin}
 use Rattle.file_state.specs.Tie.{StandsFor}
 use Rattle.file_state.specs.declared.state.FileState.{FileState}
 use Rattle.touch_laws.specs.Devices.{device_call}
@@ -40,8 +42,17 @@ abbrev pub MayAttemptAs : Option IoCall → ProcState → Io → ℕ → ℕ →
 MayAttemptAs None processes io p terms = kept_at io p ≡ None
 MayAttemptAs (Some device) processes io p terms = MayAttemptOnDevice device processes io p terms
 
-abbrev pub MayAttempt : PathCall → ProcState → FileState → ℕ → ℕ → Type 0
-MayAttempt call processes state p terms = MayAttemptAs (device_call call) processes state.io p terms
+-- and if it waits in a request, that is one of its call
+pub record MayAttempt (call : PathCall) (processes : ProcState) (state : FileState) (p terms : ℕ) : Type 0 where
+  pub attempt : MayAttemptAs (device_call call) processes state.io p terms
+  pub kept : KeepsRequest state.io state.records.locks p
+
+-- memory was wanting for a byte that an attempt puts on a terminal: these are the terminals then, and no drive was
+-- called
+pub record LacksByte (call : PathCall) (m : Inner) (files : Files) (now : TimePacket) (p : ℕ)
+    (terms terms_after : List TerminalState) (before after : Standing) : Type 0 where
+  pub lacks : LacksMemory call m files now p terms terms_after
+  pub views : after.views ≡ before.views
 
 -- a process tries a call, at a time: its attempt ends with this end, and leaves these terminals and this state of the
 -- kernel; or memory is lacking
@@ -50,7 +61,9 @@ pub record Tries (call : PathCall) (m : Inner) (files : Files) (now : TimePacket
   pub attempted : end ≢ NoMemory
       → AttemptsIn (attempt_calls call (asker_of m p now) files (length terms)) call m files now p end terms terms_after
       before after
-  pub memory : end ≡ NoMemory → LacksMemory call m files now p terms terms_after
+  pub memory : end ≡ NoMemory → LacksByte call m files now p terms terms_after before after
+      ⊎ LacksItsEntry (attempt_calls call (asker_of m p now) files (length terms)) call m files now p end terms
+      terms_after before after
 
 -- ---- from any state that the kernel's state represents
 
@@ -66,11 +79,11 @@ abbrev pub TriesAt : PathCall → TimePacket → ℕ → CallEnd → List Termin
 TriesAt call now p end terms terms_after before after =
     (time : TimePacket) → IsTimeFor call now time → TriesFrom call time p end terms terms_after before after
 
--- a process attempts a call in each such state, at each right time, and leaves all terminals unchanged
-abbrev pub AttemptsAt : PathCall → TimePacket → ℕ → CallEnd → Standing → Standing → Type 0
-AttemptsAt call now p end before after =
+-- a process tries a call on a file in each such state, at each right time, and leaves all terminals unchanged
+abbrev pub TriesFileAt : PathCall → TimePacket → ℕ → CallEnd → Standing → Standing → Type 0
+TriesFileAt call now p end before after =
     (time : TimePacket) (terms : List TerminalState) → IsTimeFor call now time
-    → AttemptsWithin (attempt_calls call) call time p end terms terms before after
+    → TriesWithin (attempt_calls call) call time p end terms terms before after
 
 -- a process tries each call that is this device call, at any time, on a machine with this number of drives
 abbrev pub TriesOnDevice : IoCall → ℕ → ℕ → CallEnd → List TerminalState → List TerminalState → Standing → Standing

@@ -83,7 +83,7 @@ pub fn sets_date(call: PathCall) -> bool
 /// Programmer's Manual, "I/O service requests"). A call that sets no date is the same at any time.
 /// The result is not yet given to the process. If a call of the process is pending, this is a
 /// further attempt of it, with the registers that it was made with. `NoMemory` is returned only if
-/// a byte was to be put on a terminal; then no drive was called.
+/// there was no memory for a byte that is put on a terminal, or for an entry of the history.
 ///
 /// # Errors
 ///
@@ -105,7 +105,6 @@ pub fn attempt(
         (terminal_states ⟦<dyn CharDriver as CharDriver>⟧ devices.new.terms.items)
         (standing ⟦<dyn BlockDriver as BlockDriver>⟧ s.old files.old devices.old.drives.items)
         (standing ⟦<dyn BlockDriver as BlockDriver>⟧ s.new files.new devices.new.drives.items) }
-    ensures drives_kept { result ≡ CallEnd.NoMemory → devices.new.drives ≡ devices.old.drives }
     ensures lives { IsLiving s.new.table p.0 }
     ensures count { vec_len devices.new.terms ≡ vec_len devices.old.terms }
 {

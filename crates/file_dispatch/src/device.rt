@@ -1,9 +1,10 @@
 //! Calls on terminals and pipes, as calls on paths, files and directories.
 
-ghost use Rattle.std.specs.Prelude.{◌≡◌, vec_len};
+ghost use Rattle.std.specs.Prelude.{◌≡◌, None, vec_len};
 ghost use Rattle.file_dispatch.specs.Attempts.{TriesOnDevice};
 ghost use Rattle.file_state.specs.Attempt.{standing};
 ghost use Rattle.io_dispatch.specs.Staying.{MayAttempt};
+ghost use Rattle.io_rules.specs.Io.{kept_at};
 ghost use Rattle.os9_outer.specs.TerminalState.{terminal_states};
 ghost use Rattle.proc_rules.specs.Records.{IsLiving};
 
@@ -19,8 +20,9 @@ use proc_state::state::ProcState;
 
 /// An attempt of a call on terminals and pipes, in the state of files: it is the attempt of each
 /// call on paths, files and directories that is this device call (System Programmer's Manual, "I/O
-/// service requests"). It calls no drive, and leaves volumes and directories unchanged. `NoMemory`
-/// is returned only if a byte was to be put on a terminal.
+/// service requests"). No drive is called, and volumes, directories and locks stay; no request of
+/// the process for a record is left. `NoMemory` is returned only if a byte was to be put on a
+/// terminal.
 ///
 /// # Errors
 ///
@@ -34,16 +36,16 @@ pub fn attempt_on_device(
 ) -> CallEnd
     requires lives { IsLiving s.old.table p.0 }
     requires may { MayAttempt device s.old files.old.io p.0 (vec_len devices.old.terms) }
+    requires status { device ≡ IoCall.SetStt → kept_at files.old.io p.0 ≡ None }
     ensures call { TriesOnDevice device p.0 (vec_len devices.old.drives) result
         (terminal_states ⟦<dyn CharDriver as CharDriver>⟧ devices.old.terms.items)
         (terminal_states ⟦<dyn CharDriver as CharDriver>⟧ devices.new.terms.items)
         (standing ⟦<dyn BlockDriver as BlockDriver>⟧ s.old files.old devices.old.drives.items)
         (standing ⟦<dyn BlockDriver as BlockDriver>⟧ s.new files.new devices.new.drives.items) }
-    ensures disks_kept { files.new.disks ≡ files.old.disks }
-    ensures directories_kept { files.new.directories ≡ files.old.directories }
     ensures lives { IsLiving s.new.table p.0 }
     ensures drives { devices.new.drives ≡ devices.old.drives }
     ensures count { vec_len devices.new.terms ≡ vec_len devices.old.terms }
 {
+    files.records.cancel(p);
     attempt(s, &mut files.io, p, device, devices)
 }

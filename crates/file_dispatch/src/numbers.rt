@@ -10,7 +10,7 @@ ghost use Rattle.os9_outer.specs.TerminalState.{terminal_states};
 ghost use Rattle.proc_rules.specs.Records.{IsLiving};
 
 use crate::device::attempt_on_device;
-use crate::path::{seek_path, use_path};
+use crate::path::{close_path, seek_path, use_path};
 use crate::path_use::PathUse;
 use device_table::devices::Devices;
 use file_state::state::FileState;
@@ -38,7 +38,7 @@ pub enum NumberCall {
 /// An attempt, at a time, of a call on the number of a path, by a living process (System
 /// Programmer's Manual, "I/O service requests"). The result is not yet given to the process. If a
 /// call of the process is pending, this is a further attempt of it. `NoMemory` is returned only if
-/// a byte was to be put on a terminal; then no drive was called.
+/// there was no memory for a byte that is put on a terminal, or for an entry of the history.
 ///
 /// # Errors
 ///
@@ -60,14 +60,13 @@ pub fn attempt_on_number(
         (terminal_states ⟦<dyn CharDriver as CharDriver>⟧ devices.new.terms.items)
         (standing ⟦<dyn BlockDriver as BlockDriver>⟧ s.old files.old devices.old.drives.items)
         (standing ⟦<dyn BlockDriver as BlockDriver>⟧ s.new files.new devices.new.drives.items) }
-    ensures drives_kept { result ≡ CallEnd.NoMemory → devices.new.drives ≡ devices.old.drives }
     ensures lives { IsLiving s.new.table p.0 }
     ensures count { vec_len devices.new.terms ≡ vec_len devices.old.terms }
 {
     match call {
         NumberCall::Dup => attempt_on_device(s, files, p, IoCall::Dup, devices),
         NumberCall::Seek => seek_path(s, files, p),
-        NumberCall::Close => attempt_on_device(s, files, p, IoCall::Close, devices),
+        NumberCall::Close => close_path(s, files, p, devices),
         NumberCall::Use(used) => use_path(s, files, p, used, now, devices),
     }
 }

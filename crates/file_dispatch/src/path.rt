@@ -2,16 +2,18 @@
 
 ghost use Rattle.std.specs.Prelude.{◌≡◌, List, None, vec_len};
 ghost use Rattle.file_io.specs.Opened.{IsOpened};
-ghost use Rattle.file_dispatch.specs.Attempts.{AttemptsAt, TriesAt};
+ghost use Rattle.file_dispatch.specs.Attempts.{TriesAt, TriesFileAt, TriesFrom};
 ghost use Rattle.file_dispatch.specs.Bounds.{attempt_calls};
 ghost use Rattle.file_dispatch.specs.Uses.{call_of, device_of};
 ghost use Rattle.file_drives.specs.Drives.{DriveView, drive_views};
 ghost use Rattle.file_rules.specs.declared.path_call.PathCall.TheVariants as Call;
+ghost use Rattle.file_state.specs.Asking.{KeepsRequest, TriesAgain};
 ghost use Rattle.file_state.specs.Attempt.{standing};
 ghost use Rattle.file_state.specs.Counted.{AttemptsWithin};
+ghost use Rattle.file_state.specs.Lacks.{TriesWithin};
 ghost use Rattle.file_state.specs.Tie.{IsSound};
 ghost use Rattle.io_dispatch.specs.Staying.{MayAttempt};
-ghost use Rattle.io_rules.specs.Again.{IsAgain, path_number};
+ghost use Rattle.io_rules.specs.Again.{path_number};
 ghost use Rattle.io_rules.specs.Io.{kept_at};
 ghost use Rattle.os9_base.specs.declared.registers.TimePacket.{TimePacket};
 ghost use Rattle.os9_outer.specs.TerminalState.{TerminalState, terminal_states};
@@ -26,6 +28,7 @@ use file_io::writes::{write, write_error, write_line};
 use file_state::state::{FileState, OpenFile};
 use file_status::gets::get_status;
 use file_status::sets::set_status;
+use io_rules::io_call::IoCall;
 use os9_base::call::CallEnd;
 use os9_base::registers::{Pid, TimePacket};
 use os9_outer::drive::BlockDriver;
@@ -35,8 +38,8 @@ use proc_state::state::ProcState;
 /// An attempt, at a time, of a call that uses an open path, by a living process (System
 /// Programmer's Manual, "I/O service requests"). A path on a file or a directory uses the call of
 /// files, any other the call of terminals and pipes. If a call of the process is pending, this is a
-/// further attempt of it. `NoMemory` is returned only if a byte was to be put on a terminal; then
-/// no drive was called.
+/// further attempt of it. `NoMemory` is returned only if there was no memory for a byte that is put
+/// on a terminal, or for an entry of the history.
 ///
 /// # Errors
 ///
@@ -51,6 +54,7 @@ pub fn use_path(
 ) -> CallEnd
     requires lives { IsLiving s.old.table p.0 }
     requires may { MayAttempt (device_of call) s.old files.old.io p.0 (vec_len devices.old.terms) }
+    requires kept { KeepsRequest files.old.io files.old.records.locks p.0 }
     requires sound { IsSound files.old
         (drive_views ⟦<dyn BlockDriver as BlockDriver>⟧ devices.old.drives.items) }
     ensures call { TriesAt (call_of call) now p.0 result
@@ -58,14 +62,17 @@ pub fn use_path(
         (terminal_states ⟦<dyn CharDriver as CharDriver>⟧ devices.new.terms.items)
         (standing ⟦<dyn BlockDriver as BlockDriver>⟧ s.old files.old devices.old.drives.items)
         (standing ⟦<dyn BlockDriver as BlockDriver>⟧ s.new files.new devices.new.drives.items) }
-    ensures drives_kept { result ≡ CallEnd.NoMemory → devices.new.drives ≡ devices.old.drives }
     ensures lives { IsLiving s.new.table p.0 }
     ensures count { vec_len devices.new.terms ≡ vec_len devices.old.terms }
 {
     let number = call.path_number(s.table.regs(p));
     match files.open_file(p, number) {
         Some(opened) => use_file(s, files, p, call, &opened, now, devices),
-        None => attempt_on_device(s, files, p, call.on_device(), devices),
+        None => {
+            // SS.Size and SS.Lock wait on files alone.
+            prove!(files.io.kept(p).is_none() || call != PathUse::SetStt);
+            attempt_on_device(s, files, p, call.on_device(), devices)
+        }
     }
 }
 
@@ -80,25 +87,27 @@ fn use_file(
     devices: &mut Devices,
 ) -> CallEnd
     requires lives { IsLiving s.old.table p.0 }
-    requires again { IsAgain (device_of call) (record_at s.old.table p.0).regs files.old.io p.0 }
+    requires again { TriesAgain (device_of call) (record_at s.old.table p.0).regs files.old p.0 }
     requires sound { IsSound files.old
         (drive_views ⟦<dyn BlockDriver as BlockDriver>⟧ devices.old.drives.items) }
     requires opened { IsOpened files.old p.0
         (path_number (device_of call) (record_at s.old.table p.0).regs) opened.now }
-    ensures call { AttemptsAt (call_of call) now p.0 result
+    ensures call { TriesFileAt (call_of call) now p.0 result
         (standing ⟦<dyn BlockDriver as BlockDriver>⟧ s.old files.old devices.old.drives.items)
         (standing ⟦<dyn BlockDriver as BlockDriver>⟧ s.new files.new devices.new.drives.items) }
     ensures lives { IsLiving s.new.table p.0 }
     ensures terms_kept { devices.new.terms ≡ devices.old.terms }
 {
-    // A call that moves no byte is never pending.
-    prove!(files.io.kept(p).is_none() || call.on_device().direction().is_some());
     match call {
         PathUse::Read => read(s, files, devices, p, opened),
         PathUse::ReadLn => read_line(s, files, devices, p, opened),
         PathUse::Write => write(s, files, devices, p, opened, now),
         PathUse::WritLn => write_line(s, files, devices, p, opened, now),
-        PathUse::GetStt => get_status(s, files, devices, p, opened),
+        PathUse::GetStt => {
+            // A call that asks for a status is at its first attempt.
+            prove!(files.io.kept(p).is_none());
+            get_status(s, files, devices, p, opened)
+        }
         PathUse::SetStt => set_status(s, files, devices, p, opened, now),
         PathUse::PErr => write_error(s, files, devices, p, opened, now),
     }
@@ -123,6 +132,44 @@ pub fn seek_path(s: &mut ProcState, files: &mut FileState, p: Pid) -> CallEnd
     let number = s.table.regs(p).a;
     match files.open_file(p, number) {
         Some(opened) => seek(s, files, p, &opened),
-        None => seek_nothing(s, &mut files.io, p),
+        None => {
+            files.records.cancel(p);
+            seek_nothing(s, &mut files.io, p)
+        }
+    }
+}
+
+/// An attempt of I$Close by a living process (System Programmer's Manual, I$Close): it closes the
+/// number in A. The path goes with its last number, and that of a file with its lock.
+///
+/// # Errors
+///
+/// E$BPNum exactly if A names no path.
+pub fn close_path(
+    s: &mut ProcState,
+    files: &mut FileState,
+    p: Pid,
+    devices: &mut Devices,
+) -> CallEnd
+    requires lives { IsLiving s.old.table p.0 }
+    requires may { MayAttempt IoCall.Close s.old files.old.io p.0 (vec_len devices.old.terms) }
+    ensures call { (now : TimePacket) → TriesFrom Call.Close now p.0 result
+        (terminal_states ⟦<dyn CharDriver as CharDriver>⟧ devices.old.terms.items)
+        (terminal_states ⟦<dyn CharDriver as CharDriver>⟧ devices.new.terms.items)
+        (standing ⟦<dyn BlockDriver as BlockDriver>⟧ s.old files.old devices.old.drives.items)
+        (standing ⟦<dyn BlockDriver as BlockDriver>⟧ s.new files.new devices.new.drives.items) }
+    ensures lives { IsLiving s.new.table p.0 }
+    ensures count { vec_len devices.new.terms ≡ vec_len devices.old.terms }
+{
+    // A call that closes a path is at its first attempt.
+    prove!(files.io.kept(p).is_none());
+    let regs = s.table.regs(p);
+    match files.open_file(p, regs.a) {
+        Some(opened) => {
+            files.close_file(p, regs.a, opened.path);
+            s.set_regs(p, regs);
+            CallEnd::Done
+        }
+        None => attempt_on_device(s, files, p, IoCall::Close, devices),
     }
 }

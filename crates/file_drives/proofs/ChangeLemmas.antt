@@ -87,35 +87,35 @@ none-for-shorter media v n file size on there shorter =
 
 -- ---- a write
 
+-- nothing was written
+pub write-stays : (n at : ℕ) (bytes : List ℕ) (v : DiskVolume) (file : DiskFile) → v.files n ≡ Some file → 0 < length bytes → WriteEnds v v n at bytes
+write-stays n at bytes v file there some = record {
+  some = some;
+  old = file;
+  is = there;
+  count = 0;
+  front = ends.none;
+  taken = [];
+  planned = inl refl;
+  volume = record { same = sym same_volume; still = λ c h. subst (λ (w : DiskVolume). w.lost c ≡ true) same_volume h; only = λ c h. or_left_is (v.lost c) h };
+  order = inl refl;
+}
+  where
+    same_volume : replaced v n (Some (with_front file at bytes 0)) ≡ v
+    same_volume =
+        ap (λ c. replaced v n (Some (record file { contents = c }))) (put_none file.contents at)
+        ∙ ap (λ fs. record { ident = v.ident; files = fs; lost = v.lost; rest = v.rest }) (put_same_file v.files n file there)
+
+    or_left_is : (a : Bool) → a ≡ true → (a || false) ≡ true
+    or_left_is true h = refl
+    or_left_is false h = h
+
 module _ (slot : Option Volume) (volume new : Volume) (before after : DriveView) (n at : ℕ) (bytes : List ℕ) (now : TimePacket) (is : slot ≡ Some volume) (mounted : IsMounted new after.media) where
   abbrev asks : ℕ → Asked
   asks user = record { change = writes n at bytes; user = user; now = now }
 
   stayed_on : (v : DiskVolume) → after.media ≡ before.media → Represents before.media v → IsMountedAs new after.media v
   stayed_on v same on = mounted-left new after.media v mounted (record { image = on.image; is = same ∙ on.is; vol = on.vol })
-
-  -- nothing was written
-  ends-before : (v : DiskVolume) (file : DiskFile) → v.files n ≡ Some file → 0 < length bytes → WriteEnds v v n at bytes
-  ends-before v file there some = record {
-    some = some;
-    old = file;
-    is = there;
-    count = 0;
-    front = ends.none;
-    taken = [];
-    planned = inl refl;
-    volume = record { same = sym same_volume; still = λ c h. subst (λ (w : DiskVolume). w.lost c ≡ true) same_volume h; only = λ c h. or_left_is (v.lost c) h };
-    order = inl refl;
-  }
-    where
-      same_volume : replaced v n (Some (with_front file at bytes 0)) ≡ v
-      same_volume =
-          ap (λ c. replaced v n (Some (record file { contents = c }))) (put_none file.contents at)
-          ∙ ap (λ fs. record { ident = v.ident; files = fs; lost = v.lost; rest = v.rest }) (put_same_file v.files n file there)
-
-      or_left_is : (a : Bool) → a ≡ true → (a || false) ≡ true
-      or_left_is true h = refl
-      or_left_is false h = h
 
   leaves : (user : ℕ) (result : Result (Unit {0}) FileFault) → OnVolumeFile before.media n
       (λ v file. AnswersWrite v file (record { number = n; at = at; bytes = bytes; now = now }) before.media
@@ -168,7 +168,7 @@ module _ (slot : Option Volume) (volume new : Volume) (before after : DriveView)
           (Err (Device number)) v file) v file before (Some new) after
       by (unchanged some same) = record {
         left = v;
-        answers = record { may_be = ends-before v file there some; refused = λ _. refl };
+        answers = record { may_be = write-stays n at bytes v file there some; refused = λ _. refl };
         on = stayed_on v same on;
         counts = moved;
         refused = λ _. same;

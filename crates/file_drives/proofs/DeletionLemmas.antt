@@ -21,7 +21,7 @@ use Rattle.rbf_delete.specs.declared.deletion.Deletable.{Deletable}
 use Rattle.rbf_delete.proofs.Ends.{file_found, file_marks}
 use Rattle.rbf_delete.specs.Deleted.{AnswersDeletionOf, MayBeDeleted, file_deletion_calls}
 use Rattle.file_rules.specs.Change.{deletes}
-use Rattle.file_rules.specs.declared.places.FilePlace.{FilePlace}
+use Rattle.lock_model.specs.declared.place.FilePlace.{FilePlace}
 use Rattle.file_drives.proofs.AttributeLemmas.{none-needed}
 use Rattle.file_drives.proofs.EntryLemmas.{not-refused}
 use Rattle.file_drives.proofs.IdentLemmas.{made-anyway}

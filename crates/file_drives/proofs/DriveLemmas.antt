@@ -5,7 +5,7 @@ use Rattle.std.proofs.lemmas.List.{map-set, length-set, length-map, get_or-map, 
 use Rattle.std.proofs.lemmas.Option.{slice_get-map, slice_get_read, slice_get_within, get_or_from_slice_get}
 use Rattle.os9_base.specs.Count.{Rose}
 use Rattle.os9_outer.specs.Drive.{drive_error}
-use Rattle.file_rules.specs.Files.{DriveState, NoneFailed, OneFailed, drive_at, new_drive}
+use Rattle.file_rules.specs.Files.{NoneFailed, OneFailed, drive_at, new_drive}
 use Rattle.rbf_access.specs.Drive.{MovesCounts}
 use Rattle.file_drives.specs.Drives.{DriveView, ChangesOneDrive, OneDriveMoves, drive_state, drive_states, media_at, media_of, unused_drive}
 

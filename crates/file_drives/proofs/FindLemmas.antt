@@ -14,7 +14,7 @@ use Rattle.rbf_delete.specs.declared.deletion.Deletable.{Deletable}
 use Rattle.rbf_walk.specs.Walk.{AnswersWalk, directory_fault}
 use Rattle.rbf_walk.specs.declared.error.DirError.{DirError}
 use Rattle.rbf_write.specs.Files.{IsLoaded}
-use Rattle.file_rules.specs.declared.places.FilePlace.{FilePlace}
+use Rattle.lock_model.specs.declared.place.FilePlace.{FilePlace}
 use Rattle.file_drives.proofs.SlotLemmas.{has-file, mounted-as, on-file, on-volume_file, reads-mounted}
 use Rattle.file_drives.specs.Drives.{DriveView}
 use Rattle.file_drives.specs.Entries.{IsDeletableOn, IsPlaceOn}

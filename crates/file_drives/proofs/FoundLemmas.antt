@@ -4,7 +4,7 @@ use Rattle.std.proofs.lemmas.Option.{same_Some}
 use Rattle.rbf_access.specs.declared.volume.Volume.{Volume}
 use Rattle.rbf_create.specs.Places.{IsPlaceFor}
 use Rattle.rbf_create.specs.declared.place.NewPlace.{NewPlace}
-use Rattle.file_rules.specs.declared.places.FilePlace.{FilePlace}
+use Rattle.lock_model.specs.declared.place.FilePlace.{FilePlace}
 use Rattle.file_drives.specs.Drives.{DriveView}
 use Rattle.file_drives.specs.Entries.{IsPlaceAt}
 use Rattle.file_drives.specs.Slots.{HasFileOn}

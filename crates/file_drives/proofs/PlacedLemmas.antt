@@ -11,7 +11,7 @@ use Rattle.rbf_access.specs.declared.volume.Volume.{Volume}
 use Rattle.rbf_walk.specs.Walk.{AnswersWalk, directory_fault}
 use Rattle.rbf_walk.specs.declared.error.DirError.{DirError}
 use Rattle.rbf_walk.specs.declared.error.DirError.TheVariants.{NotAllowed, BadPath, NotFound, Exists, File}
-use Rattle.file_rules.specs.declared.places.FilePlace.{FilePlace}
+use Rattle.lock_model.specs.declared.place.FilePlace.{FilePlace}
 use Rattle.file_drives.proofs.DriveLemmas.{changes-one, media-kept, media-there}
 use Rattle.file_drives.proofs.IdentLemmas.{ident-left}
 use Rattle.file_drives.proofs.MountedLemmas.{mounted-below, mounted-set, stay-set}

@@ -13,7 +13,7 @@ use Rattle.rbf_change.specs.Agrees.{Agrees}
 use Rattle.rbf_access.specs.Mounted.{Represents, kept}
 use Rattle.rbf_access.specs.declared.volume.Volume.{Volume}
 use Rattle.file_rules.specs.Way.{root_of}
-use Rattle.file_rules.specs.declared.places.FilePlace.{FilePlace}
+use Rattle.lock_model.specs.declared.place.FilePlace.{FilePlace}
 use Rattle.file_drives.proofs.MountedLemmas.{mounted-below}
 use Rattle.file_drives.specs.Drives.{DriveView}
 use Rattle.file_drives.specs.Mounted.{AgreesOnDrive, AreMounted, HasFileAt, kept_at, mounted_at}

@@ -23,7 +23,7 @@ use Rattle.rbf_write.specs.Outcomes.{AnswersWrite}
 use Rattle.rbf_write.specs.Sizes.{AnswersSize}
 use Rattle.file_rules.specs.Change.{Change, writes, sizes, sets_attributes, creates, makes_directory, deletes, Makes, MayLeave, MayBeTooLong}
 use Rattle.file_rules.specs.MakDir.{new_directory_size}
-use Rattle.file_rules.specs.declared.places.FilePlace.{FilePlace}
+use Rattle.lock_model.specs.declared.place.FilePlace.{FilePlace}
 use Rattle.file_drives.specs.Drives.{DriveView, KeepsIdent, OneDriveMoves, media_at, media_of}
 use Rattle.file_drives.specs.Mounted.{AreMounted, mounted_at}
 

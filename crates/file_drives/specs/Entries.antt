@@ -5,7 +5,7 @@ use Rattle.rbf_create.specs.declared.place.NewPlace.{NewPlace}
 use Rattle.rbf_delete.specs.Deletions.{IsDeletable}
 use Rattle.rbf_delete.specs.declared.deletion.Deletable.{Deletable}
 use Rattle.file_rules.specs.Change.{deletes}
-use Rattle.file_rules.specs.declared.places.FilePlace.{FilePlace}
+use Rattle.lock_model.specs.declared.place.FilePlace.{FilePlace}
 use Rattle.file_drives.specs.Changed.{Asked}
 use Rattle.file_drives.specs.Drives.{DriveView}
 

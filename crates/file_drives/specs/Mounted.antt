@@ -11,7 +11,7 @@ use Rattle.rbf_access.specs.declared.faults.VolFault.{VolFault}
 use Rattle.rbf_access.specs.declared.faults.VolFault.TheVariants.{Device, NotRbf, OutOfMemory}
 use Rattle.rbf_access.specs.declared.volume.Volume.{Volume}
 use Rattle.rbf_walk.specs.declared.error.DirError.{DirError}
-use Rattle.file_rules.specs.declared.places.FilePlace.{FilePlace}
+use Rattle.lock_model.specs.declared.place.FilePlace.{FilePlace}
 use Rattle.file_drives.specs.Drives.{DriveView, Reads, ReadsDrive}
 
 -- the media represents this volume, and the kept state and the cache agree with the media

@@ -25,7 +25,7 @@ use crate::entries::{
 };
 use crate::reading::{fd_in_box, mount_in_box, read_in_box, walk_in_box};
 use device_table::devices::Devices;
-use file_rules::places::FilePlace;
+use lock_model::place::FilePlace;
 use os9_base::call::OutOfMemory;
 use os9_base::name::Name;
 use os9_base::registers::TimePacket;

@@ -1,35 +1,38 @@
 -- A call that is attempted again on a file is no read of a terminal.
-use Rattle.std.proofs.Common.{◌≡◌, ◌∙◌, ℕ, Option, Some, None, IfSome, sym, ap, subst}
-use Rattle.std.proofs.lemmas.Option.{none-some, same_Some}
+use Rattle.std.proofs.Common.{◌≡◌, ℕ, Option, Some, None, IfSome, List, subst}
 use Rattle.os9_base.specs.declared.registers.Regs.{Regs}
-use Rattle.io_model.specs.Path.{slot_of}
 use Rattle.io_model.specs.declared.kept.Kept.{Kept}
-use Rattle.io_model.specs.declared.path.SysPath.{SysPath}
-use Rattle.io_model.specs.declared.path.Target.TheVariants.{Term}
-use Rattle.io_rules.specs.Again.{IsAgain, IsKept, path_number}
-use Rattle.io_rules.specs.Io.{Io, kept_at}
+use Rattle.io_rules.specs.Again.{IsAgain, IsKept, KeepsCount, path_number}
+use Rattle.io_rules.specs.Io.{Io}
 use Rattle.io_rules.specs.declared.io_call.IoCall.{IoCall}
-use Rattle.io_state.proofs.OpenedLemmas.{opened-slot, opened-target}
-use Rattle.io_state.specs.Sound.{IsNoRead, target_at}
-use Rattle.file_rules.specs.Files.{place_of_target}
-use Rattle.file_state.specs.Opened.{path_of}
+use Rattle.lock_model.specs.Locks.{request_of}
+use Rattle.lock_model.specs.declared.lock.Request.{Request}
+use Rattle.file_state.proofs.AskingLemmas.{may-ask as may-ask-on, no-read-again}
+use Rattle.file_drives.specs.Drives.{DriveView}
+use Rattle.file_state.specs.Asking.{IsKeptRequest, KeepsRequest, MayAsk, TriesAgain}
+use Rattle.file_state.specs.Tie.{IsSound}
+use Rattle.file_state.specs.declared.state.FileState.{FileState}
 use Rattle.file_state.specs.declared.state.OpenFile.{OpenFile}
-use Rattle.file_io.proofs.OpenedLemmas.{IsNamed}
-use Rattle.file_io.specs.Opened.{ReadsNoTerminal}
+use Rattle.file_io.proofs.OpenedLemmas.{IsNamed, is-named}
+use Rattle.file_io.specs.Opened.{IsOpened, ReadsNoTerminal}
 
 pub again-no_read : (io : Io) (p n : ℕ) (opened : OpenFile) (call : IoCall) (regs : Regs) → IsAgain call regs io p → path_number call regs ≡ n → IsNamed io p n opened → ReadsNoTerminal io p
-again-no_read io p n opened call regs again number named = by (kept_at io p) again
+again-no_read io p n opened call regs again number named = no-read-again io p n opened call regs again number named.names named.place
+
+-- ---- records
+
+-- a process may ask for records on a file that it has opened
+pub may-ask : (state : FileState) (views : List DriveView) (p n : ℕ) (opened : OpenFile) → IsSound state views
+    → IsOpened state p n opened → KeepsRequest state.io state.records.locks p → MayAsk state.io state.records.locks p
+    opened
+may-ask state views p n opened sound is kept =
+    let named = is-named state views sound p n opened is in
+    may-ask-on state.io state.records.locks p n opened is.path named.names named.place kept
+
+-- the request of a call that is attempted again counts as many bytes as the call
+pub kept-request : (call : IoCall) (regs : Regs) (state : FileState) (p : ℕ) → TriesAgain call regs state p → IfSome (request_of state.records.locks p) (λ request. KeepsCount call regs request.count)
+kept-request call regs state p again = by (request_of state.records.locks p) again.kept
   where
-    no_terminal : (t : ℕ) → opened.desc.target ≡ Term t → ⊥
-    no_terminal t is = none-some opened.place (ap place_of_target (sym is) ∙ named.place)
-
-    one : (kept : Kept) → IsKept call regs io p kept → IsNoRead io kept
-    one kept it t at reads =
-        let slot : slot_of io.paths p n ≡ Some kept.path = subst (λ (k : ℕ). slot_of io.paths p k ≡ Some kept.path) number it.path in
-        let same : kept.path ≡ opened.path = same_Some kept.path opened.path (sym slot ∙ (opened-slot io p n (path_of opened) named.names).0) in
-        let here : target_at io.paths opened.path.0 ≡ Some (Term t) = subst (λ (s : SysPath). target_at io.paths s.0 ≡ Some (Term t)) same at in
-        no_terminal t (same_Some opened.desc.target (Term t) (sym (opened-target io p n (path_of opened) named.names) ∙ here))
-
-    by : (kept : Option Kept) → IfSome kept (IsKept call regs io p) → IfSome kept (IsNoRead io)
-    by None again = tt
-    by (Some kept) again = one kept again
+    by : (kept : Option Request) → IfSome kept (IsKeptRequest state.io p) → IfSome kept (λ request. KeepsCount call regs request.count)
+    by None kept = tt
+    by (Some request) kept = (subst (λ (o : Option Kept). IfSome o (IsKept call regs state.io p)) kept.kept again.again).count

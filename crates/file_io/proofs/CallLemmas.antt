@@ -1,30 +1,32 @@
 -- What the calls do on the file of a path that is found.
-use Rattle.std.proofs.Common.{◌≡◌, ◌∙◌, ℕ, not, Option, Some, is_none, List, ap, subst}
+use Rattle.std.proofs.Common.{◌≡◌, ◌≢◌, ◌<◌, ◌∙◌, ℕ, not, Option, Some, None, is_none, List, ap, refl, subst, arith}
+use Rattle.os9_base.specs.declared.calls.TheConstants.{F_PERR, I_WRITE, I_WRITLN}
 use Rattle.os9_base.specs.declared.errors.TheConstants.{E_BMODE, E_BPADDR}
 use Rattle.call_rules.specs.Inner.{Inner, regs_at}
 use Rattle.call_rules.specs.UserBytes.{user_bytes}
-use Rattle.io_model.specs.Line.{first_line}
 use Rattle.io_model.specs.declared.terminal.ReadKind.TheVariants.{Bytes, WholeLine}
 use Rattle.io_rules.specs.Io.{Io, open_path}
 use Rattle.io_rules.specs.Modes.{can_read, can_write}
 use Rattle.io_rules.specs.Read.{i_read as reads_device, i_readln as reads_device_line}
-use Rattle.io_rules.specs.Transfer.{line_at}
 use Rattle.io_rules.specs.Write.{i_write as writes_device, i_writln as writes_device_line, f_perr as tells_device, error_line}
 use Rattle.io_rules.specs.declared.modes.TheConstants.{STANDARD_ERROR}
 use Rattle.os9_base.specs.declared.registers.Regs.{Regs}
 use Rattle.proc_rules.specs.Records.{record_at}
-use Rattle.proc_state.specs.Tie.{Represents}
+use Rattle.proc_state.proofs.Entered.{represented}
+use Rattle.proc_state.specs.Tie.{Represents, inner_of}
 use Rattle.proc_state.specs.declared.state.ProcState.{ProcState}
 use Rattle.rbf_model.specs.File.{DiskFile}
 use Rattle.rbf_model.specs.Volume.{DiskVolume}
 use Rattle.file_drives.specs.Drives.{DriveView}
 use Rattle.file_laws.specs.Kinds.{AreKinds}
 use Rattle.file_rules.specs.Files.{Asker, Files, OpenFile, open_file, volume_at, with_position}
+use Rattle.file_rules.specs.Locking.{request_kept}
 use Rattle.file_rules.specs.OnFile.{by_kind, moves_bytes}
 use Rattle.file_rules.specs.Read.{i_read, i_readln, reads_file}
 use Rattle.file_rules.specs.Seek.{i_seek, long_of, seeks_nothing}
 use Rattle.file_rules.specs.Step.{done, needs, refuses}
-use Rattle.file_rules.specs.Write.{i_write, i_writln, f_perr, sends_bytes, writes_bytes}
+use Rattle.file_rules.specs.Write.{i_write, i_writln, f_perr, line_moved, sends_bytes, writes_bytes}
+use Rattle.lock_model.specs.declared.lock.Request.{Request}
 use Rattle.file_state.proofs.ReachedLemmas.{on-volume}
 use Rattle.file_state.specs.Tie.{StandsFor}
 use Rattle.file_state.specs.declared.state.FileState.{FileState}
@@ -33,7 +35,7 @@ use Rattle.file_io.proofs.OpenedLemmas.{named-of, open-file}
 use Rattle.file_io.proofs.TryingLemmas.{regs-tied}
 use Rattle.file_io.specs.Opened.{IsOpened, found_on}
 use Rattle.file_io.specs.Reading.{read_file, read_named, read_opened}
-use Rattle.file_io.specs.Writing.{write_file}
+use Rattle.file_io.specs.Writing.{line_of, write_file}
 
 -- ---- the file that a number names
 
@@ -63,6 +65,19 @@ module _ (state : FileState) (views : List DriveView) (files : Files) (p : ℕ) 
   pub known-a : (s : ProcState) (m : Inner) → Represents s m → IsOpened state p (record_at s.table p).regs.a opened → IsKnown files p (regs_at m p).a opened
   known-a s m tied is = known (regs_at m p).a (subst (λ (r : Regs). IsOpened state p r.a opened) (regs-tied s m p tied) is)
 
+-- ---- registers
+
+pub above : {n : ℕ} → n ≢ 0 → 0 < n
+above {n} some = omega (arith, some)
+
+-- registers with their own count
+pub with-own-y : (regs own : Regs) → regs ≡ own → regs ≡ record own { y = regs.y }
+with-own-y regs own same = subst (λ (r : Regs). regs ≡ record r { y = regs.y }) same refl
+
+-- processes are those of some machine
+pub some-machine : (s : ProcState) → (m : Inner) × Represents s m
+some-machine s = (inner_of s _, record { memory = represented s.memory; is = refl })
+
 -- ---- the steps of the calls
 
 module _ (asker : Asker) (files : Files) (found : OpenFile) where
@@ -71,37 +86,44 @@ module _ (asker : Asker) (files : Files) (found : OpenFile) where
   read-step is =
       ap (λ (o : Option OpenFile). by_kind o (reads_device asker.caller files.io)
       (λ opened. refuses (is_none (user_bytes asker.caller.cells asker.caller.regs.x asker.caller.regs.y)) E_BPADDR
-      (moves_bytes asker files opened can_read (reads_file asker files (λ bytes. bytes) opened)))) is
+      (moves_bytes asker files opened can_read (reads_file Bytes asker files opened)))) is
 
   pub line-step : open_file files asker.caller.process.0 asker.caller.regs.a ≡ Some found → i_readln asker files ≡ read_opened WholeLine asker files found
   unfolding read_opened read_named read_file
   line-step is =
       ap (λ (o : Option OpenFile). by_kind o (reads_device_line asker.caller files.io)
       (λ opened. refuses (is_none (user_bytes asker.caller.cells asker.caller.regs.x asker.caller.regs.y)) E_BPADDR
-      (moves_bytes asker files opened can_read (reads_file asker files first_line opened)))) is
+      (moves_bytes asker files opened can_read (reads_file WholeLine asker files opened)))) is
 
   pub write-step : open_file files asker.caller.process.0 asker.caller.regs.a ≡ Some found → i_write asker files ≡
       needs (user_bytes asker.caller.cells asker.caller.regs.x asker.caller.regs.y) E_BPADDR
-      (sends_bytes asker files found)
+      (sends_bytes asker files found I_WRITE)
   write-step is =
       ap (λ (o : Option OpenFile). by_kind o (writes_device asker.caller files.io)
-      (λ opened. needs (user_bytes asker.caller.cells asker.caller.regs.x asker.caller.regs.y) E_BPADDR (sends_bytes asker files opened))) is
+      (λ opened. needs (user_bytes asker.caller.cells asker.caller.regs.x asker.caller.regs.y) E_BPADDR (sends_bytes asker files opened I_WRITE))) is
 
   pub write_line-step : open_file files asker.caller.process.0 asker.caller.regs.a ≡ Some found → i_writln asker files
-      ≡ needs (line_at asker.caller.cells asker.caller.regs.x asker.caller.regs.y) E_BPADDR
-      (sends_bytes asker files found)
+      ≡ needs (line_moved asker (request_kept asker files)) E_BPADDR (sends_bytes asker files found I_WRITLN)
   write_line-step is =
       ap (λ (o : Option OpenFile). by_kind o (writes_device_line asker.caller files.io)
-      (λ opened. needs (line_at asker.caller.cells asker.caller.regs.x asker.caller.regs.y) E_BPADDR (sends_bytes asker files opened))) is
+      (λ opened. needs (line_moved asker (request_kept asker files)) E_BPADDR (sends_bytes asker files opened I_WRITLN))) is
 
   pub error-step : open_file files asker.caller.process.0 STANDARD_ERROR ≡ Some found → f_perr asker files ≡ refuses
-      (not (can_write found.opened.desc.mode)) E_BMODE (write_file (error_line asker.caller.regs.b) asker.caller.regs
-      asker files found)
+      (not (can_write found.opened.desc.mode)) E_BMODE (write_file F_PERR (error_line asker.caller.regs.b)
+      asker.caller.regs asker files found)
   unfolding write_file
   error-step is =
       ap (λ (o : Option OpenFile). by_kind o (tells_device asker.caller files.io)
       (λ opened. refuses (not (can_write opened.opened.desc.mode)) E_BMODE
-      (writes_bytes files opened (error_line asker.caller.regs.b) asker.caller.regs))) is
+      (writes_bytes asker files opened F_PERR (error_line asker.caller.regs.b) asker.caller.regs))) is
+
+  -- a line, by the request in which the process waits
+  pub line-moved : (request : Option Request) → request_kept asker files ≡ request → line_moved asker (request_kept asker files) ≡ line_of request asker.caller.cells asker.caller.regs
+  line-moved request is = ap (line_moved asker) is ∙ same request
+    where
+      same : (request : Option Request) → line_moved asker request ≡ line_of request asker.caller.cells asker.caller.regs
+      same None = refl
+      same (Some request) = refl
 
   pub seek-step : open_file files asker.caller.process.0 asker.caller.regs.a ≡ Some found → i_seek asker files ≡ done asker.caller.regs (with_position files found.opened (long_of asker.caller.regs))
   seek-step is =

@@ -1,5 +1,6 @@
 -- How attempts end on the file of a path.
-use Rattle.std.proofs.Common.{◌≡◌, ℕ, ◌+◌, Option, Some, None, IfSome, IsSome, is_some, List, length, ◌∙◌, ap, sym, subst}
+use Rattle.std.proofs.Common.{◌≡◌, ℕ, ◌+◌, false, Option, Some, None, IfSome, IsSome, is_some, OnOk, is_err, Result, Ok, Err, List, length, ◌∙◌, ap, sym, subst}
+use Rattle.std.proofs.lemmas.Bool.{false≢true}
 use Rattle.os9_base.specs.declared.call.CallEnd.{CallEnd}
 use Rattle.os9_base.specs.declared.registers.Regs.{Regs}
 use Rattle.call_rules.specs.Inner.{Inner}
@@ -14,7 +15,7 @@ use Rattle.file_io.specs.Opened.{IsPathOf, moved_to}
 module _ (io between : Io) (p : ℕ) (opened : OpenFile) (same : between ≡ with_call io p None) (path : IsPathOf io opened) where
   -- the path is there still
   pub still-there : IsSome (desc_of between.paths opened.path.0)
-  still-there = ap (λ (it : Io). is_some (desc_of it.paths opened.path.0)) same ∙ ap (λ (o : Option Desc). is_some o) path
+  still-there = ap (λ (it : Io). is_some (desc_of it.paths opened.path.0)) same ∙ ap (λ (o : Option Desc). is_some o) path.desc
 
   -- and its position is another one
   pub moved-on : (new : Io) (at : ℕ) → IfSome (desc_of between.paths opened.path.0) (λ desc. new ≡ with_paths between
@@ -23,7 +24,7 @@ module _ (io between : Io) (p : ℕ) (opened : OpenFile) (same : between ≡ wit
   moved-on new at fact =
       let here : IfSome (desc_of io.paths opened.path.0) (λ desc. new ≡ with_paths (with_call io p None) (with_desc io.paths opened.path.0 (Some (record desc { at = at })))) =
       subst (λ (it : Io). IfSome (desc_of it.paths opened.path.0) (λ desc. new ≡ with_paths it (with_desc it.paths opened.path.0 (Some (record desc { at = at }))))) same fact in
-      subst (λ (o : Option Desc). IfSome o (λ desc. new ≡ with_paths (with_call io p None) (with_desc io.paths opened.path.0 (Some (record desc { at = at }))))) path here
+      subst (λ (o : Option Desc). IfSome o (λ desc. new ≡ with_paths (with_call io p None) (with_desc io.paths opened.path.0 (Some (record desc { at = at }))))) path.desc here
 
 -- a process is given these bytes, which are so many
 module _ (bytes given : List ℕ) (n : ℕ) (regs : Regs) (opened : OpenFile) (m : Inner) (p : ℕ) (io : Io) (end : CallEnd) (processes : ProcState) (new : Io) where
@@ -32,3 +33,19 @@ module _ (bytes given : List ℕ) (n : ℕ) (regs : Regs) (opened : OpenFile) (m
 
   pub gives-of : bytes ≡ given → length given ≡ n → Gives bytes n → GivesBytes given regs opened m p io end processes new
   gives-of same long it = subst (λ (b : List ℕ). Gives b (length given)) same (subst (λ (k : ℕ). Gives bytes k) (sym long) it)
+
+-- the same from a place on, with these registers
+pub done-as : (bytes given : List ℕ) (n start : ℕ) (regs other : Regs) (opened : OpenFile) (m : Inner) (p : ℕ) (io : Io)
+    (end : CallEnd) (processes : ProcState) (new : Io) → bytes ≡ given → length given ≡ n → regs ≡ other
+    → IsDone (with_bytes m p regs.x bytes) p (record regs { y = n }) (moved_to io opened (start + n)) end processes new
+    → IsDone (with_bytes m p other.x given) p (record other { y = length given })
+    (moved_to io opened (start + length given)) end processes new
+done-as bytes given n start regs other opened m p io end processes new same long regs_are it =
+    subst (λ (r : Regs). IsDone (with_bytes m p r.x given) p (record r { y = length given }) (moved_to io opened (start + length given)) end processes new) regs_are
+    (subst (λ (b : List ℕ). IsDone (with_bytes m p regs.x b) p (record regs { y = length given }) (moved_to io opened (start + length given)) end processes new) same
+    (subst (λ (k : ℕ). IsDone (with_bytes m p regs.x bytes) p (record regs { y = k }) (moved_to io opened (start + k)) end processes new) (sym long) it))
+
+-- what holds of a result that is no error
+pub on-ok : {T E : Type 0} {P : Type 0} (r : Result T E) → is_err r ≡ false → OnOk r P → P
+on-ok {T} {E} {P} (Ok a) fine it = it
+on-ok {T} {E} {P} (Err e) fine it = absurd (false≢true (sym fine))

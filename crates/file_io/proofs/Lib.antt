@@ -1,9 +1,12 @@
 pub mod AgainLemmas
 pub mod CallLemmas
+pub mod ClaimLemmas
 pub mod CountLemmas
 pub mod EndingLemmas
 pub mod OpenedLemmas
 pub mod ReadingLemmas
+pub mod RequestingLemmas
+pub mod SendingLemmas
 pub mod SizeLemmas
 pub mod TryingLemmas
 pub mod WritingLemmas

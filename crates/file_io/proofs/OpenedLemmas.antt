@@ -13,7 +13,7 @@ use Rattle.file_drives.specs.Drives.{DriveView}
 use Rattle.file_drives.specs.Mounted.{AgreesOnDrive, AreMounted, HasDataFileAt, HasFileAt, kept_at, mounted_at}
 use Rattle.file_rules.specs.Files as rules
 use Rattle.file_rules.specs.Files.{Files, open_file, open_file_at, place_of_target, volume_at}
-use Rattle.file_rules.specs.declared.places.FilePlace.{FilePlace}
+use Rattle.lock_model.specs.declared.place.FilePlace.{FilePlace}
 use Rattle.file_state.specs.Opened.{IsFileOf, path_of}
 use Rattle.file_state.specs.Tie.{IsSound, StandsFor}
 use Rattle.file_state.specs.declared.state.FileState.{FileState}

@@ -1,9 +1,12 @@
 -- What a read of the file of a path comes to, by what was answered to it.
-use Rattle.std.proofs.Common.{◌≡◌, ◌≢◌, ◌∙◌, ℕ, ◌+◌, ◌-◌, ◌<◌, ◌≤◌, ◌^◌, min, nat_le, Bool, true, false, Option, Some, None, IsSome, OnErr, IfOk, Result, Ok, Err, List, ◌++◌, length, take, drop, take-take, append_assoc, ⊎_elim, inl, sym, ap, refl, subst, arith, le-leb, leb-true, length-take, length-drop}
+use Rattle.std.proofs.Common.{◌≡◌, ◌≢◌, ◌∙◌, ℕ, ◌+◌, ◌-◌, ◌<◌, ◌≤◌, ◌^◌, min, nat_le, Bool, true, false, Option, Some, None, IsSome, OnErr, IfOk, Result, Ok, Err, List, ◌++◌, length, take, drop, take-take, append_assoc, ⊎_elim, inl, inr, sym, ap, refl, subst, arith, le-leb, leb-true, length-take, length-drop}
+use Rattle.std.specs.Prelude.{if◌then◌else◌}
 use Rattle.std.proofs.lemmas.Bool.{cases_lt, false≢true}
 use Rattle.std.proofs.lemmas.List.{length-take-le, take_at}
+use Rattle.os9_base.specs.Cells.{Cells}
 use Rattle.os9_base.specs.declared.call.CallEnd.{CallEnd}
 use Rattle.os9_base.specs.declared.errors.TheConstants.{E_EOF}
+use Rattle.os9_base.specs.declared.registers.Regs.{Regs}
 use Rattle.os9_base.specs.declared.registers.TimePacket.{TimePacket}
 use Rattle.os9_outer.specs.TerminalState.{TerminalState}
 use Rattle.call_rules.specs.Inner.{Inner, regs_at}
@@ -13,33 +16,40 @@ use Rattle.proc_state.specs.declared.state.ProcState.{ProcState}
 use Rattle.rbf_access.specs.Faults.{file_fault}
 use Rattle.rbf_access.specs.declared.faults.FileFault.{FileFault}
 use Rattle.rbf_access.specs.declared.faults.FileFault.TheVariants.{Device, NoCluster, TooManyRuns}
-use Rattle.rbf_access.specs.Reading.{IsRead, filled_buffer}
+use Rattle.rbf_access.specs.Reading.{IsRead, filled_buffer, read_calls}
 use Rattle.rbf_change.specs.Contents.{bytes_from}
 use Rattle.rbf_model.specs.File.{DiskFile}
 use Rattle.rbf_model.specs.Volume.{DiskVolume}
+use Rattle.lock_model.specs.History.{got}
+use Rattle.lock_model.specs.Records.{Records, holding, with_waiting}
+use Rattle.lock_model.specs.declared.lock.Held.{Held}
 use Rattle.file_drives.specs.Drives.{DriveView, drive_states}
+use Rattle.file_drives.specs.Mounted.{AreMounted}
 use Rattle.file_rules.specs.Attempts.{asker_of}
 use Rattle.file_rules.specs.Files.{Asker, DriveState, Files, volume_at, with_drives, with_io, with_volume}
 use Rattle.file_rules.specs.Files as rules
-use Rattle.file_rules.specs.Read.{answers_bytes, bytes_here}
+use Rattle.file_rules.specs.Locking.{is_for_update, position_of, request_now}
+use Rattle.file_rules.specs.Read.{answers_bytes, bytes_at, lock_by, read_claim, reads_freely, reads_locked}
 use Rattle.file_rules.specs.Step.{FileEffect, FileStep, MayBeLeft, comes, deed_of, leaves_so, reaches, refuses, refuses_so, with_drives_after}
 use Rattle.file_state.proofs.EndLemmas.{breaks, goes-well}
 use Rattle.file_state.proofs.KeepLemmas.{MayKeepAll, keeps-read}
 use Rattle.file_state.proofs.ReachedLemmas.{same-volume}
+use Rattle.file_state.proofs.RequestLemmas.{forgotten-again, lacks-none, reached-fails, stands-beside}
 use Rattle.file_state.proofs.StateLemmas.{stands-with_io}
 use Rattle.file_state.specs.Counted.{CalledAtMost}
-use Rattle.file_state.specs.Ends.{Ends}
+use Rattle.file_state.specs.Ends.{Ends, EndsOrLacks}
 use Rattle.file_state.specs.Media.{KeepsDrives}
 use Rattle.file_state.specs.Reached.{HasRead}
 use Rattle.file_state.specs.Tie.{StandsFor}
 use Rattle.file_state.specs.declared.state.FileState.{FileState}
 use Rattle.file_state.specs.declared.state.OpenFile.{OpenFile}
 use Rattle.file_io.proofs.TryingLemmas.{deed-goes, deed-refused}
-use Rattle.file_io.specs.Ending.{EndsFound, GivesBytes, IsRefused}
+use Rattle.file_io.specs.Ending.{EndsFound, GivesBytes, GivesLocked, IsRefused}
 use Rattle.file_io.specs.Opened.{found_on, moved_to}
-use Rattle.file_io.specs.Reading.{EndsRead, IsLoaded, part_of, read_file}
+use Rattle.file_io.specs.Calls.{reading_attempt_calls}
+use Rattle.file_io.specs.Reading.{EndsRead, HasRoom, IsLoaded, holds_bytes, part_of, read_file, read_granted}
 
-not-le : (a b : ℕ) → b < a → nat_le a b ≡ false
+pub not-le : (a b : ℕ) → b < a → nat_le a b ≡ false
 not-le a b less = by (nat_le a b) refl
   where
     by : (t : Bool) → nat_le a b ≡ t → nat_le a b ≡ false
@@ -49,6 +59,11 @@ not-le a b less = by (nat_le a b) refl
 -- how many bytes there are from a place on
 pub count-from : (contents : List ℕ) (at most : ℕ) → length (bytes_from contents at most) ≡ min most (length contents - at)
 count-from contents at most = length-take most (drop at contents) ∙ ap (λ n. min most n) (length-drop at contents)
+
+-- a buffer is there for the bytes of a lock, if the cells and the registers are the same
+pub room-stays : (cells other : Cells) (regs later : Regs) (lock : Held) → other ≡ cells → later ≡ regs → HasRoom cells regs lock → HasRoom other later lock
+room-stays cells other regs later lock cells_are regs_are room =
+    subst (λ (c : Cells). HasRoom c later lock) (sym cells_are) (subst (λ (r : Regs). HasRoom cells r lock) (sym regs_are) room)
 
 -- what was loaded is no more than was asked for
 pub loaded-few : (file : DiskFile) (at most : ℕ) (buffer : List ℕ) (loaded : Result ℕ FileFault) → IfOk loaded (IsLoaded file at most buffer) → IfOk loaded (λ count. count ≤ most)
@@ -90,6 +105,31 @@ given-bytes kind buffer count n within is =
       ap (λ (b : List ℕ). length b) (sym is) ∙ length-take-le n (take count buffer) within,
     )
 
+-- ---- the step, by whether the path may be written too
+
+module _ (kind : ReadKind) (asker : Asker) (files : Files) (found : rules.OpenFile) where
+  -- where it begins
+  abbrev pub begins : Bool → ℕ
+  begins update = if update then position_of asker files found else found.opened.desc.at
+
+  abbrev pub step-by : Bool → FileStep
+  step-by update =
+      reaches found.place.drive
+      (refuses (nat_le (length found.file.contents) (begins update)) E_EOF
+      (if update then reads_locked kind asker files found (request_now asker files found (read_claim kind asker found
+      (begins update))) (bytes_at kind asker found (begins update)) else reads_freely kind asker files found))
+
+  pub read-by : (update : Bool) → is_for_update found.opened.desc.mode ≡ update → step-by update ≡ read_file kind asker files found
+  unfolding read_file
+  read-by update is = ap step-by (sym is)
+
+  -- and how often the drive is called
+  pub calls-by : (update : Bool) → is_for_update found.opened.desc.mode ≡ update → reading_attempt_calls asker files
+      found ≡ (if update then 1 else 0) + read_calls found.file (begins update) asker.caller.regs.y
+  calls-by update is = ap (λ (u : Bool). (if u then 1 else 0) + read_calls found.file (begins u) asker.caller.regs.y) is
+
+-- ---- a read without a lock
+
 module _ (kind : ReadKind) (m : Inner) (files : Files) (v : DiskVolume) (file : DiskFile) (now : TimePacket) (p : ℕ)
     (opened : OpenFile) (end : CallEnd) (processes : ProcState) (mid : FileState) (new : Io)
     (before after : List DriveView) (terms : List TerminalState) (most : ℕ) (called : CalledAtMost most before after)
@@ -114,7 +154,7 @@ module _ (kind : ReadKind) (m : Inner) (files : Files) (v : DiskVolume) (file : 
   ended = nat_le (length file.contents) at
 
   abbrev given : FileEffect
-  given = answers_bytes asker files found (part_of kind (bytes_here asker found))
+  given = answers_bytes asker files found at (bytes_at kind asker found at)
 
   -- what is read behind the test for the end
   abbrev behind : Bool → FileStep
@@ -122,7 +162,7 @@ module _ (kind : ReadKind) (m : Inner) (files : Files) (v : DiskVolume) (file : 
 
   -- what is done
   abbrev Done : Type 0
-  Done = Ends (read_file kind asker files found) most m files now p end processes (record mid { io = new }) before after terms
+  Done = Ends (reaches drive (behind ended)) most m files now p end processes (record mid { io = new }) before after terms
 
   -- the drive was only read
   keeps : (fault : Option ℕ) → HasRead fault drive files mid before after → KeepsDrives (reaches drive (behind ended)) asker files end before after
@@ -134,14 +174,13 @@ module _ (kind : ReadKind) (m : Inner) (files : Files) (v : DiskVolume) (file : 
 
   -- a fault
   broken : (number : ℕ) → HasRead (Some number) drive files mid before after → IsRefused number m p mid.io end processes new → Done
-  unfolding read_file
   broken number read it = record {
     effect = refuses_so number (with_drives (with_volume files drive v) drives);
     does = breaks (reaches drive (behind ended)) asker files drive number v v drives terms refl is (stays ended) read.moved;
     comes = (it.end_is, it.tied);
     stands =
-        subst (λ (f : Files). StandsFor (record mid { io = new }) after (with_io (with_drives f drives) (with_call f.io p None))) (sym (same-volume files drive v is))
-        (stands-with_io mid after (with_drives files drives) (with_call files.io p None) new (ap (λ (io : Io). with_call io p None) read.stands.io ∙ sym it.io_is) read.stands);
+        inl (subst (λ (f : Files). StandsFor (record mid { io = new }) after (with_io (with_drives f drives) (with_call f.io p None))) (sym (same-volume files drive v is))
+        (stands-with_io mid after (with_drives files drives) (with_call files.io p None) new (ap (λ (io : Io). with_call io p None) read.stands.io ∙ sym it.io_is) read.stands));
     calls = called;
     drives = keeps (Some number) read;
   }
@@ -152,14 +191,14 @@ module _ (kind : ReadKind) (m : Inner) (files : Files) (v : DiskVolume) (file : 
 
   -- the end
   at_end : length file.contents ≤ at → HasRead None drive files mid before after → IsRefused E_EOF m p mid.io end processes new → Done
-  unfolding read_file
   at_end past read it = record {
     effect = with_drives_after (refuses_so E_EOF files) drives;
     does =
         goes-well (reaches drive (behind ended)) asker files (refuses_so E_EOF files) drives terms
         (deed-refused files ended E_EOF (comes (leaves_so given)) (le-leb (length file.contents) at past)) read.moved;
     comes = (it.end_is, it.tied);
-    stands = stands-with_io mid after (with_drives files drives) (with_call files.io p None) new (ap (λ (io : Io). with_call io p None) read.stands.io ∙ sym it.io_is) read.stands;
+    stands =
+        inl (stands-with_io mid after (with_drives files drives) (with_call files.io p None) new (ap (λ (io : Io). with_call io p None) read.stands.io ∙ sym it.io_is) read.stands);
     calls = called;
     drives = keeps None read;
   }
@@ -168,7 +207,6 @@ module _ (kind : ReadKind) (m : Inner) (files : Files) (v : DiskVolume) (file : 
   gives : at < length file.contents → HasRead None drive files mid before after
       → GivesBytes (part_of kind (bytes_from file.contents at (regs_at m p).y)) (regs_at m p) opened m p mid.io end
       processes new → Done
-  unfolding read_file
   gives inside read it = record {
     effect = with_drives_after given drives;
     does =
@@ -177,7 +215,7 @@ module _ (kind : ReadKind) (m : Inner) (files : Files) (v : DiskVolume) (file : 
     comes = (it.end_is, it.tied);
     stands =
         let moved : Io → Io = λ io. with_call (moved_to io opened (at + length (part_of kind (bytes_from file.contents at (regs_at m p).y)))) p None in
-        stands-with_io mid after (with_drives files drives) (moved files.io) new (ap moved read.stands.io ∙ sym it.io_is) read.stands;
+        inl (stands-with_io mid after (with_drives files drives) (moved files.io) new (ap moved read.stands.io ∙ sym it.io_is) read.stands);
     calls = called;
     drives = keeps None read;
   }
@@ -197,3 +235,76 @@ module _ (kind : ReadKind) (m : Inner) (files : Files) (v : DiskVolume) (file : 
   read-ends (Err (Device number)) buffer read device it ends = broken number read ends
   read-ends (Err NoCluster) buffer read device it ends = absurd (false≢true device)
   read-ends (Err TooManyRuns) buffer read device it ends = absurd (false≢true device)
+
+-- ---- a read under a lock that was granted
+
+module _ (kind : ReadKind) (lock : Held) (m : Inner) (files : Files) (v : DiskVolume) (file : DiskFile)
+    (now : TimePacket) (p : ℕ) (opened : OpenFile) (end : CallEnd) (processes : ProcState) (mid new : FileState)
+    (before after : List DriveView) (terms : List TerminalState) (most : ℕ) (called : CalledAtMost most before after)
+    (is : volume_at files opened.place.drive ≡ Some v) (quiet : mid.records ≡ with_waiting files.records p None) where
+  abbrev locked_found : rules.OpenFile
+  locked_found = found_on opened v file
+
+  abbrev given-bytes-of : List ℕ
+  given-bytes-of = bytes_at kind (asker_of m p now) locked_found lock.range.start
+
+  abbrev held : FileEffect
+  held = holds_bytes kind lock (asker_of m p now) files locked_found given-bytes-of
+
+  -- the files as they are once the drive was read, with the records of the machine
+  abbrev read_state : FileState
+  read_state = record mid { records = files.records }
+
+  abbrev Reached : Option ℕ → Type 0
+  Reached fault = HasRead fault opened.place.drive files read_state before after
+
+  abbrev Granted : Type 0
+  Granted = EndsOrLacks (read_granted kind lock (asker_of m p now) files locked_found) most m files now p end processes new before after terms
+
+  -- a fault
+  pub granted-broken : (number : ℕ) (io : Io) → new ≡ record mid { io = io } → Reached (Some number) → IsRefused number m p mid.io end processes io → Granted
+  unfolding read_granted
+  granted-broken number io new_is read it =
+      lacks-none (reaches opened.place.drive (comes (leaves_so held))) most m files now p end processes new before after terms
+      (reached-fails m files now p opened.place.drive (comes (leaves_so held)) read_state before after terms end processes most called number v new is refl read it.end_is it.tied
+      (new_is ∙ ap (λ (io : Io). record mid { io = io }) it.io_is ∙ ap (λ (records : Records). record mid
+      { io = with_call mid.io p None; records = records })
+      (sym (ap (λ (state : FileState). state.records) new_is)))
+      (sym (forgotten-again p files.records) ∙ ap (λ (records : Records). with_waiting records p None) (sym quiet ∙ sym (ap (λ (state : FileState). state.records) new_is))))
+
+  -- bytes
+  pub granted-gives : Reached None → GivesLocked kind lock given-bytes-of (regs_at m p) opened m p mid end processes new → Granted
+  unfolding read_granted
+  granted-gives read it = record {
+    ends = λ some.
+        let done = it.done some in
+        let new_is = it.entered some in
+        let records_are : new.records ≡ holding mid.records opened.path.0 (lock_by kind lock given-bytes-of) given-bytes-of = ap (λ (state : FileState). state.records) new_is in
+        record {
+          effect = with_drives_after held (drive_states after);
+          does = goes-well (reaches opened.place.drive (comes (leaves_so held))) (asker_of m p now) files held (drive_states after) terms refl read.moved;
+          comes = (done.end_is, done.tied);
+          stands = inr (
+            refl,
+            stands-beside p read_state after (with_drives files (drive_states after))
+                (with_call (moved_to files.io opened (lock.range.start + length given-bytes-of)) p None)
+                (holding files.records opened.path.0 (lock_by kind lock given-bytes-of) given-bytes-of) new
+                (new_is ∙ ap (λ (records : Records). record mid { io = new.io; records = records }) (sym records_are))
+                (ap (λ (io : Io). with_call (moved_to io opened (lock.range.start + length given-bytes-of)) p None) read.stands.io ∙ sym done.io_is)
+                (sym (forgotten-again p (holding files.records opened.path.0 (lock_by kind lock given-bytes-of) given-bytes-of))
+                ∙ ap (λ (records : Records). with_waiting (holding records opened.path.0 (lock_by kind lock given-bytes-of) given-bytes-of) p None) (sym quiet)
+                ∙ ap (λ (records : Records). with_waiting records p None) (sym records_are)) read.stands,
+          );
+          calls = called;
+          drives = keeps-read (reaches opened.place.drive (comes (leaves_so held))) (asker_of m p now) files end opened.place.drive before after (inl refl) tt None read_state read;
+        };
+    lacks = λ none. record {
+      effect = with_drives_after held (drive_states after);
+      does = goes-well (reaches opened.place.drive (comes (leaves_so held))) (asker_of m p now) files held (drive_states after) terms refl read.moved;
+      enters = record { entry = got opened.path.0 (lock_by kind lock given-bytes-of) given-bytes-of; is = refl; no_end = λ same. cc };
+      drives = refl;
+      mounted = subst (λ (state : FileState). AreMounted state.disks after files.volumes) (sym (it.lacks none)) read.stands.mounted;
+      calls = called;
+      images = keeps-read (reaches opened.place.drive (comes (leaves_so held))) (asker_of m p now) files end opened.place.drive before after (inl refl) tt None read_state read;
+    };
+  }

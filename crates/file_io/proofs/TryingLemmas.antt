@@ -1,5 +1,5 @@
 -- What an attempt comes to that reaches no drive, and the tests that it passes.
-use Rattle.std.proofs.Common.{◌≡◌, ◌∙◌, ℕ, Bool, true, false, Option, Some, None, is_some, is_none, List, length, sym, ap, refl, subst}
+use Rattle.std.proofs.Common.{◌≡◌, ◌∙◌, ℕ, Bool, true, false, Option, Some, None, is_some, is_none, List, length, sym, ap, refl, subst, inl}
 use Rattle.std.specs.Prelude.{if◌then◌else◌}
 use Rattle.std.proofs.lemmas.Bool.{false≢true}
 use Rattle.os9_base.specs.declared.call.CallEnd.{CallEnd}
@@ -19,14 +19,16 @@ use Rattle.file_rules.specs.Step.{Deed, FileStep, refused, comes, needs, refuses
 use Rattle.file_rules.specs.declared.path_call.PathCall.{PathCall}
 use Rattle.file_state.proofs.CountLemmas.{called-none}
 use Rattle.file_state.proofs.EndLemmas.{goes-well}
-use Rattle.file_state.proofs.KeepLemmas.{ends-attempt, keeps-same}
+use Rattle.file_state.proofs.KeepLemmas.{ends-attempt, keeps-same, lacks-attempt}
+use Rattle.file_state.proofs.RequestLemmas.{lacks-none}
 use Rattle.file_state.proofs.StateLemmas.{stands-with_io}
 use Rattle.file_state.specs.Attempt.{Standing}
 use Rattle.file_state.specs.Counted.{AttemptsIn}
 use Rattle.file_state.specs.Tie.{StandsFor}
 use Rattle.file_state.specs.declared.state.FileState.{FileState}
 use Rattle.file_io.specs.Ending.{IsDone, IsRefused}
-use Rattle.file_state.specs.Ends.{Ends}
+use Rattle.file_state.specs.Ends.{Ends, EndsOrLacks, EndsUnentered}
+use Rattle.file_state.specs.Lacks.{AttemptsOrLacks}
 
 -- the registers of the processes are those of the machine
 pub regs-tied : (s : ProcState) (m : Inner) (p : ℕ) → Represents s m → (record_at s.table p).regs ≡ regs_at m p
@@ -60,7 +62,8 @@ module _ (m : Inner) (files : Files) (now : TimePacket) (p : ℕ) (end : CallEnd
     effect = refuses_so number files;
     does = goes-well (refused number) (asker_of m p now) files (refuses_so number files) files.drives terms refl refl;
     comes = (it.end_is, it.tied);
-    stands = stands-with_io old views files (with_call files.io p None) new (ap (λ (io : Io). with_call io p None) stands.io ∙ sym it.io_is) stands;
+    stands =
+        inl (stands-with_io old views files (with_call files.io p None) new (ap (λ (io : Io). with_call io p None) stands.io ∙ sym it.io_is) stands);
     calls = called-none views;
     drives = keeps-same (refused number) (asker_of m p now) files end views tt;
   }
@@ -73,61 +76,84 @@ module _ (m : Inner) (files : Files) (now : TimePacket) (p : ℕ) (end : CallEnd
     effect = leaves (answers regs) (with_io files (change files.io));
     does = goes-well (done regs (with_io files (change files.io))) (asker_of m p now) files (leaves (answers regs) (with_io files (change files.io))) files.drives terms refl refl;
     comes = (it.end_is, it.tied);
-    stands = stands-with_io old views files (with_call (change files.io) p None) new (ap (λ (io : Io). with_call (change io) p None) stands.io ∙ sym it.io_is) stands;
+    stands =
+        inl (stands-with_io old views files (with_call (change files.io) p None) new (ap (λ (io : Io). with_call (change io) p None) stands.io ∙ sym it.io_is) stands);
     calls = called-none views;
     drives = keeps-same (done regs (with_io files (change files.io))) (asker_of m p now) files end views tt;
   }
+
+  -- the same, since no memory is wanting
+  pub tries-refused : (number : ℕ) → IsRefused number m p old.io end processes new → EndsOrLacks (refused number) most m files now p end processes (record old { io = new }) views views terms
+  tries-refused number it =
+      lacks-none (refused number) most m files now p end processes (record old { io = new }) views views terms (ends-refused number it)
+
+  pub tries-done : (change : Io → Io) (regs : Regs) → IsDone m p regs (change old.io) end processes new
+      → EndsOrLacks (done regs (with_io files (change files.io))) most m files now p end processes
+      (record old { io = new }) views views terms
+  tries-done change regs it =
+      lacks-none (done regs (with_io files (change files.io))) most m files now p end processes (record old { io = new }) views views terms (ends-done change regs it)
 
 module _ (m : Inner) (files : Files) (now : TimePacket) (p : ℕ) (end : CallEnd) (processes : ProcState)
     (new : FileState) (views : List DriveView) (terms : List TerminalState) {most : ℕ} {before : List DriveView} where
   -- ---- the tests of a step
 
   pub ends-needs-none : {A : Type 0} (o : Option A) (number : ℕ) (next : A → FileStep) → o ≡ None
-      → Ends (refused number) most m files now p end processes new before views terms → Ends (needs o number next)
-      most m files now p end processes new before views terms
-  ends-needs-none {A} o number next is ends = subst (λ (o : Option A). Ends (needs o number next) most m files now p end processes new before views terms) (sym is) ends
+      → EndsOrLacks (refused number) most m files now p end processes new before views terms
+      → EndsOrLacks (needs o number next) most m files now p end processes new before views terms
+  ends-needs-none {A} o number next is ends = subst (λ (o : Option A). EndsOrLacks (needs o number next) most m files now p end processes new before views terms) (sym is) ends
 
   pub ends-needs-some : {A : Type 0} (o : Option A) (a : A) (number : ℕ) (next : A → FileStep) → o ≡ Some a
-      → Ends (next a) most m files now p end processes new before views terms → Ends (needs o number next) most m
-      files now p end processes new before views terms
-  ends-needs-some {A} o a number next is ends = subst (λ (o : Option A). Ends (needs o number next) most m files now p end processes new before views terms) (sym is) ends
+      → EndsOrLacks (next a) most m files now p end processes new before views terms
+      → EndsOrLacks (needs o number next) most m files now p end processes new before views terms
+  ends-needs-some {A} o a number next is ends = subst (λ (o : Option A). EndsOrLacks (needs o number next) most m files now p end processes new before views terms) (sym is) ends
 
-  pub ends-refuses-true : (test : Bool) (number : ℕ) (next : FileStep) → test ≡ true → Ends (refused number) most m
-      files now p end processes new before views terms → Ends (refuses test number next) most m files now p end
+  pub ends-refuses-true : (test : Bool) (number : ℕ) (next : FileStep) → test ≡ true → EndsOrLacks (refused number)
+      most m files now p end processes new before views terms → EndsOrLacks (refuses test number next) most m files
+      now p end processes new before views terms
+  ends-refuses-true test number next is ends = subst (λ (t : Bool). EndsOrLacks (refuses t number next) most m files now p end processes new before views terms) (sym is) ends
+
+  pub ends-refuses-false : (test : Bool) (number : ℕ) (next : FileStep) → test ≡ false → EndsOrLacks next most m files
+      now p end processes new before views terms → EndsOrLacks (refuses test number next) most m files now p end
       processes new before views terms
-  ends-refuses-true test number next is ends = subst (λ (t : Bool). Ends (refuses t number next) most m files now p end processes new before views terms) (sym is) ends
+  ends-refuses-false test number next is ends = subst (λ (t : Bool). EndsOrLacks (refuses t number next) most m files now p end processes new before views terms) (sym is) ends
 
-  pub ends-refuses-false : (test : Bool) (number : ℕ) (next : FileStep) → test ≡ false → Ends next most m files now p
-      end processes new before views terms → Ends (refuses test number next) most m files now p end processes new
-      before views terms
-  ends-refuses-false test number next is ends = subst (λ (t : Bool). Ends (refuses t number next) most m files now p end processes new before views terms) (sym is) ends
+  pub ends-if-true : (test : Bool) (one other : FileStep) → test ≡ true → EndsOrLacks one most m files now p end
+      processes new before views terms → EndsOrLacks (if test then one else other) most m files now p end processes
+      new before views terms
+  ends-if-true test one other is ends = subst (λ (t : Bool). EndsOrLacks (if t then one else other) most m files now p end processes new before views terms) (sym is) ends
 
-  pub ends-if-true : (test : Bool) (one other : FileStep) → test ≡ true → Ends one most m files now p end processes
-      new before views terms → Ends (if test then one else other) most m files now p end processes new before views
-      terms
-  ends-if-true test one other is ends = subst (λ (t : Bool). Ends (if t then one else other) most m files now p end processes new before views terms) (sym is) ends
-
-  pub ends-if-false : (test : Bool) (one other : FileStep) → test ≡ false → Ends other most m files now p end
-      processes new before views terms → Ends (if test then one else other) most m files now p end processes new
-      before views terms
-  ends-if-false test one other is ends = subst (λ (t : Bool). Ends (if t then one else other) most m files now p end processes new before views terms) (sym is) ends
+  pub ends-if-false : (test : Bool) (one other : FileStep) → test ≡ false → EndsOrLacks other most m files now p end
+      processes new before views terms → EndsOrLacks (if test then one else other) most m files now p end processes
+      new before views terms
+  ends-if-false test one other is ends = subst (λ (t : Bool). EndsOrLacks (if t then one else other) most m files now p end processes new before views terms) (sym is) ends
 
   -- a step that is another one
-  pub ends-same : (one other : FileStep) → one ≡ other → Ends one most m files now p end processes new before views terms → Ends other most m files now p end processes new before views terms
-  ends-same one other same ends = subst (λ (step : FileStep). Ends step most m files now p end processes new before views terms) same ends
+  pub ends-same : (one other : FileStep) → one ≡ other → EndsOrLacks one most m files now p end processes new before
+      views terms → EndsOrLacks other most m files now p end processes new before views terms
+  ends-same one other same ends = subst (λ (step : FileStep). EndsOrLacks step most m files now p end processes new before views terms) same ends
 
 -- ---- what an attempt did is what its call does
 
 module _ (m : Inner) (files : Files) (now : TimePacket) (p : ℕ) (end : CallEnd) (before after : Standing)
     (terms : List TerminalState) (call : PathCall) (step : FileStep) (is : file_step call (asker_of m p now) files
     (length terms) ≡ step) (most : ℕ) where
-  of-call : Ends step most m files now p end after.processes after.files before.views after.views terms
-      → Ends (file_step call (asker_of m p now) files (length terms)) most m files now p end after.processes
-      after.files before.views after.views terms
-  of-call ends = ends-same m files now p end after.processes after.files after.views terms step (file_step call (asker_of m p now) files (length terms)) (sym is) ends
-
   -- with at most so many calls of the drives
   pub attempts-in : (limit : ℕ) → limit ≡ most → Ends step most m files now p end after.processes after.files
       before.views after.views terms → AttemptsIn limit call m files now p end terms terms before after
   attempts-in limit same ends =
-      subst (λ (n : ℕ). AttemptsIn n call m files now p end terms terms before after) (sym same) (ends-attempt most call m files now p end terms before after (of-call ends))
+      subst (λ (n : ℕ). AttemptsIn n call m files now p end terms terms before after) (sym same)
+      (ends-attempt most call m files now p end terms before after
+      (subst (λ (step : FileStep). Ends step most m files now p end after.processes after.files before.views after.views terms) (sym is) ends))
+
+  -- or memory was wanting for its entry
+  pub tries-in : (limit : ℕ) → limit ≡ most → EndsOrLacks step most m files now p end after.processes after.files
+      before.views after.views terms → AttemptsOrLacks limit call m files now p end terms terms before after
+  tries-in limit same it =
+      subst (λ (n : ℕ). AttemptsOrLacks n call m files now p end terms terms before after) (sym same) (record {
+        attempted = λ some.
+            ends-attempt most call m files now p end terms before after
+            (subst (λ (step : FileStep). Ends step most m files now p end after.processes after.files before.views after.views terms) (sym is) (it.ends some));
+        lacks = λ none.
+            lacks-attempt most call m files now p end terms before after
+            (subst (λ (step : FileStep). EndsUnentered step most m files now p end after.files before.views after.views terms) (sym is) (it.lacks none));
+      })

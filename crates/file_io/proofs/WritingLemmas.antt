@@ -11,6 +11,9 @@ use Rattle.os9_outer.specs.TerminalState.{TerminalState}
 use Rattle.call_rules.specs.Inner.{Inner}
 use Rattle.io_rules.specs.Io.{Io, with_call}
 use Rattle.io_rules.specs.Step.{answers}
+use Rattle.lock_model.specs.History.{put}
+use Rattle.lock_model.specs.Records.{Records, with_waiting, written_by}
+use Rattle.lock_model.specs.declared.lock.Held.{Held}
 use Rattle.proc_state.specs.declared.state.ProcState.{ProcState}
 use Rattle.rbf_access.specs.declared.faults.FileFault.{FileFault}
 use Rattle.rbf_access.specs.declared.faults.FileFault.TheVariants.{Device, NoCluster, TooManyRuns}
@@ -25,20 +28,21 @@ use Rattle.file_drives.proofs.MountedLemmas.{mounted-below}
 use Rattle.file_drives.specs.Calls.{writing_calls}
 use Rattle.file_drives.specs.Changed.{IsRefused as IsNotMade, LeavesVolume, file_answer, is_refused}
 use Rattle.file_drives.specs.Drives.{DriveView, drive_states}
-use Rattle.file_drives.specs.Mounted.{mounted_at}
+use Rattle.file_drives.specs.Mounted.{AreMounted, mounted_at}
 use Rattle.file_rules.specs.Attempts.{asker_of}
 use Rattle.file_rules.specs.Change.{writes}
-use Rattle.file_rules.specs.Files.{Asker, DriveState, Files, volume_at, with_drives, with_io, with_position, with_volume}
+use Rattle.file_rules.specs.Files.{Asker, DriveState, Files, volume_at, with_drives, with_io, with_records, with_volume}
 use Rattle.file_rules.specs.Files as rules
 use Rattle.file_rules.specs.Step.{FileEffect, FileStep, MayBeLeft, VolumeChange, changes, comes, deed_of, leaves, reaches, refuses, refuses_so, with_drives_after, with_volume_after}
 use Rattle.file_rules.specs.Write.{writes_bytes}
 use Rattle.file_state.proofs.CountLemmas.{called-more}
 use Rattle.file_state.proofs.EndLemmas.{asked_of, breaks, goes-well, is-made, is-too-long}
-use Rattle.file_state.proofs.KeepLemmas.{error-keeps, keeps-broken, keeps-made, keeps-refused}
+use Rattle.file_state.proofs.KeepLemmas.{error-keeps, keeps-broken, keeps-made, keeps-refused, keeps-unentered}
 use Rattle.file_state.proofs.ReachedLemmas.{same-volume}
-use Rattle.file_state.proofs.StateLemmas.{stands-with_io}
+use Rattle.file_state.proofs.RequestLemmas.{forgotten-again, lacks-none, stands-beside}
+use Rattle.file_state.specs.Attempt.{without_request}
 use Rattle.file_state.specs.Counted.{CalledAtMost, HasChangedIn}
-use Rattle.file_state.specs.Ends.{Ends}
+use Rattle.file_state.specs.Ends.{Ends, EndsOrLacks}
 use Rattle.file_state.specs.Media.{KeepsDrives}
 use Rattle.file_state.specs.Tie.{StandsFor}
 use Rattle.file_state.specs.declared.state.FileState.{FileState}
@@ -47,11 +51,10 @@ use Rattle.file_io.proofs.OpenedLemmas.{mounted-low}
 use Rattle.file_io.proofs.SizeLemmas.{end-within}
 use Rattle.file_io.proofs.CountLemmas.{writing-few}
 use Rattle.file_io.proofs.TryingLemmas.{deed-goes, deed-refused}
-use Rattle.file_io.specs.Calls.{writing_attempt_calls}
+use Rattle.file_io.specs.Calls.{granted_write_calls}
 use Rattle.file_io.specs.Ending.{EndsWrite, IsRefused}
-use Rattle.file_state.specs.Opened.{path_of}
 use Rattle.file_io.specs.Opened.{found_on, moved_to}
-use Rattle.file_io.specs.Writing.{write_file}
+use Rattle.file_io.specs.Writing.{after_writing, write_file, write_granted}
 
 -- ---- the end of what was written
 
@@ -96,11 +99,11 @@ changed-same number at one other user now result v file drive files mid before a
 
 -- ---- what it comes to
 
-module _ (m : Inner) (files : Files) (v : DiskVolume) (file : DiskFile) (now : TimePacket) (p : ℕ) (opened : OpenFile)
-    (bytes : List ℕ) (regs : Regs) (end : CallEnd) (processes : ProcState) (mid : FileState) (new : Io)
+module _ (lock : Held) (m : Inner) (files : Files) (v : DiskVolume) (file : DiskFile) (now : TimePacket) (p : ℕ)
+    (opened : OpenFile) (bytes : List ℕ) (regs : Regs) (end : CallEnd) (processes : ProcState) (mid new : FileState)
     (before after : List DriveView) (terms : List TerminalState) (is : volume_at files opened.place.drive ≡ Some v)
-    (there : v.files opened.place.number ≡ Some file) (drives_are : files.drives ≡ drive_states before) (count : ℕ)
-    (long : length bytes ≡ count) where
+    (there : v.files opened.place.number ≡ Some file) (drives_are : files.drives ≡ drive_states before)
+    (quiet : mid.records ≡ with_waiting files.records p None) (count : ℕ) (long : length bytes ≡ count) where
   abbrev asker : Asker
   asker = asker_of m p now
 
@@ -111,17 +114,21 @@ module _ (m : Inner) (files : Files) (v : DiskVolume) (file : DiskFile) (now : T
   drive = opened.place.drive
 
   abbrev at : ℕ
-  at = opened.desc.at
+  at = lock.range.start
 
   abbrev drives : List DriveState
   drives = drive_states after
 
+  -- the files as they are once the drive was written, with the records of the machine
+  abbrev written_state : FileState
+  written_state = record mid { records = files.records }
+
   -- what is left beside the volume
   abbrev beside : FileEffect
-  beside = leaves (answers regs) (with_position files (path_of opened) (at + length bytes))
+  beside = leaves (answers regs) (after_writing lock bytes files found)
 
   abbrev change : VolumeChange
-  change = record { drive = drive; change = writes opened.place.number at bytes; effect = λ n. leaves (answers regs) (with_position files (path_of opened) (at + length bytes)) }
+  change = record { drive = drive; change = writes opened.place.number at bytes; effect = λ n. leaves (answers regs) (after_writing lock bytes files found) }
 
   -- fewer clusters are free than it needs
   abbrev full : Bool
@@ -135,30 +142,62 @@ module _ (m : Inner) (files : Files) (v : DiskVolume) (file : DiskFile) (now : T
 
   abbrev Changed : Result (Unit {0}) FileFault → Type 0
   Changed result =
-      HasChangedIn (writing_calls opened.place.number at (length bytes) result v file) (asked_of change asker) (file_answer result) drive v file files mid before after
+      HasChangedIn (writing_calls opened.place.number at (length bytes) result v file) (asked_of change asker) (file_answer result) drive v file files written_state before after
 
-  few : (result : Result (Unit {0}) FileFault) → Changed result → CalledAtMost (writing_attempt_calls count found) before after
+  abbrev Refused : ℕ → Type 0
+  Refused number = IsRefused number m p mid.io end processes new.io × (new ≡ record mid { io = new.io })
+
+  few : (result : Result (Unit {0}) FileFault) → Changed result → CalledAtMost (granted_write_calls lock count asker files found) before after
   few result it =
-      subst (λ (n : ℕ). CalledAtMost (writing_attempt_calls n found) before after) long
+      subst (λ (n : ℕ). CalledAtMost (granted_write_calls lock n asker files found) before after) long
       (called-more (writing_calls opened.place.number at (length bytes) result v file it.changed.left)
-      (writing_attempt_calls (length bytes) found) before after (writing-few opened v file (length bytes)
-      opened.place.number result it.changed.left) it.calls)
+      (granted_write_calls lock (length bytes) asker files found) before after (writing-few opened v file at
+      (length bytes) opened.place.number result it.changed.left) it.calls)
 
   -- it is refused, and the volume is this
-  refused-on : (number : ℕ) (left : DiskVolume) → StandsFor mid after (with_drives (with_volume files drive left)
-      drives) → IsRefused number m p mid.io end processes new → StandsFor (record mid { io = new }) after
-      (with_io (with_drives (with_volume files drive left) drives) (with_call files.io p None))
-  refused-on number left stands it =
-      stands-with_io mid after (with_drives (with_volume files drive left) drives) (with_call files.io p None) new (ap (λ (io : Io). with_call io p None) stands.io ∙ sym it.io_is) stands
+  refused-on : (number : ℕ) (left : DiskVolume) → StandsFor written_state after
+      (with_drives (with_volume files drive left) drives) → Refused number → StandsFor (without_request p new) after
+      (with_records (with_io (with_drives (with_volume files drive left) drives) (with_call files.io p None))
+      (with_waiting files.records p None))
+  refused-on number left stands (it, new_is) =
+      let records_are : new.records ≡ mid.records = ap (λ (state : FileState). state.records) new_is in
+      stands-beside p written_state after (with_drives (with_volume files drive left) drives) (with_call files.io p None) files.records new
+      (new_is ∙ ap (λ (records : Records). record mid { io = new.io; records = records }) (sym records_are))
+      (ap (λ (io : Io). with_call io p None) stands.io ∙ sym it.io_is)
+      (sym (forgotten-again p files.records) ∙ ap (λ (records : Records). with_waiting records p None) (sym quiet ∙ sym records_are)) stands
 
   -- the volume is left as it was
-  refused-as-before : (number : ℕ) (left : DiskVolume) → left ≡ v → StandsFor mid after
-      (with_drives (with_volume files drive left) drives) → IsRefused number m p mid.io end processes new
-      → StandsFor (record mid { io = new }) after (with_io (with_drives files drives) (with_call files.io p None))
+  refused-as-before : (number : ℕ) (left : DiskVolume) → left ≡ v → StandsFor written_state after
+      (with_drives (with_volume files drive left) drives) → Refused number → StandsFor (without_request p new) after
+      (with_records (with_io (with_drives files drives) (with_call files.io p None)) (with_waiting files.records p
+      None))
   refused-as-before number left same stands it =
-      subst (λ (f : Files). StandsFor (record mid { io = new }) after (with_io (with_drives f drives)
-      (with_call f.io p None))) (ap (λ (w : DiskVolume). with_volume files drive w) same ∙ same-volume files drive
-      v is) (refused-on number left stands it)
+      subst (λ (f : Files). StandsFor (without_request p new) after
+      (with_records (with_io (with_drives f drives) (with_call f.io p None)) (with_waiting f.records p None)))
+      (ap (λ (w : DiskVolume). with_volume files drive w) same ∙ same-volume files drive v is)
+      (refused-on number left stands it)
+
+  -- it is made
+  made-on : (done : Unit {0}) → Changed (Ok done) → new ≡ record mid {
+    io = new.io;
+    records = written_by mid.records
+        opened.path.0 lock bytes;
+  } → new.io ≡ with_call (moved_to mid.io opened (at + length bytes)) p None
+      → (left : DiskVolume) → StandsFor written_state after (with_drives (with_volume files drive left) drives)
+      → StandsFor (without_request p new) after
+      (with_records (with_io (with_drives (with_volume files drive left) drives)
+      (with_call (moved_to files.io opened (at + length bytes)) p None))
+      (with_waiting (written_by files.records opened.path.0 lock bytes) p None))
+  made-on done it new_is io_is left stands =
+      let records_are : new.records ≡ written_by mid.records opened.path.0 lock bytes = ap (λ (state : FileState). state.records) new_is in
+      stands-beside p written_state after (with_drives (with_volume files drive left) drives)
+      (with_call (moved_to files.io opened (at + length bytes)) p None) (written_by files.records opened.path.0
+      lock bytes) new
+      (new_is ∙ ap (λ (records : Records). record mid { io = new.io; records = records }) (sym records_are))
+      (ap (λ (io : Io). with_call (moved_to io opened (at + length bytes)) p None) stands.io ∙ sym io_is)
+      (sym (forgotten-again p (written_by files.records opened.path.0 lock bytes))
+      ∙ ap (λ (records : Records). with_waiting (written_by records opened.path.0 lock bytes) p None) (sym quiet)
+      ∙ ap (λ (records : Records). with_waiting records p None) (sym records_are)) stands
 
   -- ---- what it leaves of the drives
 
@@ -172,80 +211,112 @@ module _ (m : Inner) (files : Files) (v : DiskVolume) (file : DiskFile) (now : T
   keeps-all number result it quiet end_is =
       keeps-as (CallEnd.Error number) end_is
       (keeps-refused step asker files (CallEnd.Error number) drive before after (inl refl)
-      (error-keeps (deed_of step files) number) (asked_of change asker) (file_answer result) v file mid it.changed
-      quiet)
+      (error-keeps (deed_of step files) number) (asked_of change asker) (file_answer result) v file written_state
+      it.changed quiet)
 
   keeps-done : (done : Unit {0}) → Changed (Ok done) → end ≡ CallEnd.Done → full ≡ false → KeepsDrives step asker files end before after
   keeps-done done it end_is enough =
-      keeps-as CallEnd.Done end_is (keeps-made step asker files change v file mid before after refl (deed-goes files full E_FULL (changes change) enough) is there 0 it.changed)
+      keeps-as CallEnd.Done end_is (keeps-made step asker files change v file written_state before after refl (deed-goes files full E_FULL (changes change) enough) is there 0 it.changed)
+
+  keeps-lacking : (done : Unit {0}) → Changed (Ok done) → end ≡ CallEnd.NoMemory → full ≡ false → KeepsDrives step asker files end before after
+  keeps-lacking done it end_is enough =
+      keeps-as CallEnd.NoMemory end_is (keeps-unentered step asker files change v file written_state before after refl (deed-goes files full E_FULL (changes change) enough) is there 0 it.changed)
 
   keeps-failed : (number : ℕ) → Changed (Err (Device number)) → end ≡ CallEnd.Error number → (test : Bool) → full ≡ test → KeepsDrives step asker files end before after
   keeps-failed number it end_is true e = keeps-all number (Err (Device number)) it (inr (ap (λ (t : Bool). not true || (t || false)) e)) end_is
   keeps-failed number it end_is false e =
-      keeps-as (CallEnd.Error number) end_is (keeps-broken step asker files change v file mid before after refl (deed-goes files full E_FULL (changes change) e) is there number drives_are it.changed)
+      keeps-as (CallEnd.Error number) end_is (keeps-broken step asker files change v file written_state before after
+      refl (deed-goes files full E_FULL (changes change) e) is there number drives_are it.changed)
 
-  pub write-ends : (result : Result (Unit {0}) FileFault) → Changed result → EndsWrite result (length bytes) regs
-      opened m p mid.io end processes new → Ends (write_file bytes regs asker files found)
-      (writing_attempt_calls count found) m files now p end processes (record mid { io = new }) before after terms
-  unfolding write_file
-  write-ends (Ok done) it ends = record {
-    effect = with_drives_after (with_volume_after beside drive it.changed.left) drives;
-    does =
-        is-made step asker files change v it.changed.left file 0 drives terms (deed-goes files full E_FULL (changes change) it.changed.answers.enough) is it.changed.answers it.changed.moved;
-    comes = (ends.end_is, ends.tied);
-    stands =
-        let moved : Io → Io = λ io. with_call (moved_to io opened (at + length bytes)) p None in
-        stands-with_io mid after (with_drives (with_volume files drive it.changed.left) drives) (moved files.io) new (ap moved it.changed.stands.io ∙ sym ends.io_is) it.changed.stands;
-    calls = few (Ok done) it;
-    drives = keeps-done done it ends.end_is it.changed.answers.enough;
+  -- ---- its end
+
+  abbrev Granted : Type 0
+  Granted =
+      EndsOrLacks step (granted_write_calls lock count asker files found) m files now p end processes new before after terms
+
+  whole : Ends step (granted_write_calls lock count asker files found) m files now p end processes new before after terms → Granted
+  whole it = lacks-none step (granted_write_calls lock count asker files found) m files now p end processes new before after terms it
+
+  write-by : (result : Result (Unit {0}) FileFault) → Changed result → EndsWrite result lock bytes regs opened m p mid end processes new → Granted
+  write-by (Ok done) it ends = record {
+    ends = λ some.
+        let its = ends.done some in record {
+          effect = with_drives_after (with_volume_after beside drive it.changed.left) drives;
+          does =
+              is-made step asker files change v it.changed.left file 0 drives terms (deed-goes files full E_FULL (changes change) it.changed.answers.enough) is it.changed.answers it.changed.moved;
+          comes = (its.end_is, its.tied);
+          stands = inr (refl, made-on done it (ends.entered some) its.io_is it.changed.left it.changed.stands);
+          calls = few (Ok done) it;
+          drives = keeps-done done it its.end_is it.changed.answers.enough;
+        };
+    lacks = λ none. record {
+      effect = with_drives_after (with_volume_after beside drive it.changed.left) drives;
+      does =
+          is-made step asker files change v it.changed.left file 0 drives terms (deed-goes files full E_FULL (changes change) it.changed.answers.enough) is it.changed.answers it.changed.moved;
+      enters = record { entry = put opened.path.0 lock bytes; is = refl; no_end = λ same. cc };
+      drives = refl;
+      mounted =
+          subst (λ (state : FileState). AreMounted state.disks after (with_volume files drive it.changed.left).volumes) (sym (ends.lacks none)) it.changed.stands.mounted;
+      calls = few (Ok done) it;
+      images = keeps-lacking done it none it.changed.answers.enough;
+    };
   }
-  write-ends (Err (Device number)) it ends = record {
+  write-by (Err (Device number)) it (ends, new_is) = whole (record {
     effect = refuses_so number (with_drives (with_volume files drive it.changed.left) drives);
     does = breaks step asker files drive number v it.changed.left drives terms refl is (may full refl) it.changed.moved;
     comes = (ends.end_is, ends.tied);
-    stands = refused-on number it.changed.left it.changed.stands ends;
+    stands = inr (refl, refused-on number it.changed.left it.changed.stands (ends, new_is));
     calls = few (Err (Device number)) it;
     drives = keeps-failed number it ends.end_is full refl;
-  }
+  })
     where
       may : (test : Bool) → full ≡ test → MayBeLeft (deed_of (behind test) files) asker v it.changed.left
       may true e = it.changed.answers.refused (ap (λ (t : Bool). not true || (t || false)) e)
       may false e = it.changed.answers.may_be
-  write-ends (Err NoCluster) it ends = record {
+  write-by (Err NoCluster) it (ends, new_is) = whole (record {
     effect = with_drives_after (refuses_so E_FULL files) drives;
     does = goes-well step asker files (refuses_so E_FULL files) drives terms (deed-refused files full E_FULL (comes (changes change)) it.changed.answers.few) it.changed.moved;
     comes = (ends.end_is, ends.tied);
-    stands = refused-as-before E_FULL it.changed.left it.changed.answers.same it.changed.stands ends;
+    stands = inr (refl, refused-as-before E_FULL it.changed.left it.changed.answers.same it.changed.stands (ends, new_is));
     calls = few (Err NoCluster) it;
     drives = keeps-all E_FULL (Err NoCluster) it (inl tt) ends.end_is;
-  }
-  write-ends (Err TooManyRuns) it ends = record {
+  })
+  write-by (Err TooManyRuns) it (ends, new_is) = whole (record {
     effect = with_drives_after (refuses_so E_SLF files) drives;
     does =
         is-too-long step asker files change v it.changed.left file drives terms (deed-goes files full E_FULL (changes change) it.changed.answers.enough) is refl it.changed.answers it.changed.moved;
     comes = (ends.end_is, ends.tied);
-    stands = refused-as-before E_SLF it.changed.left it.changed.answers.same it.changed.stands ends;
+    stands = inr (refl, refused-as-before E_SLF it.changed.left it.changed.answers.same it.changed.stands (ends, new_is));
     calls = few (Err TooManyRuns) it;
     drives = keeps-all E_SLF (Err TooManyRuns) it (inl tt) ends.end_is;
-  }
+  })
+
+  pub write-ends : (result : Result (Unit {0}) FileFault) → Changed result → EndsWrite result lock bytes regs opened m
+      p mid end processes new → EndsOrLacks (write_granted lock bytes regs asker files found)
+      (granted_write_calls lock count asker files found) m files now p end processes new before after terms
+  unfolding write_granted
+  write-ends result it ends = write-by result it ends
+
+-- ---- other registers and bytes
 
 -- the same, where other registers are answered that are these
 pub ends-writes : (m : Inner) (files : Files) (now : TimePacket) (p : ℕ) (end : CallEnd) (processes : ProcState)
     {most : ℕ} (new : FileState) {before : List DriveView} (views : List DriveView) (terms : List TerminalState)
-    (bytes : List ℕ) (regs other : Regs) (found : rules.OpenFile) → regs ≡ other
-    → Ends (write_file bytes regs (asker_of m p now) files found) most m files now p end processes new before views
-    terms → Ends (writes_bytes files found bytes other) most m files now p end processes new before views terms
+    (code : ℕ) (bytes : List ℕ) (regs other : Regs) (found : rules.OpenFile) → regs ≡ other
+    → EndsOrLacks (write_file code bytes regs (asker_of m p now) files found) most m files now p end processes new
+    before views terms → EndsOrLacks (writes_bytes (asker_of m p now) files found code bytes other) most m files now p
+    end processes new before views terms
 unfolding write_file
-ends-writes m files now p end processes {most} new {before} views terms bytes regs other found same ends =
-    subst (λ (r : Regs). Ends (writes_bytes files found bytes r) most m files now p end processes new before views terms) same ends
+ends-writes m files now p end processes {most} new {before} views terms code bytes regs other found same ends =
+    subst (λ (r : Regs). EndsOrLacks (writes_bytes (asker_of m p now) files found code bytes r) most m files now p end processes new before views terms) same ends
 
 -- the same, where the bytes are these too
 pub ends-write_file : (m : Inner) (files : Files) (now : TimePacket) (p : ℕ) (end : CallEnd) (processes : ProcState)
     {most : ℕ} (new : FileState) {before : List DriveView} (views : List DriveView) (terms : List TerminalState)
-    (bytes line : List ℕ) (regs other : Regs) (found : rules.OpenFile) → bytes ≡ line → regs ≡ other
-    → Ends (write_file bytes regs (asker_of m p now) files found) most m files now p end processes new before views
-    terms → Ends (write_file line other (asker_of m p now) files found) most m files now p end processes new before
-    views terms
-ends-write_file m files now p end processes {most} new {before} views terms bytes line regs other found is same ends =
-    subst (λ (r : Regs). Ends (write_file line r (asker_of m p now) files found) most m files now p end processes new before views terms) same
-    (subst (λ (b : List ℕ). Ends (write_file b regs (asker_of m p now) files found) most m files now p end processes new before views terms) is ends)
+    (code : ℕ) (bytes line : List ℕ) (regs other : Regs) (found : rules.OpenFile) → bytes ≡ line → regs ≡ other
+    → EndsOrLacks (write_file code bytes regs (asker_of m p now) files found) most m files now p end processes new
+    before views terms → EndsOrLacks (write_file code line other (asker_of m p now) files found) most m files now p
+    end processes new before views terms
+ends-write_file m files now p end processes {most} new {before} views terms code bytes line regs other found is same ends =
+    subst (λ (r : Regs). EndsOrLacks (write_file code line r (asker_of m p now) files found) most m files now p end processes new before views terms) same
+    (subst (λ (b : List ℕ). EndsOrLacks (write_file code b regs (asker_of m p now) files found) most m files now p end processes new before views terms) is ends)

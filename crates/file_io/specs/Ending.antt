@@ -1,16 +1,21 @@
 -- The ends of attempts on the file of a path, for the processes and the state of input and output.
 use Rattle.std.specs.Prelude.{◌≡◌, ◌≢◌, ℕ, ◌+◌, None, List, length, Result, Ok, Err}
 use Rattle.os9_base.specs.declared.call.CallEnd.{CallEnd}
-use Rattle.os9_base.specs.declared.call.CallEnd.TheVariants.{Done, Error}
+use Rattle.os9_base.specs.declared.call.CallEnd.TheVariants.{Done, Error, NoMemory}
 use Rattle.os9_base.specs.declared.errors.TheConstants.{E_EOF}
 use Rattle.os9_base.specs.declared.registers.Regs.{Regs}
 use Rattle.call_rules.specs.Inner.{Inner, with_memory, with_regs_of}
 use Rattle.proc_model.specs.MemoryChanges.{stored}
+use Rattle.io_model.specs.declared.terminal.ReadKind.{ReadKind}
 use Rattle.io_rules.specs.Io.{Io, with_call}
+use Rattle.lock_model.specs.Records.{Records, holding, written_by}
+use Rattle.lock_model.specs.declared.lock.Held.{Held}
 use Rattle.proc_state.specs.Tie.{Represents}
 use Rattle.proc_state.specs.declared.state.ProcState.{ProcState}
 use Rattle.rbf_access.specs.Faults.{file_error}
 use Rattle.rbf_access.specs.declared.faults.FileFault.{FileFault}
+use Rattle.file_rules.specs.Read.{lock_by}
+use Rattle.file_state.specs.declared.state.FileState.{FileState}
 use Rattle.file_state.specs.declared.state.OpenFile.{OpenFile}
 use Rattle.file_io.specs.Opened.{moved_to}
 
@@ -48,13 +53,30 @@ pub record EndsFound (found given : List ℕ) (regs : Regs) (opened : OpenFile) 
   pub none : length found ≡ 0 → IsRefused E_EOF m p io end processes new
   pub some : length found ≢ 0 → GivesBytes given regs opened m p io end processes new
 
--- ---- writes
+-- ---- entries in the history
 
--- a write of `count` bytes with this result: if it is done, its process has these registers, and the position is after
--- the bytes
-abbrev pub EndsWrite : Result (Unit {0}) FileFault → ℕ → Regs → OpenFile → Inner → ℕ → Io → CallEnd → ProcState → Io
-    → Type 0
-EndsWrite (Ok done) count regs opened m p io end processes new =
-    IsDone m p regs (moved_to io opened (opened.desc.at + count)) end processes new
-EndsWrite (Err fault) count regs opened m p io end processes new =
-    IsRefused (file_error fault) m p io end processes new
+-- the call of a process is done, with these registers, and its entry makes the records these: it leaves this but for
+-- what is kept of the call. Or memory was wanting for the entry, and the state is as it was
+pub record EndsEntered (m : Inner) (p : ℕ) (regs : Regs) (io : Io) (records : Records) (state : FileState)
+    (end : CallEnd) (processes : ProcState) (new : FileState) : Type 0 where
+  pub done : end ≢ NoMemory → IsDone m p regs io end processes new.io
+  pub entered : end ≢ NoMemory → new ≡ record state { io = new.io; records = records }
+  pub lacks : end ≡ NoMemory → new ≡ state
+
+-- a read of these bytes under a lock, which the path then holds; the position is behind them
+abbrev pub GivesLocked : ReadKind → Held → List ℕ → Regs → OpenFile → Inner → ℕ → FileState → CallEnd → ProcState
+    → FileState → Type 0
+GivesLocked kind lock bytes regs opened m p state end processes new =
+    EndsEntered (with_bytes m p regs.x bytes) p (record regs { y = length bytes })
+    (moved_to state.io opened (lock.range.start + length bytes))
+    (holding state.records opened.path.0 (lock_by kind lock bytes) bytes) state end processes new
+
+-- a write of these bytes under a lock that was answered so: if it is done its process has these registers, the position
+-- is behind the bytes, and the path holds no lock
+abbrev pub EndsWrite : Result (Unit {0}) FileFault → Held → List ℕ → Regs → OpenFile → Inner → ℕ → FileState → CallEnd
+    → ProcState → FileState → Type 0
+EndsWrite (Ok done) lock bytes regs opened m p state end processes new =
+    EndsEntered m p regs (moved_to state.io opened (lock.range.start + length bytes))
+    (written_by state.records opened.path.0 lock bytes) state end processes new
+EndsWrite (Err fault) lock bytes regs opened m p state end processes new =
+    IsRefused (file_error fault) m p state.io end processes new.io × (new ≡ record state { io = new.io })

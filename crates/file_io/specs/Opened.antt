@@ -2,7 +2,7 @@
 use Rattle.std.specs.Prelude.{◌≡◌, ℕ, true, Option, Some, List}
 use Rattle.rbf_model.specs.File.{DiskFile}
 use Rattle.rbf_model.specs.Volume.{DiskVolume}
-use Rattle.io_model.specs.Path.{desc_of, with_desc}
+use Rattle.io_model.specs.Path.{with_desc}
 use Rattle.io_rules.specs.Io.{Io, with_paths}
 use Rattle.io_rules.specs.Modes.{can_write}
 pub use Rattle.device_io.specs.Leaving.{ReadsNoTerminal}
@@ -12,16 +12,13 @@ use Rattle.file_drives.specs.Mounted.{HasDataFileAt, HasFileAt}
 use Rattle.file_rules.specs.Files as rules
 use Rattle.file_laws.specs.Kinds.{AreKinds}
 use Rattle.file_state.specs.Attempt.{Standing}
+pub use Rattle.file_state.specs.Opened.{IsPathOf}
 use Rattle.file_state.specs.Opened.{IsFileOf, path_of}
 use Rattle.file_state.specs.Tie.{StandsFor}
 use Rattle.file_state.specs.declared.state.FileState.{FileState}
 use Rattle.file_state.specs.declared.state.OpenFile.{OpenFile}
 
--- the descriptor is that of the system path
-abbrev pub IsPathOf : Io → OpenFile → Type 0
-IsPathOf io opened = desc_of io.paths opened.path.0 ≡ Some opened.desc
-
--- and its file exists
+-- the path and its file are there
 pub record IsOnFile (opened : OpenFile) (before : Standing) : Type 0 where
   pub path : IsPathOf before.files.io opened
   pub file : HasFileAt before.files.disks before.views opened.place

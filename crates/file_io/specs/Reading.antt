@@ -1,33 +1,33 @@
 -- Reads of a file, by the part that they take of the bytes that are there.
-use Rattle.std.specs.Prelude.{◌≡◌, ◌≢◌, ℕ, is_none, List, length, take, Result, Ok, Err}
+use Rattle.std.specs.Prelude.{◌≡◌, ◌≢◌, ℕ, true, IfSome, is_none, List, length, take, Result, Ok, Err}
 use Rattle.os9_base.specs.Cells.{Cells, FitsIn}
 use Rattle.os9_base.specs.declared.call.CallEnd.{CallEnd}
 use Rattle.os9_base.specs.declared.errors.TheConstants.{E_BPADDR}
 use Rattle.os9_base.specs.declared.registers.Regs.{Regs}
 use Rattle.call_rules.specs.Inner.{Inner}
 use Rattle.call_rules.specs.UserBytes.{user_bytes}
-use Rattle.io_model.specs.Line.{first_line}
 use Rattle.io_model.specs.declared.terminal.ReadKind.{ReadKind}
-use Rattle.io_model.specs.declared.terminal.ReadKind.TheVariants.{Bytes, WholeLine}
 use Rattle.io_rules.specs.Io.{Io}
+use Rattle.lock_model.specs.Laws.{Covers}
+use Rattle.lock_model.specs.Locks.{Locks, request_of}
+use Rattle.lock_model.specs.Records.{holding}
+use Rattle.lock_model.specs.declared.lock.Held.{Held}
 use Rattle.io_rules.specs.Modes.{can_read}
 use Rattle.proc_state.specs.declared.state.ProcState.{ProcState}
 use Rattle.rbf_access.specs.Faults.{file_error}
 use Rattle.rbf_access.specs.declared.faults.FileFault.{FileFault}
 use Rattle.rbf_change.specs.Contents.{bytes_from}
 use Rattle.rbf_model.specs.File.{DiskFile}
+use Rattle.file_rules.specs.Locking.{is_for_update}
 use Rattle.file_rules.specs.Files as rules
-use Rattle.file_rules.specs.Files.{Asker, Files}
+use Rattle.file_rules.specs.Files.{Asker, Files, with_records}
 use Rattle.file_rules.specs.OnFile.{moves_bytes}
-use Rattle.file_rules.specs.Read.{reads_file}
-use Rattle.file_rules.specs.Step.{FileStep, refuses}
+pub use Rattle.file_rules.specs.Read.{part_of}
+use Rattle.file_rules.specs.Read.{answers_bytes, bytes_at, lock_by, reads_file}
+use Rattle.file_rules.specs.Step.{FileEffect, FileStep, comes, leaves_so, reaches, refuses}
+use Rattle.file_state.specs.Asking.{MayAsk}
 use Rattle.file_state.specs.declared.state.OpenFile.{OpenFile}
 use Rattle.file_io.specs.Ending.{EndsFound, IsRefused}
-
--- the part of these bytes that a read takes: all, or the first line
-abbrev pub part_of : ReadKind → List ℕ → List ℕ
-part_of Bytes bytes = bytes
-part_of WholeLine bytes = first_line bytes
 
 -- the bytes of a file from a place on, at most `most`, are at the front of a buffer, and this is their count
 pub record IsLoaded (file : DiskFile) (at most : ℕ) (buffer : List ℕ) (count : ℕ) : Type 0 where
@@ -39,9 +39,39 @@ pub record IsBuffer (cells : Cells) (regs : Regs) : Type 0 where
   pub named : FitsIn cells regs.x regs.y
   pub some : regs.y ≢ 0
 
+-- a buffer at X is there for the bytes that a lock has from its start on, as many as Y
+pub record HasRoom (cells : Cells) (regs : Regs) (lock : Held) : Type 0 where
+  pub named : FitsIn cells regs.x regs.y
+  pub covers : Covers lock.range regs.y
+
+-- a process may read a path so, for some bytes: if it waits in a request, that is for as many
+pub record MayRead (io : Io) (locks : Locks) (p : ℕ) (opened : OpenFile) (regs : Regs) : Type 0 where
+  pub asks : MayAsk io locks p opened
+  pub count : IfSome (request_of locks p) (λ request. request.count ≡ regs.y)
+
+-- and the path may be written too
+pub record MayUpdate (io : Io) (locks : Locks) (p : ℕ) (opened : OpenFile) (regs : Regs) : Type 0 where
+  pub read : MayRead io locks p opened regs
+  pub update : is_for_update opened.desc.mode ≡ true
+
+-- ---- steps
+
+-- these bytes are read under a lock that was granted, which the path then holds
+abbrev pub holds_bytes : ReadKind → Held → Asker → Files → rules.OpenFile → List ℕ → FileEffect
+holds_bytes kind lock asker files opened bytes =
+    answers_bytes asker
+    (with_records files (holding files.records opened.opened.path.0 (lock_by kind lock bytes) bytes)) opened
+    lock.range.start bytes
+
+-- what is read from the start of a lock that was granted
+unfoldable pub read_granted : ReadKind → Held → Asker → Files → rules.OpenFile → FileStep
+read_granted kind lock asker files opened =
+    reaches opened.place.drive
+    (comes (leaves_so (holds_bytes kind lock asker files opened (bytes_at kind asker opened lock.range.start))))
+
 -- an attempt that has a byte to move, on a path that may be read
 unfoldable pub read_file : ReadKind → Asker → Files → rules.OpenFile → FileStep
-read_file kind asker files opened = reads_file asker files (part_of kind) opened
+read_file kind asker files opened = reads_file kind asker files opened
 
 -- an attempt whose buffer is in named slots
 unfoldable pub read_named : ReadKind → Asker → Files → rules.OpenFile → FileStep

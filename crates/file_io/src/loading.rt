@@ -6,7 +6,7 @@ ghost use Rattle.file_io.specs.Reading.{IsLoaded, part_of};
 ghost use Rattle.file_drives.specs.Drives.{drive_views};
 ghost use Rattle.file_drives.specs.Mounted.{HasFileAt, OnDisks, ReadsFile};
 ghost use Rattle.guest_memory.specs.Tie.{cells_of};
-ghost use Rattle.io_model.specs.Line.{line_length as line_length_lem, return_place};
+ghost use Rattle.io_model.specs.Line.{has_return as has_return_lem, line_length as line_length_lem, return_place};
 ghost use Rattle.os9_base.specs.Cells.{FitsIn};
 ghost use Rattle.proc_model.specs.MemoryChanges.{stored};
 ghost use Rattle.proc_state.specs.Tie.{IsSame, Represents};
@@ -15,9 +15,9 @@ ghost use Rattle.rbf_access.specs.Reading.{read_calls};
 
 use device_table::devices::Devices;
 use file_drives::disks::Disks;
-use file_rules::places::FilePlace;
 use io_model::keys::RETURN;
 use io_model::terminal::ReadKind;
+use lock_model::place::FilePlace;
 use os9_base::registers::Pid;
 use os9_outer::drive::BlockDriver;
 use proc_state::state::ProcState;
@@ -100,6 +100,13 @@ fn line_length(bytes: &[u8]) -> usize
         Some(place) => place + 1,
         None => bytes.len(),
     }
+}
+
+/// Is a carriage return among the bytes?
+pub(crate) fn has_return(bytes: &[u8]) -> bool
+    ensures { result ≡ has_return_lem bytes.now }
+{
+    place_of_return(bytes).is_some()
 }
 
 /// The place of the first carriage return.

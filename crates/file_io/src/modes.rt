@@ -2,6 +2,7 @@
 
 ghost use Rattle.std.specs.Prelude.{◌≡◌};
 ghost use Rattle.io_rules.specs.Modes.{can_read as can_read_lem, can_write as can_write_lem};
+ghost use Rattle.file_rules.specs.Locking.{is_for_update as is_for_update_lem};
 
 use io_rules::modes::{MODE_EXECUTE, MODE_READ, MODE_WRITE};
 
@@ -17,4 +18,11 @@ pub(crate) fn can_write(mode: u8) -> bool
     ensures { result ≡ can_write_lem mode }
 {
     mode & MODE_WRITE != 0
+}
+
+/// May a path of this mode be read and written? Then its reads request records, and it may hold one.
+pub(crate) fn is_for_update(mode: u8) -> bool
+    ensures { result ≡ is_for_update_lem mode }
+{
+    mode & MODE_READ != 0 && mode & MODE_WRITE != 0
 }

@@ -1,21 +1,29 @@
 //! I$Write, I$WritLn and F$PErr (System Programmer's Manual, I$Write, I$WritLn and F$PErr).
 
-ghost use Rattle.std.specs.Prelude.{◌≡◌, ℕ, ◌+◌, ◌<◌, ◌≤◌, ◌^◌, IsOk, List, length, take};
-ghost use Rattle.call_rules.specs.Inner.{Inner};
-ghost use Rattle.file_io.specs.Calls.{f_perr_calls, i_writln_calls, i_write_calls, writing_attempt_calls};
+ghost use Rattle.std.specs.Prelude.{◌≡◌, ◌≢◌, ℕ, ◌+◌, ◌<◌, ◌≤◌, ◌^◌, false, IfSome, IsOk, List, Ok, Some, length, option_map, take};
+ghost use Rattle.call_rules.specs.Inner.{Inner, cells_at};
+ghost use Rattle.call_rules.specs.UserBytes.{user_bytes};
+ghost use Rattle.file_io.specs.Calls.{f_perr_calls, granted_write_calls, i_writln_calls, i_write_calls, writing_attempt_calls};
 ghost use Rattle.file_io.specs.Ending.{EndsWrite};
 ghost use Rattle.file_io.specs.Opened.{IsOpened, IsPathOf, MayBeWritten, ReadsNoTerminal};
-ghost use Rattle.file_io.specs.Trying.{Tries};
-ghost use Rattle.file_io.specs.Writing.{write_file as write_file_lem, write_opened as write_opened_lem};
+ghost use Rattle.file_io.specs.Sending.{IsSending, MayWrite};
+ghost use Rattle.file_io.specs.Trying.{Tries, TriesGranted};
+ghost use Rattle.file_io.specs.Writing.{line_of, write_file as write_file_lem, write_granted as write_granted_lem, write_opened as write_opened_lem};
 ghost use Rattle.file_drives.specs.Drives.{drive_views};
 ghost use Rattle.file_drives.specs.Mounted.{HasDataFileAt};
 ghost use Rattle.file_rules.specs.declared.path_call.PathCall.TheVariants as Call;
+ghost use Rattle.file_rules.specs.Locking.{call_of};
+ghost use Rattle.file_state.specs.Asking.{IsGranted, KeepsRequest, MayAsk, TriesAgain};
 ghost use Rattle.file_state.specs.Attempt.{standing};
-ghost use Rattle.file_state.specs.Counted.{AttemptsWithin};
+ghost use Rattle.file_state.specs.Lacks.{TriesWithin};
 ghost use Rattle.file_state.specs.Tie.{IsSound};
+ghost use Rattle.io_rules.specs.Io.{kept_at};
 ghost use Rattle.io_rules.specs.Modes.{can_write as can_write_lem};
 ghost use Rattle.io_rules.specs.Write.{error_line as error_line_lem};
+ghost use Rattle.io_rules.specs.declared.io_call.IoCall.TheVariants as Device;
 ghost use Rattle.io_rules.specs.declared.modes.TheConstants.{STANDARD_ERROR};
+ghost use Rattle.lock_model.specs.Conflict.{conflicts};
+ghost use Rattle.lock_model.specs.Locks.{request_of};
 ghost use Rattle.os9_outer.specs.TerminalState.{TerminalState};
 ghost use Rattle.proc_rules.specs.Records.{IsLiving, record_at};
 ghost use Rattle.proc_state.specs.Tie.{IsSame, Represents};
@@ -23,9 +31,12 @@ ghost use Rattle.proc_state.specs.Tie.{IsSame, Represents};
 use crate::ends::{answer, answer_at, refuse};
 use crate::modes::can_write;
 use device_table::devices::Devices;
+use file_rules::claim::Claim;
+use file_state::asking::range_of;
 use file_state::state::{FileState, OpenFile};
-use io_state::state::IoState;
+use lock_model::lock::{Held, Request};
 use os9_base::call::CallEnd;
+use os9_base::calls::{F_PERR, I_WRITE, I_WRITLN};
 use os9_base::errors::{E_BMODE, E_BPADDR};
 use os9_base::registers::{Pid, Regs, TimePacket};
 use os9_outer::drive::BlockDriver;
@@ -38,14 +49,17 @@ const ERROR_LINE_BYTES: u16 = 11;
 /// I$Write to a file on the path that the number in A names, at this time (System Programmer's
 /// Manual, I$Write). Takes the address of the bytes in X and their count in Y; returns the count in
 /// Y. The position moves past the bytes written. If the write begins past the old end, zeros fill
-/// the gap.
+/// the gap. The path then holds no lock (Level Two manual, RBF record locking). The call waits if
+/// another process holds a byte of its range.
 ///
 /// # Errors
 ///
 /// E$BPAddr exactly if one of the bytes is in no named slot or past `FFFF`, else E$BMode exactly if
 /// the path may not be written. If Y is 0, the write is done then. Else the number of the fault, if
-/// the drive fails; E$Full exactly if fewer clusters are free than the write needs; E$SLF if the
-/// list of segments has no place for a chosen cluster.
+/// the drive fails; E$Lock or E$DeadLk, as the request is answered; E$Full exactly if fewer
+/// clusters are free than the write needs; E$SLF if the list of segments has no place for a chosen
+/// cluster. `NoMemory` is returned only if the history had no room for the entry of a write that is
+/// done.
 pub fn write(
     s: &mut ProcState,
     files: &mut FileState,
@@ -55,12 +69,12 @@ pub fn write(
     now: TimePacket,
 ) -> CallEnd
     requires lives { IsLiving s.old.table p.0 }
-    requires no_read { ReadsNoTerminal files.old.io p.0 }
+    requires again { TriesAgain Device.Write (record_at s.old.table p.0).regs files.old p.0 }
     requires sound { IsSound files.old
         (drive_views ⟦<dyn BlockDriver as BlockDriver>⟧ devices.old.drives.items) }
     requires opened { IsOpened files.old p.0 (record_at s.old.table p.0).regs.a opened.now }
     ensures call { (terms : List TerminalState)
-        → AttemptsWithin i_write_calls Call.Write now p.0 result terms terms
+        → TriesWithin i_write_calls Call.Write now p.0 result terms terms
         (standing ⟦<dyn BlockDriver as BlockDriver>⟧ s.old files.old devices.old.drives.items)
         (standing ⟦<dyn BlockDriver as BlockDriver>⟧ s.new files.new devices.new.drives.items) }
     ensures lives { IsLiving s.new.table p.0 }
@@ -70,7 +84,12 @@ pub fn write(
     if !s.read_bytes(p, regs.x, regs.y) {
         return refuse(&mut files.io, p, E_BPADDR);
     }
-    send(s, files, devices, p, regs, opened, regs.y, now)
+    let sent = Sending {
+        code: I_WRITE,
+        count: regs.y,
+        done: regs,
+    };
+    send(s, files, devices, p, opened, sent, now)
 }
 
 /// I$WritLn to a file on the path that the number in A names, at this time (System Programmer's
@@ -89,21 +108,74 @@ pub fn write_line(
     now: TimePacket,
 ) -> CallEnd
     requires lives { IsLiving s.old.table p.0 }
-    requires no_read { ReadsNoTerminal files.old.io p.0 }
+    requires again { TriesAgain Device.WritLn (record_at s.old.table p.0).regs files.old p.0 }
     requires sound { IsSound files.old
         (drive_views ⟦<dyn BlockDriver as BlockDriver>⟧ devices.old.drives.items) }
     requires opened { IsOpened files.old p.0 (record_at s.old.table p.0).regs.a opened.now }
     ensures call { (terms : List TerminalState)
-        → AttemptsWithin i_writln_calls Call.WritLn now p.0 result terms terms
+        → TriesWithin i_writln_calls Call.WritLn now p.0 result terms terms
         (standing ⟦<dyn BlockDriver as BlockDriver>⟧ s.old files.old devices.old.drives.items)
         (standing ⟦<dyn BlockDriver as BlockDriver>⟧ s.new files.new devices.new.drives.items) }
     ensures lives { IsLiving s.new.table p.0 }
     ensures terms_kept { devices.new.terms ≡ devices.old.terms }
 {
     let regs = s.table.regs(p);
-    match s.read_line(p, regs.x, regs.y) {
+    match line_count(s, files, p, regs) {
         None => refuse(&mut files.io, p, E_BPADDR),
-        Some(count) => send(s, files, devices, p, regs, opened, count as u16, now),
+        Some(count) => {
+            let sent = Sending {
+                code: I_WRITLN,
+                count,
+                done: Regs { y: count, ..regs },
+            };
+            send(s, files, devices, p, opened, sent, now)
+        }
+    }
+}
+
+/// How many bytes a line write moves, which are then at the front of the buffer: up to and with the
+/// first carriage return, but as many as its first attempt found at a further one. None if one of
+/// them is not there.
+fn line_count(s: &mut ProcState, files: &FileState, p: Pid, regs: Regs) -> Option<u16>
+    requires process { p.0 < 33 }
+    requires kept { KeepsRequest files.now.io files.now.records.locks p.0 }
+    ensures line { (m : Inner) → Represents s.old m → line_of
+        (request_of files.now.records.locks p.0) (cells_at m p.0) regs
+        ≡ option_map (λ count. take count s.new.buffer.items) result }
+    ensures some { IfSome result (λ count. regs.y ≢ 0 → 0 < count) }
+    ensures same { IsSame s.old s.new }
+{
+    match files.records.locks().request_of(p) {
+        None => {
+            let count = s.read_line(p, regs.x, regs.y)?;
+            Some(count as u16)
+        }
+        Some(request) => kept_count(s, files, p, regs, request),
+    }
+}
+
+/// How many bytes a line write moves that waits in a request: as many as its first attempt found.
+fn kept_count(
+    s: &mut ProcState,
+    files: &FileState,
+    p: Pid,
+    regs: Regs,
+    request: Request,
+) -> Option<u16>
+    requires process { p.0 < 33 }
+    requires kept { kept_at files.now.io p.0 ≡ Some (call_of request) }
+    ensures line { (m : Inner) → Represents s.old m
+        → user_bytes (cells_at m p.0) regs.x request.count
+        ≡ option_map (λ count. take count s.new.buffer.items) result }
+    ensures some { IfSome result (λ count. 0 < count) }
+    ensures same { IsSame s.old s.new }
+{
+    // A call that waits has a byte left to move.
+    prove!(files.io.kept(p).is_some());
+    if s.read_bytes(p, regs.x, request.count) {
+        Some(request.count)
+    } else {
+        None
     }
 }
 
@@ -112,9 +184,7 @@ pub fn write_line(
 ///
 /// # Errors
 ///
-/// E$BMode exactly if the path may not be written. Else the number of the fault, if the drive
-/// fails; E$Full exactly if fewer clusters are free than the write needs; E$SLF if the list of
-/// segments has no place for a chosen cluster.
+/// E$BMode exactly if the path may not be written. Else as [`write`].
 pub fn write_error(
     s: &mut ProcState,
     files: &mut FileState,
@@ -124,12 +194,12 @@ pub fn write_error(
     now: TimePacket,
 ) -> CallEnd
     requires lives { IsLiving s.old.table p.0 }
-    requires no_read { ReadsNoTerminal files.old.io p.0 }
+    requires again { TriesAgain Device.PErr (record_at s.old.table p.0).regs files.old p.0 }
     requires sound { IsSound files.old
         (drive_views ⟦<dyn BlockDriver as BlockDriver>⟧ devices.old.drives.items) }
     requires opened { IsOpened files.old p.0 STANDARD_ERROR opened.now }
     ensures call { (terms : List TerminalState)
-        → AttemptsWithin f_perr_calls Call.PErr now p.0 result terms terms
+        → TriesWithin f_perr_calls Call.PErr now p.0 result terms terms
         (standing ⟦<dyn BlockDriver as BlockDriver>⟧ s.old files.old devices.old.drives.items)
         (standing ⟦<dyn BlockDriver as BlockDriver>⟧ s.new files.new devices.new.drives.items) }
     ensures lives { IsLiving s.new.table p.0 }
@@ -140,28 +210,41 @@ pub fn write_error(
         return refuse(&mut files.io, p, E_BMODE);
     }
     put_error_line(s, regs.b);
-    write_file(s, files, devices, p, regs, opened, ERROR_LINE_BYTES, now)
+    let sent = Sending {
+        code: F_PERR,
+        count: ERROR_LINE_BYTES,
+        done: regs,
+    };
+    write_file(s, files, devices, p, opened, sent, now)
 }
 
-/// An attempt to write the first `count` bytes of the buffer. It returns the count in Y.
+/// A write of the bytes at the front of the buffer: the code of its call, their count, and the
+/// registers that it answers.
+#[derive(Clone, Copy, Debug, PartialEq, Eq)]
+struct Sending {
+    code: u8,
+    count: u16,
+    done: Regs,
+}
+
+/// An attempt to write bytes at the front of the buffer.
 fn send(
     s: &mut ProcState,
     files: &mut FileState,
     devices: &mut Devices,
     p: Pid,
-    regs: Regs,
     opened: &OpenFile,
-    count: u16,
+    sent: Sending,
     now: TimePacket,
 ) -> CallEnd
     requires lives { IsLiving s.old.table p.0 }
     requires no_read { ReadsNoTerminal files.old.io p.0 }
-    requires regs { regs ≡ (record_at s.old.table p.0).regs }
-    requires path { IsPathOf files.old.io opened.now }
     requires file { MayBeWritten opened.now files.old.disks
         (drive_views ⟦<dyn BlockDriver as BlockDriver>⟧ devices.old.drives.items) }
-    ensures call { Tries (write_opened_lem (take count s.old.buffer.items))
-        (λ asker. writing_attempt_calls count) opened.now now p.0 result
+    requires may { MayWrite files.old.io files.old.records.locks p.0 opened.now
+        (record_at s.old.table p.0).regs sent }
+    ensures call { Tries (write_opened_lem sent.code (take sent.count s.old.buffer.items))
+        (writing_attempt_calls sent.count) opened.now now p.0 result
         (standing ⟦<dyn BlockDriver as BlockDriver>⟧ s.old files.old devices.old.drives.items)
         (standing ⟦<dyn BlockDriver as BlockDriver>⟧ s.new files.new devices.new.drives.items) }
     ensures lives { IsLiving s.new.table p.0 }
@@ -170,67 +253,135 @@ fn send(
     if !can_write(opened.desc.mode) {
         return refuse(&mut files.io, p, E_BMODE);
     }
+    let regs = s.table.regs(p);
     if regs.y == 0 {
         return answer(s, &mut files.io, p, regs);
     }
-    let done = Regs { y: count, ..regs };
-    write_file(s, files, devices, p, done, opened, count, now)
+    write_file(s, files, devices, p, opened, sent, now)
 }
 
-/// An attempt to write the first `count` bytes of the buffer on a path that may be written. It
-/// returns these registers.
+/// An attempt to write bytes at the front of the buffer, on a path that may be written: it requests
+/// the range that it writes.
 fn write_file(
     s: &mut ProcState,
     files: &mut FileState,
     devices: &mut Devices,
     p: Pid,
-    regs: Regs,
     opened: &OpenFile,
-    count: u16,
+    sent: Sending,
+    now: TimePacket,
+) -> CallEnd
+    requires lives { IsLiving s.old.table p.0 }
+    requires no_read { ReadsNoTerminal files.old.io p.0 }
+    requires asks { MayAsk files.old.io files.old.records.locks p.0 opened.now }
+    requires sends { IsSending sent }
+    requires file { HasDataFileAt files.old.disks
+        (drive_views ⟦<dyn BlockDriver as BlockDriver>⟧ devices.old.drives.items) opened.now.place }
+    ensures call { Tries (write_file_lem sent.code (take sent.count s.old.buffer.items) sent.done)
+        (writing_attempt_calls sent.count) opened.now now p.0 result
+        (standing ⟦<dyn BlockDriver as BlockDriver>⟧ s.old files.old devices.old.drives.items)
+        (standing ⟦<dyn BlockDriver as BlockDriver>⟧ s.new files.new devices.new.drives.items) }
+    ensures lives { IsLiving s.new.table p.0 }
+    ensures terms_kept { devices.new.terms ≡ devices.old.terms }
+{
+    let size = match files.disks.fd(devices, opened.place) {
+        Ok(fd) => fd.size,
+        Err(fault) => return refuse(&mut files.io, p, fault.number()),
+    };
+    let claim = Claim {
+        code: sent.code,
+        count: sent.count,
+        range: range_of(size, opened.desc.at, u32::from(sent.count)),
+    };
+    let request = files.request_now(p, opened, claim, s.tick);
+    if let Some(end) = files.ask(p, request, s.tick) {
+        return end;
+    }
+    write_granted(s, files, devices, p, opened, sent, request.lock, now)
+}
+
+/// A write at the start of the lock that it was granted. The path then holds no lock.
+fn write_granted(
+    s: &mut ProcState,
+    files: &mut FileState,
+    devices: &mut Devices,
+    p: Pid,
+    opened: &OpenFile,
+    sent: Sending,
+    lock: Held,
     now: TimePacket,
 ) -> CallEnd
     requires lives { IsLiving s.old.table p.0 }
     requires no_read { ReadsNoTerminal files.old.io p.0 }
     requires path { IsPathOf files.old.io opened.now }
     requires file { HasDataFileAt files.old.disks
-        (drive_views ⟦<dyn BlockDriver as BlockDriver>⟧ devices.old.drives.items)
-        opened.now.place }
-    ensures call { Tries (write_file_lem (take count s.old.buffer.items) regs)
-        (λ asker. writing_attempt_calls count) opened.now now p.0 result
+        (drive_views ⟦<dyn BlockDriver as BlockDriver>⟧ devices.old.drives.items) opened.now.place }
+    requires granted { IsGranted files.old.records.locks lock }
+    ensures call { TriesGranted (write_granted_lem lock (take sent.count s.old.buffer.items)
+        sent.done) (granted_write_calls lock sent.count) opened.now now p.0 result
         (standing ⟦<dyn BlockDriver as BlockDriver>⟧ s.old files.old devices.old.drives.items)
         (standing ⟦<dyn BlockDriver as BlockDriver>⟧ s.new files.new devices.new.drives.items) }
     ensures lives { IsLiving s.new.table p.0 }
     ensures terms_kept { devices.new.terms ≡ devices.old.terms }
 {
-    let bytes = &s.buffer[..count as usize];
+    let bytes = &s.buffer[..sent.count as usize];
     let written = files
         .disks
-        .write_at(devices, opened.place, opened.desc.at, bytes, now);
-    end_write(s, &mut files.io, p, regs, opened, count, written)
+        .write_at(devices, opened.place, lock.range.start, bytes, now);
+    end_write(s, files, p, opened, sent, lock, written)
 }
 
-/// Ends a write of `count` bytes by its result.
+/// A write of the bytes at the front of the buffer ends by what was answered to it.
 fn end_write(
     s: &mut ProcState,
-    io: &mut IoState,
+    files: &mut FileState,
     p: Pid,
-    regs: Regs,
     opened: &OpenFile,
-    count: u16,
+    sent: Sending,
+    lock: Held,
     written: Result<(), FileFault>,
 ) -> CallEnd
     requires lives { IsLiving s.old.table p.0 }
-    requires no_read { ReadsNoTerminal io.old p.0 }
-    requires path { IsPathOf io.old opened.now }
-    requires fits { IsOk written → opened.now.desc.at + count < 2 ^ 32 }
-    ensures call { (m : Inner) → Represents s.old m
-        → EndsWrite written count regs opened.now m p.0 io.old result s.new io.new }
+    requires no_read { ReadsNoTerminal files.old.io p.0 }
+    requires path { IsPathOf files.old.io opened.now }
+    requires free { conflicts files.old.records.locks lock ≡ false }
+    requires fits { IsOk written → lock.range.start + sent.count < 2 ^ 32 }
+    ensures call { (m : Inner) → Represents s.old m → EndsWrite written lock
+        (take sent.count s.old.buffer.items) sent.done opened.now m p.0 files.old result s.new
+        files.new }
     ensures lives { IsLiving s.new.table p.0 }
 {
     match written {
-        Ok(()) => answer_at(s, io, p, regs, opened, opened.desc.at + u32::from(count)),
-        Err(fault) => refuse(io, p, fault.number()),
+        Ok(()) => enter_write(s, files, p, opened, sent, lock),
+        Err(fault) => refuse(&mut files.io, p, fault.number()),
     }
+}
+
+/// Enters a write of the bytes at the front of the buffer in the history, and answers it.
+fn enter_write(
+    s: &mut ProcState,
+    files: &mut FileState,
+    p: Pid,
+    opened: &OpenFile,
+    sent: Sending,
+    lock: Held,
+) -> CallEnd
+    requires lives { IsLiving s.old.table p.0 }
+    requires no_read { ReadsNoTerminal files.old.io p.0 }
+    requires path { IsPathOf files.old.io opened.now }
+    requires free { conflicts files.old.records.locks lock ≡ false }
+    requires fits { lock.range.start + sent.count < 2 ^ 32 }
+    ensures call { (m : Inner) → Represents s.old m → EndsWrite (Ok tt) lock
+        (take sent.count s.old.buffer.items) sent.done opened.now m p.0 files.old result s.new
+        files.new }
+    ensures lives { IsLiving s.new.table p.0 }
+{
+    let bytes = &s.buffer[..sent.count as usize];
+    if files.records.write(opened.path.0, lock, bytes).is_err() {
+        return CallEnd::NoMemory;
+    }
+    let at = lock.range.start + u32::from(sent.count);
+    answer_at(s, &mut files.io, p, sent.done, opened, at)
 }
 
 /// Puts the line of the number of an error at the front of the buffer.

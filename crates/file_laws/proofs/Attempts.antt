@@ -14,11 +14,10 @@ use Rattle.call_rules.specs.Chain.{f_chain}
 use Rattle.call_rules.specs.Fork.{f_fork}
 use Rattle.call_rules.specs.Program.{Program}
 use Rattle.io_rules.specs.Attempts.{kept_in}
-use Rattle.io_rules.specs.Close.{i_close}
 use Rattle.io_rules.specs.Dup.{i_dup}
 use Rattle.io_rules.specs.Io.{with_call}
 use Rattle.file_rules.specs.Attempts.{AskerAttempts, FileAttempts, asker_of, file_step, files_after}
-use Rattle.file_rules.specs.Files.{Files, Asker, NoneFailed}
+use Rattle.file_rules.specs.Files.{Files, Asker, NoneFailed, with_io}
 use Rattle.file_rules.specs.Load.{LoadAttempts}
 use Rattle.file_rules.specs.Program.{ChainAttempts, ForkAttempts, StartsFile, chains, forks, named_program}
 use Rattle.file_rules.specs.ProgramFile.{ProgramFile, ReadingIsBroken, ReadsProgram, reading_of}
@@ -27,13 +26,14 @@ use Rattle.file_rules.specs.declared.path_call.PathCall.{PathCall}
 use Rattle.file_rules.specs.declared.path_call.PathCall.TheVariants as Call
 use Rattle.file_laws.specs.Kinds.{AreKinds}
 use Rattle.file_laws.specs.Mounted.{AreAsMany}
-use Rattle.file_laws.proofs.Counts.{Stands, many-drives, many-io, many-same, many-then, none-many}
+use Rattle.file_rules.specs.Locking.{records_after}
+use Rattle.file_laws.proofs.Counts.{Stands, many-drives, many-io, many-same, many-then, none-many, stands-records}
 use Rattle.file_laws.proofs.Deleting.{delete-kept, deletx-kept}
 use Rattle.file_laws.proofs.Kept.{kinds-drives, kinds-io}
 use Rattle.file_laws.proofs.Making.{create-kept, makdir-kept}
-use Rattle.file_laws.proofs.OnFiles.{f_perr-kept, i_getstt-kept, i_read-kept, i_readln-kept, i_seek-kept, i_setstt-kept, i_write-kept, i_writln-kept}
+use Rattle.file_laws.proofs.OnFiles.{f_perr-kept, i_close-kept, i_getstt-kept, i_read-kept, i_readln-kept, i_seek-kept, i_setstt-kept, i_write-kept, i_writln-kept}
 use Rattle.file_laws.proofs.Opening.{chgdir-kept, open-kept}
-use Rattle.file_laws.proofs.Paths.{close-leaves, dup-leaves}
+use Rattle.file_laws.proofs.Paths.{dup-leaves}
 use Rattle.file_laws.proofs.Steps.{Kept, does-kept, io-kept}
 
 module _ (asker : Asker) (files : Files) (kinds : AreKinds files) where
@@ -54,7 +54,7 @@ module _ (asker : Asker) (files : Files) (kinds : AreKinds files) where
   step-kept Call.GetStt terms = i_getstt-kept asker files kinds
   step-kept Call.SetStt terms = i_setstt-kept asker files kinds
   step-kept Call.Close terms =
-      io-kept asker files kinds (i_close asker.caller files.io) (close-leaves files asker.caller files.io kinds.paths)
+      i_close-kept asker files kinds
   step-kept Call.PErr terms = f_perr-kept asker files kinds
 
   pub does-stands : (call : PathCall) (effect : FileEffect) (p : ℕ) (old new : List TerminalState)
@@ -62,10 +62,11 @@ module _ (asker : Asker) (files : Files) (kinds : AreKinds files) where
       → Stands files (files_after p effect)
   does-stands call effect p old new does =
       let left : Stands files effect.files = does-kept asker files kinds (file_step call asker files (length old)) effect old new (step-kept call (length old)) does in
-      record {
+      let waits = with_io effect.files (with_call effect.files.io p (kept_in effect.end)) in
+      stands-records files kinds waits (records_after effect.end effect.files.records p) (record {
         kinds = kinds-io effect.files left.kinds (with_call effect.files.io p (kept_in effect.end)) left.kinds.paths;
-        many = many-then files effect.files (files_after p effect) left.many (many-io effect.files (with_call effect.files.io p (kept_in effect.end)));
-      }
+        many = many-then files effect.files waits left.many (many-io effect.files (with_call effect.files.io p (kept_in effect.end)));
+      })
 
 pub attempt-stands : (call : PathCall) (inner : Inner) (files : Files) (now : TimePacket) (p : ℕ)
     (result : CallResult) (new : Files) (old_terms new_terms : List TerminalState) → FileAttempts call inner files now

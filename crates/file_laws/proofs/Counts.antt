@@ -4,13 +4,14 @@ use Rattle.std.proofs.lemmas.Bool.{cases_eq}
 use Rattle.std.proofs.lemmas.List.{length-set}
 use Rattle.rbf_model.specs.Volume.{DiskVolume}
 use Rattle.io_rules.specs.Io.{Io}
-use Rattle.file_rules.specs.Files.{Files, DriveState, NoneFailed, volume_at, with_directories_of, with_drives, with_io, with_volume}
+use Rattle.file_rules.specs.Files.{Files, DriveState, NoneFailed, volume_at, with_directories_of, with_drives, with_io, with_volume, with_records}
+use Rattle.lock_model.specs.Records.{Records}
 use Rattle.file_rules.specs.declared.places.Directories.{Directories}
 use Rattle.file_laws.specs.Kinds.{AreKinds}
 use Rattle.file_laws.specs.Mounted.{AreAsMany}
-use Rattle.file_laws.proofs.Kept.{AreOn, directory_in, kinds-directories, kinds-io, volume-new, volume-other}
+use Rattle.file_laws.proofs.Kept.{AreOn, directory_in, kinds-directories, kinds-io, volume-new, volume-other, kinds-records}
 use Rattle.file_laws.specs.Kinds.{IsOfKind}
-use Rattle.file_rules.specs.declared.places.FilePlace.{FilePlace}
+use Rattle.lock_model.specs.declared.place.FilePlace.{FilePlace}
 
 pub many-same : (files : Files) → AreAsMany files files
 many-same files = record { drives = refl; directories = refl; volumes = refl; mounted = λ drive. refl }
@@ -65,6 +66,13 @@ module _ (files : Files) (kinds : AreKinds files) where
 
   pub stands-io : (io : Io) → AreOn files io.paths → Stands files (with_io files io)
   stands-io io on = record { kinds = kinds-io files kinds io on; many = many-io files io }
+
+  -- with other records all is as before
+  pub stands-records : (new : Files) (records : Records) → Stands files new → Stands files (with_records new records)
+  stands-records new records it = record {
+    kinds = kinds-records new it.kinds records;
+    many = record { drives = it.many.drives; directories = it.many.directories; volumes = it.many.volumes; mounted = it.many.mounted };
+  }
 
   pub stands-directories : (p : ℕ) (directories : Directories) → ((execute : Bool) (place : FilePlace)
       → directory_in execute directories ≡ Some place → IsOfKind files place true)

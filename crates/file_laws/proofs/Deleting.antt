@@ -23,7 +23,7 @@ use Rattle.file_rules.specs.Open.{is_for_execution, tests_mode}
 use Rattle.file_rules.specs.Sharing.{is_open, is_path_on, is_same_place}
 use Rattle.file_rules.specs.Step.{FileStep, refused, comes, changes, leaves, needs, refuses}
 use Rattle.file_rules.specs.Way.{Found, Way, along, to_device, nowhere, before_last, last_of, list_of, way_of}
-use Rattle.file_rules.specs.declared.places.FilePlace.{FilePlace}
+use Rattle.lock_model.specs.declared.place.FilePlace.{FilePlace}
 use Rattle.file_laws.specs.Kinds.{AreKinds}
 use Rattle.file_laws.proofs.Counts.{many-same}
 use Rattle.file_laws.proofs.Kept.{file_of, kinds-volume}

@@ -13,9 +13,10 @@ use Rattle.rbf_model.specs.File.{DiskFile, is_directory}
 use Rattle.rbf_model.specs.Volume.{DiskVolume}
 use Rattle.rbf_change.specs.Calls.{cluster_size}
 use Rattle.io_rules.specs.Io.{Io}
-use Rattle.file_rules.specs.Files.{Files, DriveState, no_directories, directories_at, directory_of, volume_at, place_of_target, with_io, with_directories_of, with_volume, with_drives}
+use Rattle.file_rules.specs.Files.{Files, DriveState, no_directories, directories_at, directory_of, volume_at, place_of_target, with_io, with_directories_of, with_volume, with_drives, with_records}
+use Rattle.lock_model.specs.Records.{Records}
 use Rattle.file_rules.specs.declared.places.Directories.{Directories}
-use Rattle.file_rules.specs.declared.places.FilePlace.{FilePlace}
+use Rattle.lock_model.specs.declared.place.FilePlace.{FilePlace}
 use Rattle.file_laws.specs.Kinds.{IsOfKind, IsOnTarget, IsOnItsKind, AreKinds}
 
 -- ---- what stands on the same volumes
@@ -67,6 +68,13 @@ module _ (files : Files) (kinds : AreKinds files) where
   kinds-drives drives = record {
     paths = λ s desc there. on-same files (with_drives files drives) desc refl (kinds.paths s desc there);
     directories = λ p execute place at. kind-same files (with_drives files drives) place true refl (kinds.directories p execute place at);
+    clusters = λ drive v is. kinds.clusters drive v is;
+  }
+
+  pub kinds-records : (records : Records) → AreKinds (with_records files records)
+  kinds-records records = record {
+    paths = λ s desc there. on-same files (with_records files records) desc refl (kinds.paths s desc there);
+    directories = λ p execute place at. kind-same files (with_records files records) place true refl (kinds.directories p execute place at);
     clusters = λ drive v is. kinds.clusters drive v is;
   }
 

@@ -13,7 +13,7 @@ use Rattle.rbf_model.specs.Volume.{DiskVolume}
 use Rattle.io_rules.specs.Io.{Io, OpenPath, open_path}
 use Rattle.io_rules.specs.Modes.{can_write}
 use Rattle.file_rules.specs.Files.{Files, OpenFile, file_in, open_file, open_file_at, place_of_target, volume_at}
-use Rattle.file_rules.specs.declared.places.FilePlace.{FilePlace}
+use Rattle.lock_model.specs.declared.place.FilePlace.{FilePlace}
 use Rattle.file_laws.specs.Kinds.{IsOfKind, IsOnTarget, AreKinds}
 use Rattle.file_laws.proofs.Kept.{file_of}
 

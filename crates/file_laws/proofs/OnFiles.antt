@@ -1,9 +1,10 @@
 -- Calls on a number of a path: I$Read, I$Write, I$Seek, I$GetStt, I$SetStt and their like move positions and change one
 -- file, which keeps its kind.
-use Rattle.std.proofs.Common.{◌≡◌, ℕ, ◌+◌, ◌%◌, ◌==◌, Bool, true, false, not, Option, Some, None, List, length, refl, ap, ◌∙◌, subst}
+use Rattle.std.proofs.Common.{◌≡◌, ℕ, ◌+◌, ◌%◌, ◌==◌, Bool, true, false, not, Option, Some, None, List, [], length, refl, ap, ◌∙◌, subst}
 use Rattle.std.specs.Prelude.{is_none, nat_le, nat_lt, take, if◌then◌else◌}
 use Rattle.std.proofs.lemmas.Option.{same_Some}
-use Rattle.os9_base.specs.declared.calls.TheConstants.{I_READ, I_READLN}
+use Rattle.os9_base.specs.declared.calls.TheConstants.{I_READ, I_READLN, I_WRITE, I_WRITLN, F_PERR}
+use Rattle.io_model.specs.declared.terminal.ReadKind.{ReadKind}
 use Rattle.os9_base.specs.declared.errors.TheConstants.{E_BPADDR, E_BMODE, E_EOF, E_FNA, E_FULL, E_UNKSVC}
 use Rattle.os9_base.specs.declared.registers.Regs.{Regs}
 use Rattle.call_rules.specs.UserBytes.{user_bytes}
@@ -28,20 +29,24 @@ use Rattle.io_rules.specs.Write.{i_write as writes_device, i_writln as writes_de
 use Rattle.io_rules.specs.declared.modes.TheConstants.{STANDARD_ERROR}
 use Rattle.io_rules.specs.declared.status.TheConstants.{SS_OPT, SS_READY, SS_EOF, OPTION_BYTES}
 use Rattle.file_rules.specs.Change.{Change, Makes, MayLeave, writes, sizes, sets_attributes}
-use Rattle.file_rules.specs.Files.{Files, Asker, OpenFile, open_file, with_io, with_position}
+use Rattle.file_rules.specs.Files.{Files, Asker, OpenFile, open_file, with_io, with_position, with_records, with_ticks}
 use Rattle.file_rules.specs.OnFile.{by_kind, moves_bytes, on_file}
-use Rattle.file_rules.specs.Read.{answers_bytes, bytes_here, i_read, i_readln, reads_file, reads_on}
+use Rattle.file_rules.specs.Read.{answers_bytes, bytes_at, i_read, i_readln, lock_by, read_claim, read_start, reads_at, reads_file, reads_freely, reads_locked, reads_on}
+use Rattle.file_rules.specs.Close.{files_after_close, i_close}
+use Rattle.file_rules.specs.Locking.{is_for_update, lock_ends, request_kept, request_now}
+use Rattle.lock_model.specs.Records.{Records, ends_lock, holding, without_lock, written_by}
+use Rattle.io_rules.specs.Close.{i_close as closes_device, after_close}
 use Rattle.file_rules.specs.Seek.{i_seek, long_of, seeks_nothing}
-use Rattle.file_rules.specs.Status.{asked_bytes, descriptor_front, gets_bytes, gets_descriptor, gets_end, gets_size, gets_status, i_getstt, i_setstt, long_regs, sets_attributes_of, sets_size, sets_status}
+use Rattle.file_rules.specs.Status.{asked_bytes, descriptor_front, gets_bytes, gets_descriptor, gets_end, gets_size, gets_status, i_getstt, i_setstt, after_size, lock_claim, locks_bytes, locks_range, long_regs, sets_attributes_of, sets_lock, sets_size, sets_status, sets_ticks, size_claim, sizes_locked}
 use Rattle.file_rules.specs.Step.{FileStep, refused, comes, reaches, changes, leaves_so, done, leaves, needs, refuses, stores}
-use Rattle.file_rules.specs.Write.{changes_file, f_perr, i_write, i_writln, sends_bytes, writes_bytes}
-use Rattle.file_rules.specs.declared.status.TheConstants.{SS_SIZE, SS_POS, SS_FD, SS_ATTR}
+use Rattle.file_rules.specs.Write.{changes_file, f_perr, i_write, i_writln, line_moved, sends_bytes, write_claim, writes_bytes, writes_locked}
+use Rattle.file_rules.specs.declared.status.TheConstants.{SS_SIZE, SS_POS, SS_FD, SS_TICKS, SS_LOCK, SS_ATTR}
 use Rattle.file_laws.specs.Kinds.{IsOnItsKind, AreKinds}
-use Rattle.file_laws.proofs.Counts.{Stands, many-io, many-same, stands-io, stands-same}
-use Rattle.file_laws.proofs.Kept.{AllStill, AreOn, kinds-still}
+use Rattle.file_laws.proofs.Counts.{Stands, many-io, many-same, stands-io, stands-records, stands-same}
+use Rattle.file_laws.proofs.Kept.{AllStill, AreOn, kinds-records, kinds-still}
 use Rattle.file_laws.proofs.Named.{opened-desc}
-use Rattle.file_laws.proofs.Paths.{LeavesOn, on-desc, reads-leave, write-leaves, line-leaves, error-leaves, nothing-leaves, get-leaves, set-leaves}
-use Rattle.file_laws.proofs.Steps.{Kept, KeptOn, io-kept, leaves-kept, needs-by, on-changes, on-leaves, on-refused, reaches-kept, refused-kept, refuses-by}
+use Rattle.file_laws.proofs.Paths.{LeavesOn, on-desc, reads-leave, write-leaves, line-leaves, error-leaves, nothing-leaves, get-leaves, set-leaves, close-leaves, on-closed}
+use Rattle.file_laws.proofs.Steps.{Kept, KeptOn, asks-on, io-kept, leaves-kept, needs-by, on-changes, on-leaves, on-refused, reaches-kept, refused-kept, refuses-by}
 use Rattle.file_laws.proofs.Volumes.{all-same, attributes-kind, changes-still, size-kind, size-still, write-still}
 
 module _ (asker : Asker) (files : Files) (kinds : AreKinds files) where
@@ -81,62 +86,79 @@ module _ (asker : Asker) (files : Files) (kinds : AreKinds files) where
         by_count true = leaves-kept asker files kinds (leaves (answers asker.caller.regs) files) (stands-same files kinds)
         by_count false = kept
 
+    -- and with other records
+    moved-in : (records : Records) (at : ℕ) → Stands files (with_position (with_records files records) opened.opened at)
+    moved-in records at = stands-records files kinds (with_position files opened.opened at) records (moved-kinds at)
+
     -- ---- I$Read and I$ReadLn
 
-    read-kept : (part : List ℕ → List ℕ) → Kept asker files (reads_file asker files part opened)
-    read-kept part =
-        reaches-kept asker files kinds opened.place.drive
-        (refuses (nat_le (length opened.file.contents) opened.opened.desc.at) E_EOF
-        (comes (leaves_so (answers_bytes asker files opened (part (bytes_here asker opened))))))
-        (refuses-by (KeptOn asker files opened.place.drive) (on-refused asker files kinds opened.place.drive)
-        (nat_le (length opened.file.contents) opened.opened.desc.at) E_EOF
-        (comes (leaves_so (answers_bytes asker files opened (part (bytes_here asker opened)))))
-        (λ more. on-leaves asker files kinds opened.place.drive (answers_bytes asker files opened
-        (part (bytes_here asker opened)))
-        (moved-kinds (opened.opened.desc.at + length (part (bytes_here asker opened))))))
+    at-kept : (kind : ReadKind) (at : ℕ) → KeptOn asker files opened.place.drive (reads_at kind asker files opened at)
+    at-kept kind at =
+        refuses-by (KeptOn asker files opened.place.drive) (on-refused asker files kinds opened.place.drive) (nat_le (length opened.file.contents) at) E_EOF
+        (if is_for_update opened.opened.desc.mode then reads_locked kind asker files opened
+        (request_now asker files opened (read_claim kind asker opened at)) (bytes_at kind asker opened at) else
+        reads_freely kind asker files opened)
+        (λ more. by (is_for_update opened.opened.desc.mode))
+      where
+        by : (update : Bool) → KeptOn asker files opened.place.drive (if update then reads_locked kind asker files
+            opened (request_now asker files opened (read_claim kind asker opened at)) (bytes_at kind asker opened at)
+            else reads_freely kind asker files opened)
+        by true =
+            let request = request_now asker files opened (read_claim kind asker opened at) in
+            let bytes = bytes_at kind asker opened at in
+            let records = holding files.records opened.opened.path.0 (lock_by kind request.lock bytes) bytes in
+            asks-on asker files kinds opened.place.drive request (comes (leaves_so (answers_bytes asker (with_records files records) opened request.lock.range.start bytes)))
+            (on-leaves asker files kinds opened.place.drive (answers_bytes asker (with_records files records) opened
+            request.lock.range.start bytes) (moved-in records (request.lock.range.start + length bytes)))
+        by false =
+            let bytes = bytes_at kind asker opened opened.opened.desc.at in
+            on-leaves asker files kinds opened.place.drive (answers_bytes asker files opened opened.opened.desc.at bytes) (moved-kinds (opened.opened.desc.at + length bytes))
+
+    read-kept : (kind : ReadKind) → Kept asker files (reads_file kind asker files opened)
+    read-kept kind =
+        reaches-kept asker files kinds opened.place.drive (reads_at kind asker files opened (read_start asker files opened)) (at-kept kind (read_start asker files opened))
 
     -- ---- changes of the file
 
-    change-kept : (change : Change) (size : ℕ) (regs : Regs) (io : Io) → AreKinds (with_io files io)
+    change-on : (change : Change) (size : ℕ) (regs : Regs) (io : Io) (records : Records) → AreKinds (with_io files io)
         → ((was now : DiskVolume) (number : ℕ) → Makes change asker.user asker.now was now number → AllStill was now)
         → ((was left : DiskVolume) → MayLeave change asker.user asker.now was left → AllStill was left)
-        → Kept asker files (changes_file files opened change size regs (with_io files io))
-    change-kept change size regs io after made left =
-        reaches-kept asker files kinds opened.place.drive
-        (refuses (nat_lt (free_total opened.volume) (clusters_needed (cluster_size opened.volume)
-        opened.file.segments size)) E_FULL
-        (comes (changes (record {
-          drive = opened.place.drive;
-          change = change;
-          effect = λ n. leaves (answers regs)
-              (with_io files io);
-        }))))
-        (refuses-by (KeptOn asker files opened.place.drive) (on-refused asker files kinds opened.place.drive)
+        → KeptOn asker files opened.place.drive (changes_file opened change size regs (with_records (with_io files io)
+        records))
+    change-on change size regs io records after made left =
+        refuses-by (KeptOn asker files opened.place.drive) (on-refused asker files kinds opened.place.drive)
         (nat_lt (free_total opened.volume) (clusters_needed (cluster_size opened.volume) opened.file.segments
         size)) E_FULL (comes (changes (record {
           drive = opened.place.drive;
           change = change;
           effect = λ n. leaves
-              (answers regs) (with_io files io);
+              (answers regs) (with_records (with_io files io) records);
         })))
-        (λ room. on-changes asker files kinds (record { drive = opened.place.drive; change = change; effect = λ n. leaves (answers regs) (with_io files io) })
-        (λ number. many-io files io)
-        (λ was now number is makes. kinds-still (with_io files io) opened.place.drive was now is (made was now number makes) after)
-        (λ was left_now is may. kinds-still files opened.place.drive was left_now is (left was left_now may) kinds)))
+        (λ room. on-changes asker files kinds (record { drive = opened.place.drive; change = change; effect = λ n. leaves (answers regs) (with_records (with_io files io) records) })
+        (λ number. (stands-records files kinds (with_io files io) records (record { kinds = after; many = many-io files io })).many)
+        (λ was now number is makes. kinds-still (with_records (with_io files io) records) opened.place.drive was now is (made was now number makes) (kinds-records (with_io files io) after records))
+        (λ was left_now is may. kinds-still files opened.place.drive was left_now is (left was left_now may) kinds))
 
-    write-kept : (bytes : List ℕ) (regs : Regs) → Kept asker files (writes_bytes files opened bytes regs)
-    write-kept bytes regs =
-        change-kept (writes opened.place.number opened.opened.desc.at bytes) (length (written opened.file.contents opened.opened.desc.at bytes)) regs
-        (with_paths files.io (with_desc files.io.paths opened.opened.path.0 (Some (record opened.opened.desc { at = opened.opened.desc.at + length bytes }))))
-        (moved-kinds (opened.opened.desc.at + length bytes)).kinds
-        (λ was now number it. changes-still (WritesFile (cluster_size was) (is_free_in was) opened.opened.desc.at
-        bytes asker.now) (λ old new done. ap (λ (file : DiskFile). is_directory file) done.file) was now
-        opened.place.number it)
-        (λ was left it. write-still was left opened.place.number opened.opened.desc.at bytes it)
+    write-kept : (code : ℕ) (bytes : List ℕ) (regs : Regs) → Kept asker files (writes_bytes asker files opened code bytes regs)
+    write-kept code bytes regs =
+        let request = request_now asker files opened (write_claim opened code (length bytes)) in
+        let at = request.lock.range.start in
+        reaches-kept asker files kinds opened.place.drive (writes_locked asker files opened request bytes regs)
+        (asks-on asker files kinds opened.place.drive request
+        (changes_file opened (writes opened.place.number at bytes) (length (written opened.file.contents at bytes))
+        regs (with_position (with_records files (written_by files.records opened.opened.path.0 request.lock
+        bytes)) opened.opened (at + length bytes)))
+        (change-on (writes opened.place.number at bytes) (length (written opened.file.contents at bytes)) regs
+        (with_paths files.io (with_desc files.io.paths opened.opened.path.0 (Some (record opened.opened.desc { at = at + length bytes }))))
+        (written_by files.records opened.opened.path.0 request.lock bytes)
+        (moved-kinds (at + length bytes)).kinds
+        (λ was now number it. changes-still (WritesFile (cluster_size was) (is_free_in was) at bytes asker.now)
+        (λ old new done. ap (λ (file : DiskFile). is_directory file) done.file) was now opened.place.number it)
+        (λ was left it. write-still was left opened.place.number at bytes it)))
 
-    send-kept : (bytes : List ℕ) → Kept asker files (sends_bytes asker files opened bytes)
-    send-kept bytes =
-        moves-kept can_write (writes_bytes files opened bytes (count_regs asker.caller (length bytes))) (write-kept bytes (count_regs asker.caller (length bytes)))
+    send-kept : (code : ℕ) (bytes : List ℕ) → Kept asker files (sends_bytes asker files opened code bytes)
+    send-kept code bytes =
+        moves-kept can_write (writes_bytes asker files opened code bytes (count_regs asker.caller (length bytes))) (write-kept code bytes (count_regs asker.caller (length bytes)))
 
     -- ---- I$GetStt
 
@@ -195,14 +217,53 @@ module _ (asker : Asker) (files : Files) (kinds : AreKinds files) where
 
     set-size : Kept asker files (sets_size asker files opened)
     set-size =
-        refuses-by (Kept asker files) none-kept (not (can_write opened.opened.desc.mode)) E_BMODE
-        (changes_file files opened (sizes opened.place.number (long_of asker.caller.regs))
-        (long_of asker.caller.regs) asker.caller.regs files)
-        (λ allowed. change-kept (sizes opened.place.number (long_of asker.caller.regs)) (long_of asker.caller.regs) asker.caller.regs files.io kinds
-        (λ was now number it. changes-still (SizesFile (cluster_size was) (is_free_in was) opened.place.number
-        (long_of asker.caller.regs) asker.now) (size-kind (cluster_size was) (is_free_in was) opened.place.number
-        (long_of asker.caller.regs) asker.now) was now opened.place.number it)
-        (λ was left it. size-still it.0 was left opened.place.number (long_of asker.caller.regs) asker.now it.2))
+        let size = long_of asker.caller.regs in
+        let request = request_now asker files opened (size_claim opened size) in
+        refuses-by (Kept asker files) none-kept (not (can_write opened.opened.desc.mode)) E_BMODE (reaches opened.place.drive (sizes_locked asker files opened size request))
+        (λ allowed. reaches-kept asker files kinds opened.place.drive (sizes_locked asker files opened size request)
+        (asks-on asker files kinds opened.place.drive request
+        (changes_file opened (sizes opened.place.number size) size asker.caller.regs (after_size files opened size request.lock))
+        (change-on (sizes opened.place.number size) size asker.caller.regs files.io (after_size files opened size request.lock).records kinds-as
+        (λ was now number it. changes-still (SizesFile (cluster_size was) (is_free_in was) opened.place.number size
+        asker.now) (size-kind (cluster_size was) (is_free_in was) opened.place.number size asker.now) was now
+        opened.place.number it)
+        (λ was left it. size-still it.0 was left opened.place.number size asker.now it.2))))
+      where
+        kinds-as : AreKinds (with_io files files.io)
+        kinds-as = kinds
+
+    -- with other records
+    records-kept : (records : Records) → Stands files (with_records files records)
+    records-kept records = stands-records files kinds files records (stands-same files kinds)
+
+    set-lock : Kept asker files (sets_lock asker files opened)
+    set-lock =
+        refuses-by (Kept asker files) none-kept (not (is_for_update opened.opened.desc.mode)) E_BMODE (locks_bytes asker files opened (long_of asker.caller.regs))
+        (λ allowed. by_count (long_of asker.caller.regs) (long_of asker.caller.regs == 0))
+      where
+        by_count : (count : ℕ) (nothing : Bool) → Kept asker files (if nothing then done asker.caller.regs
+            (with_records files (without_lock files.records opened.opened.path.0)) else reaches opened.place.drive
+            (locks_range asker files opened (request_now asker files opened (lock_claim opened count))))
+        by_count count true =
+            leaves-kept asker files kinds (leaves (answers asker.caller.regs) (with_records files (without_lock files.records opened.opened.path.0)))
+            (records-kept (without_lock files.records opened.opened.path.0))
+        by_count count false =
+            let request = request_now asker files opened (lock_claim opened count) in
+            let held = with_records files (holding files.records opened.opened.path.0 request.lock []) in
+            reaches-kept asker files kinds opened.place.drive (locks_range asker files opened request)
+            (asks-on asker files kinds opened.place.drive request (done asker.caller.regs held)
+            (on-leaves asker files kinds opened.place.drive (leaves (answers asker.caller.regs) held) (records-kept held.records)))
+
+    -- the path with another number of ticks
+    ticks-on : (ticks : ℕ) → AreOn files (with_desc files.io.paths opened.opened.path.0 (Some (record opened.opened.desc { ticks = ticks })))
+    ticks-on ticks =
+        on-desc files files.io.paths opened.opened.path.0 (Some (record opened.opened.desc { ticks = ticks })) kinds.paths
+        (λ desc is. subst (λ (d : Desc). IsOnItsKind files d) (same_Some (record opened.opened.desc { ticks = ticks }) desc is) (kinds.paths opened.opened.path.0 opened.opened.desc there))
+
+    set-ticks : Kept asker files (sets_ticks asker files opened)
+    set-ticks =
+        leaves-kept asker files kinds (leaves (answers asker.caller.regs) (with_ticks files opened.opened asker.caller.regs.x))
+        (stands-io files kinds (with_paths files.io (with_desc files.io.paths opened.opened.path.0 (Some (record opened.opened.desc { ticks = asker.caller.regs.x })))) (ticks-on asker.caller.regs.x))
 
     set-attributes : Kept asker files (sets_attributes_of asker files opened)
     set-attributes =
@@ -234,56 +295,60 @@ module _ (asker : Asker) (files : Files) (kinds : AreKinds files) where
         (asker.caller.regs.x % 256)) was now opened.place.number it) kinds)
         (λ was left is same. kinds-still files opened.place.drive was left is (all-same was left same) kinds)))
 
-    set-by : (size attributes : Bool) → Kept asker files (if size then sets_size asker files opened else (if attributes then sets_attributes_of asker files opened else refused E_UNKSVC))
-    set-by true attributes = set-size
-    set-by false true = set-attributes
-    set-by false false = none-kept E_UNKSVC
+    set-by : (size ticks lock attributes : Bool) → Kept asker files (if size then sets_size asker files opened else
+        (if ticks then sets_ticks asker files opened else (if lock then sets_lock asker files opened else
+        (if attributes then sets_attributes_of asker files opened else refused E_UNKSVC))))
+    set-by true ticks lock attributes = set-size
+    set-by false true lock attributes = set-ticks
+    set-by false false true attributes = set-lock
+    set-by false false false true = set-attributes
+    set-by false false false false = none-kept E_UNKSVC
 
   -- ---- the calls
 
-  reads-kept : (otherwise : IoStep) (part : List ℕ → List ℕ) → LeavesOn files otherwise asker.caller files.io → Kept asker files (reads_on asker files otherwise part)
-  reads-kept otherwise part on =
+  reads-kept : (otherwise : IoStep) (kind : ReadKind) → LeavesOn files otherwise asker.caller files.io → Kept asker files (reads_on kind asker files otherwise)
+  reads-kept otherwise kind on =
       on-kept asker.caller.regs.a otherwise
       (λ opened. refuses (is_none (user_bytes asker.caller.cells asker.caller.regs.x asker.caller.regs.y))
-      E_BPADDR (moves_bytes asker files opened can_read (reads_file asker files part opened))) on
+      E_BPADDR (moves_bytes asker files opened can_read (reads_file kind asker files opened))) on
       (λ opened there. refuses-by (Kept asker files) none-kept
       (is_none (user_bytes asker.caller.cells asker.caller.regs.x asker.caller.regs.y)) E_BPADDR
-      (moves_bytes asker files opened can_read (reads_file asker files part opened))
-      (λ fits. moves-kept opened there can_read (reads_file asker files part opened) (read-kept opened there part)))
+      (moves_bytes asker files opened can_read (reads_file kind asker files opened))
+      (λ fits. moves-kept opened there can_read (reads_file kind asker files opened) (read-kept opened there kind)))
 
   pub i_read-kept : Kept asker files (i_read asker files)
   i_read-kept =
-      reads-kept (reads_device asker.caller files.io) (λ bytes. bytes) (reads-leave files asker.caller files.io kinds.paths Bytes I_READ)
+      reads-kept (reads_device asker.caller files.io) Bytes (reads-leave files asker.caller files.io kinds.paths Bytes I_READ)
 
   pub i_readln-kept : Kept asker files (i_readln asker files)
   i_readln-kept =
-      reads-kept (reads_device_line asker.caller files.io) first_line (reads-leave files asker.caller files.io kinds.paths WholeLine I_READLN)
+      reads-kept (reads_device_line asker.caller files.io) WholeLine (reads-leave files asker.caller files.io kinds.paths WholeLine I_READLN)
 
   pub i_write-kept : Kept asker files (i_write asker files)
   i_write-kept =
       on-kept asker.caller.regs.a (writes_device asker.caller files.io)
       (λ opened. needs (user_bytes asker.caller.cells asker.caller.regs.x asker.caller.regs.y) E_BPADDR
-      (sends_bytes asker files opened)) (write-leaves files asker.caller files.io kinds.paths)
+      (sends_bytes asker files opened I_WRITE)) (write-leaves files asker.caller files.io kinds.paths)
       (λ opened there. needs-by (Kept asker files) none-kept (user_bytes asker.caller.cells asker.caller.regs.x
-      asker.caller.regs.y) E_BPADDR (sends_bytes asker files opened) (λ bytes is. send-kept opened there bytes))
+      asker.caller.regs.y) E_BPADDR (sends_bytes asker files opened I_WRITE) (λ bytes is. send-kept opened there
+      I_WRITE bytes))
 
   pub i_writln-kept : Kept asker files (i_writln asker files)
   i_writln-kept =
       on-kept asker.caller.regs.a (writes_device_line asker.caller files.io)
-      (λ opened. needs (line_at asker.caller.cells asker.caller.regs.x asker.caller.regs.y) E_BPADDR
-      (sends_bytes asker files opened)) (line-leaves files asker.caller files.io kinds.paths)
-      (λ opened there. needs-by (Kept asker files) none-kept (line_at asker.caller.cells asker.caller.regs.x
-      asker.caller.regs.y) E_BPADDR (sends_bytes asker files opened) (λ bytes is. send-kept opened there bytes))
+      (λ opened. needs (line_moved asker (request_kept asker files)) E_BPADDR (sends_bytes asker files opened
+      I_WRITLN)) (line-leaves files asker.caller files.io kinds.paths)
+      (λ opened there. needs-by (Kept asker files) none-kept (line_moved asker (request_kept asker files)) E_BPADDR
+      (sends_bytes asker files opened I_WRITLN) (λ bytes is. send-kept opened there I_WRITLN bytes))
 
   pub f_perr-kept : Kept asker files (f_perr asker files)
   f_perr-kept =
       on-kept STANDARD_ERROR (tells_device asker.caller files.io)
-      (λ opened. refuses (not (can_write opened.opened.desc.mode)) E_BMODE
-      (writes_bytes files opened (error_line asker.caller.regs.b) asker.caller.regs))
-      (error-leaves files asker.caller files.io kinds.paths)
+      (λ opened. refuses (not (can_write opened.opened.desc.mode)) E_BMODE (writes_bytes asker files opened F_PERR
+      (error_line asker.caller.regs.b) asker.caller.regs)) (error-leaves files asker.caller files.io kinds.paths)
       (λ opened there. refuses-by (Kept asker files) none-kept (not (can_write opened.opened.desc.mode)) E_BMODE
-      (writes_bytes files opened (error_line asker.caller.regs.b) asker.caller.regs) (λ allowed. write-kept opened
-      there (error_line asker.caller.regs.b) asker.caller.regs))
+      (writes_bytes asker files opened F_PERR (error_line asker.caller.regs.b) asker.caller.regs)
+      (λ allowed. write-kept opened there F_PERR (error_line asker.caller.regs.b) asker.caller.regs))
 
   pub i_seek-kept : Kept asker files (i_seek asker files)
   i_seek-kept =
@@ -302,4 +367,14 @@ module _ (asker : Asker) (files : Files) (kinds : AreKinds files) where
   pub i_setstt-kept : Kept asker files (i_setstt asker files)
   i_setstt-kept =
       on-kept asker.caller.regs.a (sets_of_device asker.caller files.io) (λ opened. sets_status asker files opened asker.caller.regs.b) (set-leaves files asker.caller files.io kinds.paths)
-      (λ opened there. set-by opened there (asker.caller.regs.b == SS_SIZE) (asker.caller.regs.b == SS_ATTR))
+      (λ opened there. set-by opened there (asker.caller.regs.b == SS_SIZE) (asker.caller.regs.b == SS_TICKS) (asker.caller.regs.b == SS_LOCK) (asker.caller.regs.b == SS_ATTR))
+
+  pub i_close-kept : Kept asker files (i_close asker files)
+  i_close-kept =
+      on-kept asker.caller.regs.a (closes_device asker.caller files.io) (λ opened. done asker.caller.regs
+      (files_after_close files asker.caller.process.0 asker.caller.regs.a opened.opened.path.0))
+      (close-leaves files asker.caller files.io kinds.paths)
+      (λ opened there. leaves-kept asker files kinds (leaves (answers asker.caller.regs) (files_after_close files asker.caller.process.0 asker.caller.regs.a opened.opened.path.0))
+      (let closed = with_io files (after_close files.io asker.caller.process.0 asker.caller.regs.a) in
+      stands-records files kinds closed (ends_lock (lock_ends closed.io.paths (λ owner. false)) opened.opened.path.0 closed.records)
+      (stands-io files kinds (after_close files.io asker.caller.process.0 asker.caller.regs.a) (on-closed files files.io asker.caller.process.0 asker.caller.regs.a kinds.paths))))

@@ -21,7 +21,7 @@ use Rattle.file_rules.specs.Open.{begins_on, i_open, is_for_execution, may_open,
 use Rattle.file_rules.specs.Sharing.{is_not_shared}
 use Rattle.file_rules.specs.Step.{FileStep, done, leaves, refuses}
 use Rattle.file_rules.specs.Way.{Found, Way, along, to_device, nowhere, list_of, way_of}
-use Rattle.file_rules.specs.declared.places.FilePlace.{FilePlace}
+use Rattle.lock_model.specs.declared.place.FilePlace.{FilePlace}
 use Rattle.file_laws.specs.Kinds.{IsOfKind, IsOnTarget, IsOnItsKind, AreKinds}
 use Rattle.file_laws.proofs.Counts.{stands-directories, stands-io}
 use Rattle.file_laws.proofs.Kept.{directory_in, file_of}

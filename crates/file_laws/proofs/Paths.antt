@@ -99,7 +99,7 @@ module _ (files : Files) where
   on-gone io None on = on
   on-gone io (Some desc) on = on-target io desc.target on
 
-  on-closed : (io : Io) (p n : ℕ) → OnIo io → OnIo (after_close io p n)
+  pub on-closed : (io : Io) (p n : ℕ) → OnIo io → OnIo (after_close io p n)
   on-closed io p n on =
       on-gone (with_paths io (paths_after_close io.paths p n)) (closed_desc io.paths p n) (on-close io.paths p n on)
 

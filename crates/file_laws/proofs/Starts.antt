@@ -10,6 +10,7 @@ use Rattle.io_model.specs.Path.{no_paths, paths_after_begin, paths_after_dup}
 use Rattle.io_model.specs.declared.path.Desc.{Desc}
 use Rattle.io_model.specs.declared.path.Target.{Target}
 use Rattle.io_model.specs.declared.path.Target.TheVariants.{File, Folder, Term, Pipe}
+use Rattle.lock_model.specs.Records.{with_waiting}
 use Rattle.rbf_model.specs.File.{DiskFile, is_directory}
 use Rattle.rbf_model.specs.Geometry.{Geometry, image_geometry, sector}
 use Rattle.rbf_model.specs.Volume.{DiskVolume, Vol}
@@ -21,13 +22,14 @@ use Rattle.io_rules.specs.Io.{Io, first_paths, new_desc}
 use Rattle.io_rules.specs.Waiting.{io_interrupted, wait_target, without_unfinished}
 use Rattle.io_rules.specs.Processes.{io_ended, io_started}
 use Rattle.file_rules.specs.Files.{Files, DriveState, directories_at, directory_of, no_directories, volume_at, with_io, with_volume}
-use Rattle.file_rules.specs.Processes.{StartsOn, directory_in_root, files_ended, files_started, first_directories, first_files}
+use Rattle.file_rules.specs.Processes.{StartsOn, directory_in_root, files_ended, files_started, first_directories, first_files, io_left, without_locks_of}
+use Rattle.file_rules.specs.Locking.{files_interrupted}
 use Rattle.file_rules.specs.Way.{root_of}
-use Rattle.file_rules.specs.declared.places.FilePlace.{FilePlace}
+use Rattle.lock_model.specs.declared.place.FilePlace.{FilePlace}
 use Rattle.file_laws.specs.Kinds.{IsOfKind, AreKinds}
 use Rattle.file_laws.specs.Mounted.{AreAsMany}
 use Rattle.file_laws.proofs.Counts.{many-directories, many-io, many-then}
-use Rattle.file_laws.proofs.Kept.{AreOn, directory_in, file_of, kind-same, kinds-directories, kinds-io, none-in, on-by}
+use Rattle.file_laws.proofs.Kept.{AreOn, directory_in, file_of, kind-same, kinds-directories, kinds-io, kinds-records, none-in, on-by}
 use Rattle.file_laws.proofs.Paths.{on-begin, on-dup, on-ended}
 
 -- ---- processes that begin and end
@@ -40,7 +42,9 @@ module _ (files : Files) (kinds : AreKinds files) where
 
   pub kinds-ended : (p : ℕ) → AreKinds (files_ended files p)
   kinds-ended p =
-      kinds-directories (with_io files (io_ended files.io p)) (kinds-io files kinds (io_ended files.io p) (on-ended files files.io p kinds.paths)) p no_directories
+      kinds-directories (without_locks_of (io_left files p) p)
+      (kinds-records (with_io files (io_ended files.io p)) (kinds-io files kinds (io_ended files.io p)
+      (on-ended files files.io p kinds.paths)) (without_locks_of (io_left files p) p).records) p no_directories
       (λ execute place at. absurd (none-in execute place at))
 
 -- where no path changes, as where a key arrives or a call that waits is broken off
@@ -54,8 +58,10 @@ paths-unfinished io p (Some (Folder drive sector)) = refl
 paths-unfinished io p (Some (Term terminal)) = refl
 paths-unfinished io p (Some (Pipe pipe)) = refl
 
-pub kinds-interrupted : (files : Files) (p : ℕ) → AreKinds files → AreKinds (with_io files (io_interrupted files.io p))
-kinds-interrupted files p kinds = kinds-same files (io_interrupted files.io p) (paths-unfinished files.io p (wait_target files.io p)) kinds
+pub kinds-interrupted : (files : Files) (p : ℕ) → AreKinds files → AreKinds (files_interrupted files p)
+kinds-interrupted files p kinds =
+    kinds-records (with_io files (io_interrupted files.io p)) (kinds-same files (io_interrupted files.io p)
+    (paths-unfinished files.io p (wait_target files.io p)) kinds) (with_waiting files.records p None)
 
 pub many-started : (files : Files) (parent child : ℕ) → AreAsMany files (files_started files parent child)
 many-started files parent child =
@@ -65,7 +71,7 @@ many-started files parent child =
 
 pub many-ended : (files : Files) (p : ℕ) → AreAsMany files (files_ended files p)
 many-ended files p =
-    many-then files (with_io files (io_ended files.io p)) (files_ended files p) (many-io files (io_ended files.io p)) (many-directories (with_io files (io_ended files.io p)) p no_directories)
+    record { drives = refl; directories = length-set files.directories p no_directories; volumes = refl; mounted = λ drive. refl }
 
 -- ---- the start
 

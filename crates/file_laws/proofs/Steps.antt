@@ -12,13 +12,21 @@ use Rattle.rbf_model.specs.Walk.{WalkEnd, arrives, not_allowed, not_found, walk}
 use Rattle.io_rules.specs.PathList.{PathList}
 use Rattle.io_rules.specs.Step.{IoStep}
 use Rattle.file_rules.specs.Change.{Makes, MayLeave}
-use Rattle.file_rules.specs.Files.{Files, Asker, DriveState, volume_at, with_drives, with_volume}
+use Rattle.file_rules.specs.Files.{Files, Asker, DriveState, volume_at, with_drives, with_io, with_volume}
 use Rattle.file_rules.specs.Step.{Step, refused, comes, reaches, needs, refuses, drive_of, FileEffect, FileStep, VolumeChange, Deed, leaves_so, as_io, changes, deed_of, refuses_so, DoesDeed, MayBeLeft, FileDoes}
 use Rattle.file_rules.specs.Way.{Found, reads_list, walk_ends, walks}
-use Rattle.file_rules.specs.declared.places.FilePlace.{FilePlace}
+use Rattle.lock_model.specs.declared.place.FilePlace.{FilePlace}
 use Rattle.file_laws.specs.Kinds.{AreKinds}
 use Rattle.file_laws.specs.Mounted.{AreAsMany}
-use Rattle.file_laws.proofs.Counts.{Stands, many-then, many-volume, none-many, stands-io, stands-same}
+use Rattle.io_rules.specs.Step.{keeps}
+use Rattle.file_rules.specs.Step.{leaves}
+use Rattle.file_rules.specs.Locking.{answer_to, asks, asks_by, call_of, waiting_in}
+use Rattle.lock_model.specs.Records.{with_waiting}
+use Rattle.lock_model.specs.declared.lock.Grant.{Grant}
+use Rattle.lock_model.specs.declared.lock.Grant.TheVariants.{Granted, Locked, Deadlock, Wait}
+use Rattle.lock_model.specs.declared.lock.Request.{Request}
+use Rattle.os9_base.specs.declared.errors.TheConstants.{E_LOCK, E_DEADLK}
+use Rattle.file_laws.proofs.Counts.{Stands, many-then, many-volume, none-many, stands-io, stands-records, stands-same}
 use Rattle.file_laws.proofs.Kept.{kinds-drives, kinds-still}
 use Rattle.file_laws.proofs.Volumes.{all-same}
 use Rattle.file_laws.proofs.Paths.{LeavesOn}
@@ -107,6 +115,18 @@ module _ (asker : Asker) (files : Files) where
             subst (λ (effect : FileEffect). Stands files effect.files) (sym is.effect_is) (record { kinds = made is.old is.new is.number is.is is.makes; many = changed is.old is.new is.number is.is })
         well effect old new (inr is, same) = subst (λ (effect : FileEffect). Stands files effect.files) (sym is.effect_is) (stands-same files kinds)
 
+    -- a request: the call goes on, is refused or waits
+    asks-by : (drive : ℕ) (grant : Grant) (request : Request) (next : FileStep) → KeptOn drive next → KeptOn drive (asks_by grant files request next)
+    asks-by drive Granted request next kept = kept
+    asks-by drive Locked request next kept = on-refused drive E_LOCK
+    asks-by drive Deadlock request next kept = on-refused drive E_DEADLK
+    asks-by drive Wait request next kept =
+        on-leaves drive (leaves (keeps (call_of request)) (waiting_in files request)) (stands-records files kinds
+        files (with_waiting files.records request.lock.owner.0 (Some request)) (stands-same files kinds))
+
+    pub asks-on : (drive : ℕ) (request : Request) (next : FileStep) → KeptOn drive next → KeptOn drive (asks asker files request next)
+    asks-on drive request next kept = asks-by drive (answer_to asker files request) request next kept
+
     pub refused-kept : (number : ℕ) → Kept (refused number)
     refused-kept number = record {
       well = leaves-well (refuses_so number files) (stands-same files kinds);
@@ -124,7 +144,9 @@ module _ (asker : Asker) (files : Files) where
       where
         well : KeptWell (as_io step)
         well effect old new (it, does, is) =
-            subst (λ (effect : FileEffect). Stands files effect.files) (sym is) (stands-io files kinds it.io (on it old new does))
+            subst (λ (effect : FileEffect). Stands files effect.files) (sym is) (stands-records files kinds
+            (with_io files it.io) (with_waiting files.records asker.caller.process.0 None)
+            (stands-io files kinds it.io (on it old new does)))
 
     -- a step that reaches a drive, and goes on on it
     pub reaches-kept : (drive : ℕ) (step : FileStep) → KeptOn drive step → Kept (reaches drive step)

@@ -11,7 +11,7 @@ use Rattle.rbf_model.specs.Volume.{DiskVolume}
 use Rattle.rbf_change.specs.Calls.{cluster_size}
 use Rattle.io_rules.specs.Modes.{can_write}
 use Rattle.file_rules.specs.Files.{Files, directory_of, file_in, volume_at}
-use Rattle.file_rules.specs.declared.places.FilePlace.{FilePlace}
+use Rattle.lock_model.specs.declared.place.FilePlace.{FilePlace}
 
 -- there is a file at the place, and it is a directory or not, as this flag says
 pub record IsOfKind (files : Files) (place : FilePlace) (directory : Bool) : Type 0 where

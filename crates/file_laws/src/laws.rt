@@ -13,10 +13,10 @@ ghost use Rattle.call_rules.specs.CallResult.{CallResult};
 ghost use Rattle.call_rules.specs.Inner.{Inner};
 ghost use Rattle.io_rules.specs.Io.{Io};
 ghost use Rattle.io_rules.specs.Modes.{can_write};
-ghost use Rattle.io_rules.specs.Waiting.{io_interrupted};
 ghost use Rattle.file_rules.specs.Attempts.{AskerAttempts, FileAttempts};
 ghost use Rattle.file_rules.specs.Files.{Files, Asker, DriveState, OpenFile, open_file, volume_at, with_io, with_volume};
 ghost use Rattle.file_rules.specs.Load.{LoadAttempts};
+ghost use Rattle.file_rules.specs.Locking.{files_interrupted};
 ghost use Rattle.file_rules.specs.Processes.{StartsOn, files_ended, files_started};
 ghost use Rattle.file_rules.specs.Program.{ChainAttempts, ForkAttempts};
 ghost use Rattle.file_rules.specs.declared.path_call.PathCall.{PathCall};
@@ -47,7 +47,7 @@ pub fn mounts_and_interruptions_keep_what_is_there()
     ensures same { (files : Files) (io : Io) → io.paths ≡ files.io.paths → AreKinds files
         → AreKinds (with_io files io) }
     ensures interrupted { (files : Files) (p : ℕ) → AreKinds files
-        → AreKinds (with_io files (io_interrupted files.io p)) }
+        → AreKinds (files_interrupted files p) }
     ensures mounted { (files : Files) (drive : ℕ) (image : List ℕ) (v : DiskVolume)
         → AreKinds files → volume_at files drive ≡ None → Vol image v
         → AreKinds (with_volume files drive v) }

@@ -58,8 +58,8 @@ module _ (m : Inner) (was : Files) (now : TimePacket) (p : ℕ) (list : PathList
     (views : List DriveView) (stands : StandsFor state views was) (end : CallEnd) (processes : ProcState)
     (mid io : Io) (io_is : io ≡ with_call mid p None) where
   pub full-quietly : mid ≡ state.io → None ≡ new_number state.io.paths p → end ≡ Error E_PTHFUL → Represents processes
-      m → EndsQuietly (begins (asker_of m p now) was list target) m was p end processes
-      (record { io = io; disks = state.disks; directories = state.directories }) views
+      m → EndsQuietly (begins (asker_of m p now) was list target) m was p end processes (record state { io = io })
+      views
   full-quietly same none end_is tied =
       refused-quietly m p state views end processes io (io_is ∙ ap (λ (it : Io). with_call it p None) same) E_PTHFUL end_is tied was stands (begins (asker_of m p now) was list target)
       (begins-full (asker_of m p now) was list target (ap (λ (it : Io). new_number it.paths p) stands.io ∙ sym none))
@@ -67,10 +67,10 @@ module _ (m : Inner) (was : Files) (now : TimePacket) (p : ℕ) (list : PathList
   module _ (a next : ℕ) (numbered : Some a ≡ new_number state.io.paths p) (next_is : list.next ≡ next) (end_is : end ≡ Done) where
     begun : mid ≡ with_paths state.io (paths_after_begin state.io.paths p (new_desc target (regs_at m p).a))
         → Represents processes (with_regs_of m p (opened_regs (regs_at m p) list a))
-        → EndsQuietly (begins (asker_of m p now) was list target) m was p end processes
-        (record { io = io; disks = state.disks; directories = state.directories }) views
+        → EndsQuietly (begins (asker_of m p now) was list target) m was p end processes (record state { io = io })
+        views
     begun mid_is tied =
-        done-quietly m p (record { io = mid; disks = state.disks; directories = state.directories }) views end processes io io_is (opened_regs (regs_at m p) list a)
+        done-quietly m p (record state { io = mid }) views end processes io io_is (opened_regs (regs_at m p) list a)
         (with_path_table was (paths (asker_of m p now) was list target))
         (begins (asker_of m p now) was list target) was end_is tied
         (stands-with_io state views was (with_paths was.io (paths (asker_of m p now) was list target)) mid
@@ -80,8 +80,8 @@ module _ (m : Inner) (was : Files) (now : TimePacket) (p : ℕ) (list : PathList
     -- by the registers that were read
     pub begun-quietly : (r : Regs) → r ≡ regs_at m p → mid ≡ with_paths state.io (paths_after_begin state.io.paths p
         (new_desc target r.a)) → Represents processes (with_regs_of m p (record r { a = a; x = next % 65536 }))
-        → EndsQuietly (begins (asker_of m p now) was list target) m was p end processes
-        (record { io = io; disks = state.disks; directories = state.directories }) views
+        → EndsQuietly (begins (asker_of m p now) was list target) m was p end processes (record state { io = io })
+        views
     begun-quietly r same mid_is tied =
         begun (subst (λ (r : Regs). mid ≡ with_paths state.io (paths_after_begin state.io.paths p (new_desc target r.a))) same mid_is)
         (subst (λ (r : Regs). Represents processes (with_regs_of m p (opened_regs r list a))) same

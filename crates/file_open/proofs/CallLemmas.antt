@@ -18,7 +18,7 @@ use Rattle.file_rules.specs.Open.{is_for_execution}
 use Rattle.file_rules.specs.Step.{FileStep, Step, comes, drive_of, reaches, refused}
 use Rattle.file_rules.specs.Way.{along, nowhere, reads_list, to_device, way_of, way_to_new}
 use Rattle.file_rules.specs.Way as Rule
-use Rattle.file_rules.specs.declared.places.FilePlace.{FilePlace}
+use Rattle.lock_model.specs.declared.place.FilePlace.{FilePlace}
 use Rattle.file_state.specs.Counted.{calls_of}
 use Rattle.file_routes.specs.Ways.{IsRoute, Led, leads, led_by, refuses_by, way_for, way_to}
 use Rattle.file_routes.specs.declared.way.Purpose.TheVariants.{Existing, New}

@@ -26,7 +26,7 @@ use Rattle.file_rules.specs.Files.{Asker, Files, volume_at}
 use Rattle.file_rules.specs.Open.{is_for_execution, says_directory}
 use Rattle.file_rules.specs.Step.{FileStep, MayBeLeft, Step, VolumeChange, changes, comes, deed_of, leaves_so, needs, reaches, refused, refuses, refuses_so}
 use Rattle.file_rules.specs.Way.{Found, along, before_last, is_root, last_of, list_of, nowhere, reads_list, walks, way_of, way_to_new}
-use Rattle.file_rules.specs.declared.places.FilePlace.{FilePlace}
+use Rattle.lock_model.specs.declared.place.FilePlace.{FilePlace}
 use Rattle.file_drives.specs.Changed.{has_no_segment, is_full_for}
 use Rattle.file_drives.specs.Drives.{DriveView}
 use Rattle.file_state.specs.Ends.{Ends}

@@ -1,5 +1,5 @@
 -- Calls that open terminals and pipes, and how many drives there are.
-use Rattle.std.proofs.Common.{◌≡◌, ◌∙◌, ℕ, List, length, refl, ap, sym, subst}
+use Rattle.std.proofs.Common.{◌≡◌, ◌∙◌, ℕ, None, List, length, refl, ap, sym, subst, inl}
 use Rattle.std.proofs.lemmas.List.{length-map}
 use Rattle.std.specs.declared.alloc.Global.{Global}
 use Rattle.std.specs.declared.dyn_box.DynBox.{DynBox}
@@ -17,13 +17,14 @@ use Rattle.io_state.specs.Attempt as io_attempt
 use Rattle.proc_state.specs.Tie.{Comes}
 use Rattle.proc_state.specs.declared.state.ProcState.{ProcState}
 use Rattle.file_rules.specs.Attempts.{asker_of}
-use Rattle.file_rules.specs.Files.{DriveState, Files}
+use Rattle.lock_model.specs.Records.{Records, with_waiting}
+use Rattle.file_rules.specs.Files.{DriveState, Files, with_io}
 use Rattle.file_rules.specs.Step.{FileStep, as_io, comes, on_files}
 use Rattle.file_drives.specs.Drives.{DriveView, boxed_drive_view, drive_state, drive_views}
 use Rattle.file_state.proofs.CountLemmas.{called-none}
 use Rattle.file_state.proofs.EndLemmas.{goes-as-io}
 use Rattle.file_state.proofs.KeepLemmas.{keeps-same}
-use Rattle.file_state.proofs.StateLemmas.{stands-with_io}
+use Rattle.file_state.proofs.StateLemmas.{stands-with_io, stands-with_records}
 use Rattle.file_state.specs.Ends.{Ends}
 use Rattle.file_state.specs.Tie.{StandsFor}
 use Rattle.file_state.specs.declared.state.FileState.{FileState}
@@ -39,22 +40,26 @@ views-many members drives = length-map drives (boxed_drive_view members)
 
 -- what the call on a terminal or a pipe does is done in the state of files
 pub device-ends : (most : ℕ) (call : IoCall) (m : Inner) (was : Files) (now : TimePacket) (p : ℕ) (state : FileState)
-    (views : List DriveView) (drives : ℕ) (end : CallEnd) (processes : ProcState) (io : Io)
-    (terms : List TerminalState) → StandsFor state views was → length was.drives ≡ drives → io_attempt.Attempts call m
-    state.io drives p end processes io terms terms
+    (views : List DriveView) (drives : ℕ) (end : CallEnd) (processes : ProcState) (io : Io) (records : Records)
+    (terms : List TerminalState) → StandsFor state views was → records ≡ with_waiting state.records p None
+    → length was.drives ≡ drives → io_attempt.Attempts call m state.io drives p end processes io terms terms
     → Ends (comes (as_io (io_step call (caller_of m p) was.io (length was.drives) (length terms)))) most m was now p
-    end processes (record { io = io; disks = state.disks; directories = state.directories }) views views terms
-device-ends most call m was now p state views drives end processes io terms stands many it =
+    end processes (record { io = io; disks = state.disks; directories = state.directories; records = records }) views
+    views terms
+device-ends most call m was now p state views drives end processes io records terms stands cancelled many it =
     let effect : IoEffect = it.attempt.effect in
     let deed : ℕ → Io → IoStep = λ drives before. io_step call (caller_of m p) before drives (length terms) in
     let step : FileStep = comes (as_io (deed (length was.drives) was.io)) in
     record {
-      effect = on_files was effect;
+      effect = on_files p was effect;
       does = goes-as-io step (asker_of m p now) was (deed (length was.drives) was.io) effect terms terms refl
           (subst (λ (before : Io). Does (deed (length was.drives) before) (caller_of m p) before effect terms terms) (sym stands.io)
           (subst (λ (count : ℕ). Does (deed count state.io) (caller_of m p) state.io effect terms terms) (sym many) it.attempt.does));
       comes = subst (λ (result : CallResult). Comes m p result end processes) it.attempt.result_is it.comes;
-      stands = stands-with_io state views was (io_after p effect) io (sym it.attempt.state) stands;
+      stands =
+          inl (stands-with_records (record state { io = io }) views (with_io was (io_after p effect)) (with_waiting was.records p None) records
+          (ap (λ (records : Records). with_waiting records p None) stands.records ∙ sym cancelled)
+          (stands-with_io state views was (io_after p effect) io (sym it.attempt.state) stands));
       calls = called-none views;
       drives = keeps-same step (asker_of m p now) was end views tt;
     }

@@ -71,7 +71,7 @@ module _ (m : Inner) (was : Files) (now : TimePacket) (p : ℕ) (terms : List Te
 
 module _ (m : Inner) (p : ℕ) (state : FileState) (views : List DriveView) (end : CallEnd) (processes : ProcState) (io : Io) (io_is : io ≡ with_call state.io p None) where
   abbrev left : FileState
-  left = record { io = io; disks = state.disks; directories = state.directories }
+  left = record state { io = io }
 
   -- the files, where nothing is kept of the call
   pub stands-after : (files : Files) → StandsFor state views files → StandsFor left views (record files { io = with_call files.io p None })
@@ -99,7 +99,7 @@ module _ (m : Inner) (p : ℕ) (state : FileState) (views : List DriveView) (end
         effect = refuses_so number files;
         does = does;
         comes = (end_is, tied);
-        stands = stands-after files stands;
+        stands = inl (stands-after files stands);
         calls = calls;
         drives = subst (λ (end : CallEnd). KeepsDrives step (asker_of m p now) was end before views) (sym end_is) drives;
       }
@@ -150,7 +150,7 @@ module _ (m : Inner) (was : Files) (now : TimePacket) (p : ℕ) (end : CallEnd) 
         does = subst (λ (effect : FileEffect). FileDoes step (asker_of m p now) was effect terms terms) (sym same.2)
             (goes-well step (asker_of m p now) was same.0 (drive_states views) terms same.1 read.read.moved);
         comes = it.comes;
-        stands = it.stands;
+        stands = inl it.stands;
         calls = subst (λ (n : ℕ). CalledAtMost n before views) (sym (calls-reached step drive most at)) read.calls;
         drives = keeps-read step (asker_of m p now) was end drive before views (inl at) (subst (λ (deed : Deed). MayKeepAll deed end) (sym same.1) tt) None mid read.read;
       }

@@ -34,7 +34,7 @@ use Rattle.file_rules.specs.Files.{Asker, Files, volume_at, with_drives, with_pa
 use Rattle.file_rules.specs.Open.{is_for_execution, says_directory}
 use Rattle.file_rules.specs.Step.{FileDoes, FileEffect, FileStep, MayBeLeft, VolumeChange, changes, deed_of, leaves, leaves_so, refuses_so}
 use Rattle.file_rules.specs.Way.{Found, last_of}
-use Rattle.file_rules.specs.declared.places.FilePlace.{FilePlace}
+use Rattle.lock_model.specs.declared.place.FilePlace.{FilePlace}
 use Rattle.file_drives.specs.Changed.{Asked, ChangesVolume, IsRefused, has_no_segment, is_full_for, is_refused}
 use Rattle.file_drives.specs.Drives.{DriveView, drive_states}
 use Rattle.file_state.proofs.EndLemmas.{asked_of, breaks, goes-well, is-made}
@@ -115,14 +115,15 @@ module _ (m : Inner) (was : Files) (now : TimePacket) (p : ℕ) (terms : List Te
     -- what was answered, of the directory that was found
     pub change-answered : (mid : FileState) (views : List DriveView) (answer : Result ℕ DirError) (attr user : ℕ)
         (most : DiskVolume → DiskFile → DiskVolume → ℕ) → HasRead None place.drive was mid before views
-        → new.io ≡ mid.io → new.directories ≡ mid.directories → attr ≡ (regs_at m p).b → user ≡ user_at m p
-        → ChangesVolume place (asked_at place attr user) answer most mid.disks views new.disks after → Changed answer
-    change-answered mid views answer attr user most read io directories attr_is user_is changed =
+        → new.io ≡ mid.io → new.directories ≡ mid.directories → new.records ≡ mid.records → attr ≡ (regs_at m p).b
+        → user ≡ user_at m p → ChangesVolume place (asked_at place attr user) answer most mid.disks views new.disks
+        after → Changed answer
+    change-answered mid views answer attr user most read io directories records attr_is user_is changed =
         let first : HasChanged (asked_at place attr user) answer place.drive dir.volume dir.file was new before after =
         reached.has-changed-then (asked_at place attr user) answer place.drive dir.volume dir.file was mid new before views after read
         (reached.has-changed mid new views after (with_drives was (drive_states views)) place dir.volume dir.file
-        (asked_at place attr user) answer most read.stands found.volume_is found.file_is io directories changed)
-        in
+        (asked_at place attr user) answer most read.stands found.volume_is found.file_is io directories records
+        changed) in
         subst (λ (at : FilePlace). HasChanged (asked_at at (regs_at m p).b (user_at m p)) answer at.drive dir.volume dir.file was new before after) (sym found.place_is)
         (subst (λ (asked : Asked). HasChanged asked answer place.drive dir.volume dir.file was new before after)
         (ap (λ (attr : ℕ). asked_at place attr user) attr_is ∙ ap (asked_at place (regs_at m p).b) user_is) first)
@@ -130,16 +131,17 @@ module _ (m : Inner) (was : Files) (now : TimePacket) (p : ℕ) (terms : List Te
     -- and how often the drive was called until then
     pub change-called : (few : ℕ) (mid : FileState) (views : List DriveView) (answer : Result ℕ DirError)
         (asked : Asked) → HasReadIn few None place.drive was mid before views → new.io ≡ mid.io → new.directories ≡
-        mid.directories → ChangesVolume place asked answer (λ v file left. entering_calls v file 2 answer) mid.disks
-        views new.disks after → CalledAtMost (few + calls_at_place dir.volume dir.file) before after
-    change-called few mid views answer asked read io directories changed =
+        mid.directories → new.records ≡ mid.records → ChangesVolume place asked answer (λ v file left. entering_calls
+        v file 2 answer) mid.disks views new.disks after → CalledAtMost (few + calls_at_place dir.volume dir.file)
+        before after
+    change-called few mid views answer asked read io directories records changed =
         let most : ℕ = entering_calls dir.volume dir.file 2 answer in
         called-more (few + most) (few + calls_at_place dir.volume dir.file) before after
         (sum-within few most (calls_at_place dir.volume dir.file) (entering-within dir.volume dir.file answer))
         (called-then few most before views after read.calls
         (has-changed-in mid new views after (with_drives was (drive_states views)) place dir.volume dir.file asked
         answer (λ v file left. entering_calls v file 2 answer) read.read.stands found.volume_is found.file_is io
-        directories changed).calls)
+        directories records changed).calls)
 
     -- the files then
     abbrev left : (answer : Result ℕ DirError) → Changed answer → Files
@@ -233,7 +235,7 @@ module _ (m : Inner) (was : Files) (now : TimePacket) (p : ℕ) (terms : List Te
               (changes-it changed.answers.enough changed.answers.list)
               on-volume changed.answers changed.moved);
           comes = ended.comes;
-          stands = ended.stands;
+          stands = inl ended.stands;
           calls = calls;
           drives = subst (λ (end : CallEnd). KeepsDrives making asker was end before after) (sym is_done)
               (keeps-made making asker was it dir.volume dir.file new before after refl (changes-it changed.answers.enough changed.answers.list) on-volume on-file n changed);

@@ -22,7 +22,7 @@ use Rattle.file_rules.specs.Open.{begins_on, i_open, is_for_execution, may_open,
 use Rattle.file_rules.specs.Sharing.{is_not_shared}
 use Rattle.file_rules.specs.Step.{Deed, FileEffect, FileStep, MayBeLeft, Step, comes, refused, deed_of, done, leaves, leaves_so, needs, reaches, refuses, refuses_so, with_drives_after}
 use Rattle.file_rules.specs.Way.{Found, Way, list_of, reads_list, walk_ends, walks, way_of}
-use Rattle.file_rules.specs.declared.places.FilePlace.{FilePlace}
+use Rattle.lock_model.specs.declared.place.FilePlace.{FilePlace}
 use Rattle.file_routes.proofs.WayLemmas.{leads-on, mode-tested}
 use Rattle.file_routes.specs.Ways.{IsRoute, Led, leads, mode_refusal, next_step, way_for, way_to}
 use Rattle.file_routes.specs.declared.way.Route.{Route}

@@ -13,7 +13,7 @@ use Rattle.file_rules.specs.Attempts.{asker_of}
 use Rattle.file_rules.specs.Files.{Files, with_drives}
 use Rattle.file_rules.specs.Step.{FileDoes, FileStep, MayBeLeft, deed_of, drive_of, refuses_so}
 use Rattle.file_rules.specs.Way.{Found}
-use Rattle.file_rules.specs.declared.places.FilePlace.{FilePlace}
+use Rattle.lock_model.specs.declared.place.FilePlace.{FilePlace}
 use Rattle.file_drives.specs.Drives.{DriveView, drive_states}
 use Rattle.file_drives.specs.Mounted.{OnDisks, ReadsFile}
 use Rattle.file_state.proofs.CountLemmas.{called-read, called-then}
@@ -31,13 +31,13 @@ module _ (was : Files) (place : FilePlace) (found : Found) (it : IsFoundAt was p
 
   -- and the drive has been read once more
   pub read-on : (fault : Option ℕ) (most : DiskVolume → DiskFile → ℕ) → new.io ≡ mid.io → new.directories ≡
-      mid.directories → ReadsFile place fault most mid.disks views new.disks now
+      mid.directories → new.records ≡ mid.records → ReadsFile place fault most mid.disks views new.disks now
       → HasReadIn (few + most found.volume found.file) fault place.drive was new before now
-  read-on fault most io directories reads = record {
+  read-on fault most io directories records reads = record {
     first = read.first;
     read = reached.has-read-then fault place.drive was mid new before views now read.read
         (reached.has-read mid new views now (with_drives was (drive_states views)) place found.file fault most read.read.stands
-        (reached.file-there was place found.volume found.file it.volume_is it.file_is) io directories reads);
+        (reached.file-there was place found.volume found.file it.volume_is it.file_is) io directories records reads);
     calls = called-then few (most found.volume found.file) before views now read.calls
         (called-read mid new views now (with_drives was (drive_states views)) place found.volume found.file fault most read.read.stands it.volume_is it.file_is reads);
   }
@@ -48,10 +48,10 @@ module _ (was : Files) (place : FilePlace) (found : Found) (it : IsFoundAt was p
       (asker_of m p time) v v) where
     pub fault-does : (A : Type 0) (fault : FileFault) (most : DiskVolume → DiskFile → ℕ)
         → IsSome (file_fault {A = A} (Err fault)) → new.io ≡ mid.io → new.directories ≡ mid.directories
-        → ReadsFile place (file_fault {A = A} (Err fault)) most mid.disks views new.disks now
-        → FileDoes step (asker_of m p time) was (refuses_so (file_error fault) (with_drives was (drive_states now)))
-        terms terms
-    fault-does A (Device number) most some io directories reads =
-        broken m was time p terms step place.drive new before now number found.volume at it.volume_is (stays found.volume) (read-on (Some number) most io directories reads).read
-    fault-does A NoCluster most some io directories reads = absurd (false≢true some)
-    fault-does A TooManyRuns most some io directories reads = absurd (false≢true some)
+        → new.records ≡ mid.records → ReadsFile place (file_fault {A = A} (Err fault)) most mid.disks views new.disks
+        now → FileDoes step (asker_of m p time) was (refuses_so (file_error fault)
+        (with_drives was (drive_states now))) terms terms
+    fault-does A (Device number) most some io directories records reads =
+        broken m was time p terms step place.drive new before now number found.volume at it.volume_is (stays found.volume) (read-on (Some number) most io directories records reads).read
+    fault-does A NoCluster most some io directories records reads = absurd (false≢true some)
+    fault-does A TooManyRuns most some io directories records reads = absurd (false≢true some)

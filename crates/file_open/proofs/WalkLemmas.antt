@@ -26,7 +26,7 @@ use Rattle.file_rules.specs.Open.{is_for_execution}
 use Rattle.file_rules.specs.Files.{Files, volume_at, with_drives}
 use Rattle.file_rules.specs.Step.{FileDoes, FileStep, MayBeLeft, deed_of, drive_of, reaches, refuses_so}
 use Rattle.file_rules.specs.Way.{Found, walks}
-use Rattle.file_rules.specs.declared.places.FilePlace.{FilePlace}
+use Rattle.lock_model.specs.declared.place.FilePlace.{FilePlace}
 use Rattle.file_drives.specs.Drives.{DriveView, drive_states}
 use Rattle.file_drives.specs.Mounted.{HasFileAt}
 use Rattle.file_state.proofs.CountLemmas.{called-read}
@@ -48,8 +48,8 @@ use Rattle.file_open.specs.Steps.{IsFoundAt, walker_at}
 module _ (m : Inner) (was : Files) (now : TimePacket) (p : ℕ) (terms : List TerminalState) (walker : Walker)
     (from : FilePlace) (names : List (List ℕ)) (state new : FileState) (before after : List DriveView)
     (user : (asker_of m p now).user ≡ walker.user) (stands : StandsFor state before was) (has : HasFileAt state.disks
-    before from) (io : new.io ≡ state.io) (directories : new.directories ≡ state.directories) (next : Found
-    → FileStep) where
+    before from) (io : new.io ≡ state.io) (directories : new.directories ≡ state.directories)
+    (records : new.records ≡ state.records) (next : Found → FileStep) where
   abbrev step : FileStep
   step = walks (asker_of m p now) was walker.execute from names next
 
@@ -72,7 +72,7 @@ module _ (m : Inner) (was : Files) (now : TimePacket) (p : ℕ) (terms : List Te
     read v is = record {
       first = stands.drives;
       read = reached.has-read state new before after was from has.file (directory_fault arrived) (λ v file. walk_calls v.files walker.user walker.execute from.number names) stands
-          (ap (option_and_then (λ (v : DiskVolume). v.files from.number)) is ∙ there v is) io directories it.drive;
+          (ap (option_and_then (λ (v : DiskVolume). v.files from.number)) is ∙ there v is) io directories records it.drive;
       calls = called-read state new before after was from v has.file (directory_fault arrived)
           (λ v file. walk_calls v.files walker.user walker.execute from.number names) stands is (there v is) it.drive;
     }
@@ -154,12 +154,10 @@ module _ (m : Inner) (was : Files) (now : TimePacket) (p : ℕ) (terms : List Te
       pub walk-ends : (error : DirError) (it : Walks walker from names (Err error) state.disks before new.disks after)
           (io_then : Io) → io_then ≡ with_call new.io p None → end ≡ Error (directory_error error)
           → Represents processes m → ((v : DiskVolume) → MayBeLeft (deed_of step was) (asker_of m p now) v v)
-          → Ends (walked execute) (walked_calls execute) m was now p end processes
-          (record { io = io_then; disks = new.disks; directories = new.directories }) before after terms
+          → Ends (walked execute) (walked_calls execute) m was now p end processes (record new { io = io_then })
+          before after terms
       walk-ends error it io_then io_is end_is tied stays =
-          subst (λ (execute : Bool). Ends (walked execute) (walked_calls execute) m was now p end processes
-          (record { io = io_then; disks = new.disks; directories = new.directories }) before after terms)
-          execute_is
+          subst (λ (execute : Bool). Ends (walked execute) (walked_calls execute) m was now p end processes (record new { io = io_then }) before after terms) execute_is
           (read-ends m p new after end processes io_then io_is (directory_error error) end_is tied was now terms
           (walked_calls walker.execute) step (directory_fault {A = FilePlace} (Err error)) from.drive before
           reached-there

@@ -15,7 +15,7 @@ use Rattle.file_rules.specs.Attempts.{asker_of}
 use Rattle.file_rules.specs.Files.{Files}
 use Rattle.file_rules.specs.Step.{FileStep}
 use Rattle.file_rules.specs.Way.{Found, along}
-use Rattle.file_rules.specs.declared.places.FilePlace.{FilePlace}
+use Rattle.lock_model.specs.declared.place.FilePlace.{FilePlace}
 use Rattle.file_drives.specs.Drives.{DriveView}
 use Rattle.file_drives.specs.Entries.{IsPlaceAt}
 use Rattle.file_drives.specs.Mounted.{HasFileAt}

@@ -5,7 +5,7 @@ use Rattle.call_rules.specs.Inner.{Inner}
 use Rattle.io_rules.specs.Attempts.{result_of}
 use Rattle.proc_state.specs.Tie.{Comes}
 use Rattle.proc_state.specs.declared.state.ProcState.{ProcState}
-use Rattle.file_rules.specs.Attempts.{files_after, io_effect}
+use Rattle.file_rules.specs.Attempts.{files_kept, io_effect}
 use Rattle.file_rules.specs.Files.{Files}
 use Rattle.file_rules.specs.Step.{FileEffect, FileStep, deed_of, leaves_so}
 use Rattle.file_drives.specs.Drives.{DriveView, drive_states}
@@ -28,4 +28,4 @@ pub record EndsQuietly (step : FileStep) (m : Inner) (files : Files) (p : ℕ) (
   pub effect : FileEffect
   pub is : deed_of step files ≡ leaves_so effect
   pub comes : Comes m p (result_of m p (io_effect effect)) end processes
-  pub stands : StandsFor new views (files_after p effect)
+  pub stands : StandsFor new views (files_kept p effect)

@@ -23,9 +23,9 @@ use device_paths::open::i_create as create_on_device;
 use device_table::devices::Devices;
 use file_routes::walk::LastName;
 use file_routes::way::{Purpose, Way, mode_refusal};
-use file_rules::places::FilePlace;
 use file_state::state::FileState;
 use io_model::path::Target;
+use lock_model::place::FilePlace;
 use os9_base::call::CallEnd;
 use os9_base::errors::{E_BPNAM, E_FNA, E_PTHFUL};
 use os9_base::registers::{Pid, TimePacket};
@@ -73,7 +73,10 @@ pub fn i_create(
     match find_way(s, files, devices, p, Purpose::New, refusal) {
         Err(number) => refuse(&mut files.io, p, number),
         Ok(route) => match route.way {
-            Way::Device => create_on_device(s, &mut files.io, p, devices),
+            Way::Device => {
+                files.records.cancel(p);
+                create_on_device(s, &mut files.io, p, devices)
+            }
             Way::Along { from, first } => {
                 create_along(s, files, devices, p, from, first, route.next, now)
             }

@@ -32,8 +32,8 @@ use device_paths::ends::refuse;
 use device_paths::open::i_open as open_device;
 use device_table::devices::Devices;
 use file_routes::way::{Purpose, Way, mode_refusal};
-use file_rules::places::FilePlace;
 use file_state::state::{FileState, target_on};
+use lock_model::place::FilePlace;
 use os9_base::call::CallEnd;
 use os9_base::errors::{E_FNA, E_SHARE};
 use os9_base::registers::Pid;
@@ -74,7 +74,10 @@ pub fn i_open(s: &mut ProcState, files: &mut FileState, devices: &mut Devices, p
     match find_way(s, files, devices, p, Purpose::Existing, refusal) {
         Err(number) => refuse(&mut files.io, p, number),
         Ok(route) => match route.way {
-            Way::Device => open_device(s, &mut files.io, p, devices),
+            Way::Device => {
+                files.records.cancel(p);
+                open_device(s, &mut files.io, p, devices)
+            }
             Way::Along { from, first } => {
                 open_along(s, files, devices, p, from, first, route.next)
             }

@@ -7,7 +7,7 @@ use Rattle.rbf_access.specs.Drive.{MovesCounts}
 use Rattle.rbf_access.specs.declared.volume.Volume.{Volume}
 use Rattle.rbf_access.proofs.Counting.{no_calls, counts_most, counts_then}
 use Rattle.rbf_walk.proofs.Stepping.{same_content}
-use Rattle.file_rules.specs.declared.places.FilePlace.{FilePlace}
+use Rattle.lock_model.specs.declared.place.FilePlace.{FilePlace}
 use Rattle.file_drives.specs.Drives.{DriveView, ReadsDrive}
 use Rattle.file_drives.specs.Mounted.{AgreesOnDrive, AreMounted, HasFileAt, kept_at, mounted_at}
 use Rattle.file_drives.proofs.MountedLemmas.{mounted-below}

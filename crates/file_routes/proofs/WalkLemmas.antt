@@ -11,7 +11,7 @@ use Rattle.rbf_walk.specs.Walk.{AnswersWalk, calls_on, directory_fault, step_cal
 use Rattle.rbf_walk.specs.declared.error.DirError.{DirError}
 use Rattle.rbf_walk.specs.declared.error.DirError.TheVariants.{NotAllowed, BadPath, NotFound, Exists, File}
 use Rattle.file_rules.specs.Way.{before_last, last_of}
-use Rattle.file_rules.specs.declared.places.FilePlace.{FilePlace}
+use Rattle.lock_model.specs.declared.place.FilePlace.{FilePlace}
 use Rattle.file_drives.specs.Drives.{DriveView, ReadsDrive}
 use Rattle.file_drives.specs.Mounted.{AreMounted, ArrivesOn, HasFileAt, OnDisks, StayMounted, mounted_at, number_arrived}
 use Rattle.user_names.specs.declared.name_fault.NameFault.{NameFault}

@@ -15,7 +15,7 @@ use Rattle.file_rules.specs.Open.{tests_mode}
 use Rattle.file_rules.specs.Step.{Step, refused, comes}
 use Rattle.file_rules.specs.Way.{along, to_device, nowhere, is_drive, is_root, list_of, reads_list, root_of, to_device_of, way_by, way_from, way_of, way_of_device, way_on_drive, way_to_new}
 use Rattle.file_rules.specs.Way as Rule
-use Rattle.file_rules.specs.declared.places.FilePlace.{FilePlace}
+use Rattle.lock_model.specs.declared.place.FilePlace.{FilePlace}
 use Rattle.file_drives.specs.Drives.{DriveView}
 use Rattle.file_drives.specs.Mounted.{HasFileAt}
 use Rattle.device_paths.specs.Listed.{listed, listed_of}

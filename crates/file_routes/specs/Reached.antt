@@ -7,7 +7,7 @@ use Rattle.rbf_walk.specs.declared.error.DirError.{DirError}
 use Rattle.rbf_walk.specs.declared.error.DirError.TheVariants.{NotAllowed, BadPath, NotFound, Exists, File}
 use Rattle.file_rules.specs.Files.{Files, volume_at}
 use Rattle.file_rules.specs.Way.{Found}
-use Rattle.file_rules.specs.declared.places.FilePlace.{FilePlace}
+use Rattle.lock_model.specs.declared.place.FilePlace.{FilePlace}
 use Rattle.file_routes.specs.declared.walk.Walker.{Walker}
 
 -- it has this end on the volume of the drive

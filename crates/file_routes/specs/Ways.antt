@@ -12,7 +12,7 @@ use Rattle.file_rules.specs.Files.{Asker, Files, directory_of}
 use Rattle.file_rules.specs.Step.{Step, refused, comes, reaches}
 use Rattle.file_rules.specs.Way.{along, to_device, nowhere, is_drive, list_of, reads_list, way_of, way_to_new}
 use Rattle.file_rules.specs.Way as Rule
-use Rattle.file_rules.specs.declared.places.FilePlace.{FilePlace}
+use Rattle.lock_model.specs.declared.place.FilePlace.{FilePlace}
 use Rattle.file_drives.specs.Drives.{DriveView}
 use Rattle.file_drives.specs.Mounted.{AreMounted, HasFileAt}
 use Rattle.device_paths.specs.Standing.{NamesFrom}

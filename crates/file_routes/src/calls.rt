@@ -18,7 +18,7 @@ use crate::walk::{LastName, Walker, walk, walk_to_last};
 use crate::way::{Query, Route, find_route};
 use device_table::devices::Devices;
 use file_drives::disks::Disks;
-use file_rules::places::FilePlace;
+use lock_model::place::FilePlace;
 use os9_outer::drive::BlockDriver;
 use proc_state::state::ProcState;
 use rbf_walk::DirError;

@@ -10,8 +10,8 @@ ghost use Rattle.file_routes.specs.Walks.{GoesUp, ReachesLast, SomeFrom, SomeSta
 use device_paths::named::read_name;
 use device_table::devices::Devices;
 use file_drives::disks::Disks;
-use file_rules::places::FilePlace;
 use guest_memory::memory::Memory;
+use lock_model::place::FilePlace;
 use os9_base::name::Name;
 use os9_base::registers::Pid;
 use os9_outer::drive::BlockDriver;

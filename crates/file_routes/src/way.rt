@@ -16,8 +16,8 @@ ghost use Rattle.file_routes.specs.Ways.{Asks, IsDevice, IsRouteFor, IsRouteOf, 
 use device_paths::list::{Listed, read_path_list};
 use device_table::devices::{Dev, Devices};
 use file_drives::disks::Disks;
-use file_rules::places::FilePlace;
 use guest_memory::memory::Memory;
+use lock_model::place::FilePlace;
 use os9_base::errors::{E_BMODE, E_BPADDR, E_BPNAM, E_MNF, E_PNNF};
 use os9_base::registers::Pid;
 use user_names::name_fault::NameFault;

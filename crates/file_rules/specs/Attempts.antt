@@ -9,14 +9,15 @@ use Rattle.os9_outer.specs.TerminalState.{TerminalState}
 use Rattle.call_rules.specs.CallResult.{CallResult}
 use Rattle.call_rules.specs.Inner.{Inner, user_at}
 use Rattle.io_rules.specs.Attempts.{caller_of, end_of, kept_in, regs_after, result_of}
-use Rattle.io_rules.specs.Close.{i_close}
 use Rattle.io_rules.specs.Dup.{i_dup}
 use Rattle.io_rules.specs.Io.{with_call}
 use Rattle.io_rules.specs.Step.{IoEffect}
 use Rattle.file_rules.specs.ChgDir.{i_chgdir}
+use Rattle.file_rules.specs.Close.{i_close}
 use Rattle.file_rules.specs.Create.{i_create}
 use Rattle.file_rules.specs.Delete.{i_delete, i_deletx}
-use Rattle.file_rules.specs.Files.{Files, Asker, with_io}
+use Rattle.file_rules.specs.Files.{Files, Asker, with_io, with_records}
+use Rattle.file_rules.specs.Locking.{records_after}
 use Rattle.file_rules.specs.MakDir.{i_makdir}
 use Rattle.file_rules.specs.Open.{i_open}
 use Rattle.file_rules.specs.Read.{i_read, i_readln}
@@ -43,12 +44,17 @@ file_step Call.ReadLn asker files terms = i_readln asker files
 file_step Call.WritLn asker files terms = i_writln asker files
 file_step Call.GetStt asker files terms = i_getstt asker files
 file_step Call.SetStt asker files terms = i_setstt asker files
-file_step Call.Close asker files terms = comes (as_io (i_close asker.caller files.io))
+file_step Call.Close asker files terms = i_close asker files
 file_step Call.PErr asker files terms = f_perr asker files
 
 -- the state after an attempt of a process, with the state kept of its call
+abbrev pub files_kept : ℕ → FileEffect → Files
+files_kept p effect = with_io effect.files (with_call effect.files.io p (kept_in effect.end))
+
+-- and with its request for a record only if it waits
 abbrev pub files_after : ℕ → FileEffect → Files
-files_after p effect = with_io effect.files (with_call effect.files.io p (kept_in effect.end))
+files_after p effect =
+    with_records (files_kept p effect) (records_after effect.end effect.files.records p)
 
 -- ---- by the caller's registers and the bytes that it sees
 
@@ -67,7 +73,8 @@ pub record AskerAttempts (call : PathCall) (asker : Asker) (files : Files) (end 
 
 -- the calling process, at a time
 abbrev pub asker_of : Inner → ℕ → TimePacket → Asker
-asker_of inner p now = record { caller = caller_of inner p; user = user_at inner p; now = now }
+asker_of inner p now =
+    record { caller = caller_of inner p; user = user_at inner p; now = now; tick = inner.tick }
 
 -- the effect on the paths, terminals and pipes
 abbrev pub io_effect : FileEffect → IoEffect

@@ -8,12 +8,13 @@ use Rattle.os9_outer.specs.declared.drive.DriveFault.{DriveFault}
 use Rattle.io_model.specs.Path.{PathTable, with_desc}
 use Rattle.io_model.specs.declared.path.Target.{Target}
 use Rattle.io_model.specs.declared.path.Target.TheVariants.{File, Folder, Term, Pipe}
+use Rattle.lock_model.specs.Records.{Records}
 use Rattle.rbf_model.specs.File.{DiskFile, is_directory}
 use Rattle.rbf_model.specs.Volume.{DiskVolume}
 use Rattle.io_rules.specs.Io.{Io, OpenPath, open_path, with_paths}
 use Rattle.io_rules.specs.Step.{Caller}
 use Rattle.file_rules.specs.declared.places.Directories.{Directories}
-use Rattle.file_rules.specs.declared.places.FilePlace.{FilePlace}
+use Rattle.lock_model.specs.declared.place.FilePlace.{FilePlace}
 
 -- a drive: its number of faults, and its last fault
 pub record DriveState : Type 0 where
@@ -25,12 +26,14 @@ pub record Files : Type 0 where
   pub directories : List Directories  -- by process, from 0 to 32
   pub volumes : List (Option DiskVolume)  -- of D0, D1, D2, D3: the mounted volume
   pub drives : List DriveState  -- D0, D1, D2, D3
+  pub records : Records  -- locks of paths, requests of waiting calls, and their history
 
--- the calling process, its user, and the time
+-- the process that calls, its user, the time and the tick
 pub record Asker : Type 0 where
   pub caller : Caller
   pub user : ℕ
   pub now : TimePacket
+  pub tick : ℕ
 
 -- ---- directories of processes
 
@@ -106,6 +109,11 @@ abbrev pub with_position : Files → OpenPath → ℕ → Files
 with_position files opened at =
     with_path_table files (with_desc files.io.paths opened.path.0 (Some (record opened.desc { at = at })))
 
+-- with another number of ticks that the requests of a path wait
+abbrev pub with_ticks : Files → OpenPath → ℕ → Files
+with_ticks files opened ticks =
+    with_path_table files (with_desc files.io.paths opened.path.0 (Some (record opened.desc { ticks = ticks })))
+
 abbrev pub with_directories_of : Files → ℕ → Directories → Files
 with_directories_of files p directories =
     record files { directories = slice_set files.directories p directories }
@@ -113,6 +121,9 @@ with_directories_of files p directories =
 -- with another volume in a drive that has one
 abbrev pub with_volume : Files → ℕ → DiskVolume → Files
 with_volume files drive volume = record files { volumes = slice_set files.volumes drive (Some volume) }
+
+abbrev pub with_records : Files → Records → Files
+with_records files records = record files { records = records }
 
 abbrev pub with_drives : Files → List DriveState → Files
 with_drives files drives = record files { drives = drives }

@@ -1,11 +1,14 @@
 pub mod Attempts
 pub mod Change
 pub mod ChgDir
+pub mod Close
 pub mod Codes
 pub mod Create
 pub mod Delete
 pub mod Files
 pub mod Load
+pub mod LockRows
+pub mod Locking
 pub mod LoadRows
 pub mod MakDir
 pub mod Memory

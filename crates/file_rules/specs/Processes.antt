@@ -1,6 +1,6 @@
 -- The beginnings and ends of processes, for files (System Programmer's Manual, F$Fork and F$Exit), and the first
 -- process (Level Two manual, "Booting"; its directories are this project's own).
-use Rattle.std.specs.Prelude.{◌≡◌, ℕ, ◌-◌, Option, Some, None, option_and_then, List, ◌++◌, codes, length, map, replicate, slice_get, slice_set, if◌then◌else◌}
+use Rattle.std.specs.Prelude.{◌≡◌, ℕ, ◌-◌, ◌==◌, Option, Some, None, option_and_then, List, ◌++◌, codes, length, map, replicate, slice_get, slice_set, if◌then◌else◌}
 use Rattle.std.specs.List.{AllZip}
 use Rattle.std.specs.Option.{option_map_or}
 use Rattle.rbf_model.specs.File.{is_directory}
@@ -8,10 +8,13 @@ use Rattle.rbf_model.specs.Volume.{DiskVolume, Vol}
 use Rattle.rbf_model.specs.Walk.{look_up}
 use Rattle.io_rules.specs.Io.{first_io}
 use Rattle.io_rules.specs.Processes.{io_started, io_ended}
-use Rattle.file_rules.specs.Files.{Files, DriveState, no_directories, directories_at, with_io, with_directories_of}
+use Rattle.file_rules.specs.Files.{Files, DriveState, no_directories, directories_at, with_io, with_directories_of, with_records}
+use Rattle.file_rules.specs.Locking.{lock_ends}
+use Rattle.lock_model.specs.Records.{no_records, with_waiting, ends_locks_below}
+use Rattle.lock_model.specs.declared.lock.TheConstants.{PATH_PLACES}
 use Rattle.file_rules.specs.Way.{root_of}
 use Rattle.file_rules.specs.declared.places.Directories.{Directories}
-use Rattle.file_rules.specs.declared.places.FilePlace.{FilePlace}
+use Rattle.lock_model.specs.declared.place.FilePlace.{FilePlace}
 
 -- ---- beginnings and ends
 
@@ -20,9 +23,16 @@ abbrev pub files_started : Files → ℕ → ℕ → Files
 files_started files parent child =
     with_directories_of (with_io files (io_started files.io parent child)) child (directories_at files parent)
 
--- the state after the end of a process, which has no directory and no path any more
+-- the state after the end of a process: it has no directory any more, no path and no lock
+abbrev pub io_left : Files → ℕ → Files
+io_left files p = with_records (with_io files (io_ended files.io p)) (with_waiting files.records p None)
+
+abbrev pub without_locks_of : Files → ℕ → Files
+without_locks_of files p =
+    with_records files (ends_locks_below (lock_ends files.io.paths (λ owner. owner == p)) PATH_PLACES files.records)
+
 abbrev pub files_ended : Files → ℕ → Files
-files_ended files p = with_directories_of (with_io files (io_ended files.io p)) p no_directories
+files_ended files p = with_directories_of (without_locks_of (io_left files p) p) p no_directories
 
 -- ---- the start
 
@@ -52,6 +62,7 @@ first_files volumes drives = record {
   directories = slice_set (replicate 33 no_directories) 2 (first_directories (slice_get volumes 0));
   volumes = map (λ v. Some v) volumes ++ replicate (length drives - length volumes) None;
   drives = drives;
+  records = no_records;
 }
 
 -- the state at the start of a machine with these images in its first drives

@@ -20,7 +20,7 @@ use Rattle.file_rules.specs.Processes.{first_files}
 use Rattle.file_rules.specs.Step.{Deed, leaves_so, as_io, changes, FileEffect, FileStep, deed_of, refuses_so}
 use Rattle.file_rules.specs.declared.path_call.PathCall.{PathCall}
 use Rattle.file_rules.specs.declared.path_call.PathCall.TheVariants as Call
-use Rattle.file_rules.specs.declared.places.FilePlace.{FilePlace}
+use Rattle.lock_model.specs.declared.place.FilePlace.{FilePlace}
 
 -- ---- the volume E: sixteen sectors, one a cluster; the map in sector 1, the root in 2, its entries in 3
 
@@ -93,7 +93,7 @@ on v = first_files (v ∷ []) four_drives
 
 -- process 2 of a user, with these registers, and these bytes from address 0 on
 abbrev pub asking_as : ℕ → Regs → List ℕ → Asker
-asking_as user regs bytes = record { caller = calling 2 regs bytes; user = user; now = noon }
+asking_as user regs bytes = record { caller = calling 2 regs bytes; user = user; now = noon; tick = 9 }
 
 abbrev pub asking : Regs → List ℕ → Asker
 asking regs bytes = asking_as 0 regs bytes

@@ -8,7 +8,7 @@ use Rattle.io_rules.specs.Modes.{has_bit_of}
 use Rattle.file_rules.specs.Files.{Files, place_of_target}
 use Rattle.file_rules.specs.Way.{Found}
 use Rattle.file_rules.specs.declared.status.TheConstants.{SINGLE_USER}
-use Rattle.file_rules.specs.declared.places.FilePlace.{FilePlace}
+use Rattle.lock_model.specs.declared.place.FilePlace.{FilePlace}
 
 abbrev pub is_same_place : FilePlace → FilePlace → Bool
 is_same_place one other = (one.drive == other.drive) && (one.number == other.number)

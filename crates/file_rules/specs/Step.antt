@@ -4,11 +4,12 @@ use Rattle.std.specs.Prelude.{◌≡◌, ◌⊎◌, ℕ, Bool, true, false, Opti
 use Rattle.os9_base.specs.declared.errors.TheConstants.{E_SLF}
 use Rattle.os9_base.specs.declared.registers.Regs.{Regs}
 use Rattle.os9_outer.specs.TerminalState.{TerminalState}
+use Rattle.lock_model.specs.Records.{with_waiting}
 use Rattle.rbf_model.specs.Volume.{DiskVolume}
 use Rattle.io_rules.specs.Attempts.{Does}
 use Rattle.io_rules.specs.Step.{IoEnd, answers, fails, IoEffect, IoStep}
 use Rattle.file_rules.specs.Change.{Change, Makes, MayBeTooLong, MayLeave}
-use Rattle.file_rules.specs.Files.{Files, Asker, DriveState, NoneFailed, OneFailed, volume_at, with_io, with_volume, with_drives}
+use Rattle.file_rules.specs.Files.{Files, Asker, DriveState, NoneFailed, OneFailed, volume_at, with_io, with_records, with_volume, with_drives}
 
 -- ---- steps
 
@@ -86,9 +87,14 @@ deed_of (reaches drive step) files = deed_of step files
 
 -- ---- its effect
 
--- the effect of a call on a terminal or a pipe, in the state of files
-abbrev pub on_files : Files → IoEffect → FileEffect
-on_files files it = record { end = it.end; at = it.at; bytes = it.bytes; files = with_io files it.io }
+-- what a call of a process on a terminal or a pipe left, in the state of files; it waits for no record
+abbrev pub on_files : ℕ → Files → IoEffect → FileEffect
+on_files p files it = record {
+  end = it.end;
+  at = it.at;
+  bytes = it.bytes;
+  files = with_records (with_io files it.io) (with_waiting files.records p None);
+}
 
 abbrev pub with_volume_after : FileEffect → ℕ → DiskVolume → FileEffect
 with_volume_after it drive volume = record it { files = with_volume it.files drive volume }
@@ -116,7 +122,8 @@ pub record IsTooLong (it : VolumeChange) (files : Files) (effect : FileEffect) :
 abbrev pub DoesDeed : Deed → Asker → Files → FileEffect → List TerminalState → List TerminalState → Type 0
 DoesDeed (leaves_so it) asker files effect before after = (effect ≡ it) × (after ≡ before)
 DoesDeed (as_io step) asker files effect before after =
-    (it : IoEffect) × Does step asker.caller files.io it before after × (effect ≡ on_files files it)
+    (it : IoEffect) × Does step asker.caller files.io it before after
+    × (effect ≡ on_files asker.caller.process.0 files it)
 DoesDeed (changes it) asker files effect before after =
     (IsChanged it asker files effect ⊎ IsTooLong it files effect) × (after ≡ before)
 

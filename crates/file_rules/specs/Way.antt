@@ -18,7 +18,7 @@ use Rattle.rbf_change.specs.Calls.{shape}
 use Rattle.io_rules.specs.PathList.{PathList, path_list, has_slash_behind_device, ends_in_dots}
 use Rattle.file_rules.specs.Files.{Files, Asker, directory_of, volume_at}
 use Rattle.file_rules.specs.Step.{Step, refused, reaches, needs}
-use Rattle.file_rules.specs.declared.places.FilePlace.{FilePlace}
+use Rattle.lock_model.specs.declared.place.FilePlace.{FilePlace}
 
 -- ---- where it starts
 

@@ -1,6 +1,7 @@
-ghost use Rattle.std.specs.Prelude.{◌≡◌, [], ◌∷◌, ◌++◌, codes, replicate};
+ghost use Rattle.std.specs.Prelude.{◌≡◌, Some, [], ◌∷◌, ◌++◌, codes, option_map, replicate};
 ghost use Rattle.os9_base.specs.declared.errors.TheConstants.{E_BPADDR, E_BPNUM, E_BMODE, E_UNKSVC, E_EOF, E_FNA, E_FULL, E_PNNF};
 ghost use Rattle.proc_rules.specs.Records.{zero_regs};
+ghost use Rattle.io_model.specs.Path.{desc_of};
 ghost use Rattle.rbf_change.specs.Names.{new_listing};
 ghost use Rattle.io_rules.specs.Step.{answers, fails, refused};
 ghost use Rattle.io_rules.specs.Write.{error_line};
@@ -63,10 +64,11 @@ pub fn files_tell_their_status()
     ensures descriptor { bytes_on Call.GetStt (record (with_code 15) { y = 99 }) (blanks 16)
         (opened_a 3 1)
         ≡ 3 ∷ 0 ∷ 0 ∷ 80 ∷ 1 ∷ 1 ∷ 0 ∷ 0 ∷ 1 ∷ 0 ∷ 0 ∷ 0 ∷ 12 ∷ 80 ∷ 1 ∷ 1 ∷ [] }
-    ensures locks { end_on Call.SetStt (with_code 0x11) [] (opened_a 3 3) ≡ fails E_UNKSVC }
+    ensures locks { end_on Call.SetStt (with_code 0x11) [] (opened_a 3 1) ≡ fails E_BMODE }
 {}
 
-/// The size of a file is set through a path that may write, and its attributes by its owner.
+/// The size of a file is set through a path that may write, and its attributes by its owner. The
+/// ticks of a path are set by each path.
 pub fn status_is_set()
     ensures size { change_on Call.SetStt (record (with_code 2) { u = 300 }) [] (opened_a 3 2)
         ≡ sizes 4 300 }
@@ -75,5 +77,7 @@ pub fn status_is_set()
         ≡ fails E_FULL }
     ensures attributes { change_on Call.SetStt (record (with_code 0x1C) { x = 0x18B }) []
         (opened_a 3 1) ≡ sets_attributes 4 0x8B }
+    ensures ticks { option_map (λ desc. desc.ticks) (desc_of (files_on Call.SetStt
+        (record (with_code 0x10) { x = 300 }) [] (opened_a 3 1)).io.paths 2) ≡ Some 300 }
     ensures stranger { on_path 7 Call.SetStt (with_code 0x1C) (opened_a 3 1) ≡ fails E_FNA }
 {}

@@ -3,9 +3,11 @@
 #![tactic(auto)]
 
 pub mod byte_rows;
+pub mod claim;
 pub mod fault_rows;
 pub mod laws;
 pub mod load_rows;
+pub mod lock_rows;
 pub mod path_call;
 pub mod path_rows;
 pub mod places;

@@ -1,10 +1,4 @@
-/// The place of a file or a directory: the number of its drive, and that of its descriptor (OS-9
-/// Technical Reference, Random Block File Manager, "File Descriptors").
-#[derive(Clone, Copy, Debug, PartialEq, Eq)]
-pub struct FilePlace {
-    pub drive: u8,
-    pub number: u32,
-}
+use lock_model::place::FilePlace;
 
 /// The directories of a process, at which path lists without a device start (System Programmer's
 /// Manual, I$ChgDir): one for data, and one for programs to execute.

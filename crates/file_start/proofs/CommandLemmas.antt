@@ -20,7 +20,7 @@ use Rattle.rbf_access.specs.declared.volume.Volume.{Volume}
 use Rattle.rbf_walk.proofs.Places.{find_none}
 use Rattle.rbf_walk.specs.Search.{IsFoundAt, NonePasses}
 use Rattle.file_rules.specs.Processes.{directory_in_root}
-use Rattle.file_rules.specs.declared.places.FilePlace.{FilePlace}
+use Rattle.lock_model.specs.declared.place.FilePlace.{FilePlace}
 use Rattle.file_drives.proofs.MountedLemmas.{mounted-below}
 use Rattle.file_drives.specs.Drives.{DriveView, unused_drive}
 use Rattle.file_drives.specs.Mounted.{AgreesOnDrive, AreMounted, HasFileAt, OnDisks, ReadsFile, kept_at, mounted_at}

@@ -12,7 +12,7 @@ use Rattle.file_rules.specs.Files.{NoneFailed}
 use Rattle.file_rules.specs.Processes.{directories_on, directory_in_root}
 use Rattle.file_rules.specs.Way.{root_of}
 use Rattle.file_rules.specs.declared.places.Directories.{Directories}
-use Rattle.file_rules.specs.declared.places.FilePlace.{FilePlace}
+use Rattle.lock_model.specs.declared.place.FilePlace.{FilePlace}
 use Rattle.file_drives.specs.Drives.{DriveView, drive_state, drive_states, media_at, unused_drive}
 use Rattle.file_drives.specs.Mounted.{DriveHolds, mounted_at}
 use Rattle.file_state.specs.Tie.{StandsFor}
@@ -178,7 +178,11 @@ chosen place None = refl
 chosen place (Some other) = refl
 
 -- its directories on this volume
-pub given-directories : (root : FilePlace) (commands : Option FilePlace) (v : DiskVolume) → root ≡ root_of 0 v → commands ≡ directory_in_root v root (codes "CMDS") → directories_on v ≡ record { data_directory = Some root; execution_directory = Some (unwrap_or commands root) }
+pub given-directories : (root : FilePlace) (commands : Option FilePlace) (v : DiskVolume) → root ≡ root_of 0 v
+    → commands ≡ directory_in_root v root (codes "CMDS") → directories_on v ≡ record {
+      data_directory = Some root;
+      execution_directory = Some (unwrap_or commands root);
+    }
 given-directories root commands v is found =
     let all : Directories = record { data_directory = Some root; execution_directory = Some (unwrap_or commands root) } in
     sym (ap (λ (execution : Option FilePlace). let given : Directories = record {
@@ -186,7 +190,11 @@ given-directories root commands v is found =
       execution_directory = execution;
     } in given)
     (chosen root commands ∙ ap (λ found. option_map_or (λ place. Some place) found (Some root)) found)
-    ∙ ap (λ (place : FilePlace). let given : Directories = record { data_directory = Some place; execution_directory = option_map_or (λ place. Some place) (directory_in_root v place (codes "CMDS")) (Some place) } in given) is)
+    ∙ ap (λ (place : FilePlace). let given : Directories = record {
+      data_directory = Some place;
+      execution_directory =
+          option_map_or (λ place. Some place) (directory_in_root v place (codes "CMDS")) (Some place);
+    } in given) is)
 
 -- the images of the volumes
 pub images-zip : (images : List (List ℕ)) (volumes : List DiskVolume) → length images ≡ length volumes

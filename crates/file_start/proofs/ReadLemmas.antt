@@ -12,7 +12,7 @@ use Rattle.rbf_access.specs.declared.faults.VolFault.{VolFault}
 use Rattle.rbf_access.specs.declared.volume.Volume.{Volume}
 use Rattle.rbf_access.proofs.Counting.{counts_most, counts_then}
 use Rattle.file_rules.specs.Files.{NoneFailed}
-use Rattle.file_rules.specs.declared.places.FilePlace.{FilePlace}
+use Rattle.lock_model.specs.declared.place.FilePlace.{FilePlace}
 use Rattle.file_drives.proofs.DriveLemmas.{changes-weaker, none-failed, one-failed}
 use Rattle.file_drives.proofs.MountedLemmas.{read-same}
 use Rattle.file_drives.specs.Drives.{ChangesOneDrive, DriveView, OneDriveMoves, Reads, ReadsDrive, drive_states, media_at, unused_drive}

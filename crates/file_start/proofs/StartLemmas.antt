@@ -10,7 +10,7 @@ use Rattle.file_rules.specs.Files.{Files, NoneFailed, no_directories}
 use Rattle.file_rules.specs.Processes.{first_directories, first_files}
 use Rattle.file_rules.specs.Way.{root_of}
 use Rattle.file_rules.specs.declared.places.Directories.{Directories}
-use Rattle.file_rules.specs.declared.places.FilePlace.{FilePlace}
+use Rattle.lock_model.specs.declared.place.FilePlace.{FilePlace}
 use Rattle.file_drives.specs.Drives.{DriveView, drive_state, drive_states}
 use Rattle.file_drives.specs.Mounted.{AreMounted, ReadsFile, mounted_at}
 use Rattle.file_state.specs.Tie.{StandsFor}

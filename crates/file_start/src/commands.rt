@@ -14,7 +14,7 @@ ghost use Rattle.file_start.specs.Start.{FailsOn, IsNamed, IsRootAt, OnVolumeOf,
 use crate::fault::StartFault;
 use device_table::devices::Devices;
 use file_drives::disks::Disks;
-use file_rules::places::FilePlace;
+use lock_model::place::FilePlace;
 use os9_base::name::{Name, header_name, parse_name, same_name};
 use os9_outer::drive::BlockDriver;
 use rbf_sector::{Fd, read_entry};

@@ -8,8 +8,9 @@ use crate::commands::find_commands;
 use crate::fault::StartFault;
 use crate::mounting::mount_first;
 use device_table::devices::Devices;
-use file_rules::places::{Directories, FilePlace};
+use file_rules::places::Directories;
 use file_state::state::FileState;
+use lock_model::place::FilePlace;
 use os9_outer::drive::BlockDriver;
 use std::alloc::Global;
 

@@ -9,7 +9,7 @@ use Rattle.rbf_access.specs.Drive.{MovesCounts}
 use Rattle.rbf_walk.specs.Walk.{directory_fault}
 use Rattle.rbf_walk.specs.declared.error.DirError.{DirError}
 use Rattle.file_rules.specs.Files.{Files, volume_at}
-use Rattle.file_rules.specs.declared.places.FilePlace.{FilePlace}
+use Rattle.lock_model.specs.declared.place.FilePlace.{FilePlace}
 use Rattle.file_drives.proofs.DriveLemmas.{changes-weaker}
 use Rattle.file_drives.specs.Changed.{Asked, ChangesVolume}
 use Rattle.file_drives.specs.Drives.{DriveView, OneDriveMoves, Reads, ReadsDrive, unused_drive}
@@ -76,10 +76,11 @@ called-read state new views now files place v file fault most stands is there re
 pub has-changed-in : (state new : FileState) (views now : List DriveView) (files : Files) (place : FilePlace)
     (v : DiskVolume) (file : DiskFile) (asked : Asked) (answer : Result ℕ DirError) (most : DiskVolume → DiskFile
     → DiskVolume → ℕ) → StandsFor state views files → volume_at files place.drive ≡ Some v → v.files place.number ≡
-    Some file → new.io ≡ state.io → new.directories ≡ state.directories → ChangesVolume place asked answer most
-    state.disks views new.disks now → HasChangedIn (most v file) asked answer place.drive v file files new views now
+    Some file → new.io ≡ state.io → new.directories ≡ state.directories → new.records ≡ state.records
+    → ChangesVolume place asked answer most state.disks views new.disks now → HasChangedIn (most v file) asked answer
+    place.drive v file files new views now
 unfolding has-changed
-has-changed-in state new views now files place v file asked answer most stands is there io directories changes =
-    let it = has-changed state new views now files place v file asked answer most stands is there io directories changes in
+has-changed-in state new views now files place v file asked answer most stands is there io directories records changes =
+    let it = has-changed state new views now files place v file asked answer most stands is there io directories records changes in
     let made : OneDriveMoves (directory_fault answer) (most v file it.left) place.drive views now = (changes files.volumes v file stands.mounted is there).moves in
     record { changed = it; calls = called-one (directory_fault answer) (most v file it.left) place.drive views now made }

@@ -1,5 +1,5 @@
 -- How an attempt of a call on files ends, by what calls of its drive came to.
-use Rattle.std.proofs.Common.{◌≡◌, ℕ, false, Some, List, length, Ok, Err, inl, inr, refl, sym, subst, ◌∙◌}
+use Rattle.std.proofs.Common.{◌≡◌, ℕ, false, Some, None, List, length, Ok, Err, inl, inr, refl, sym, ap, subst, ◌∙◌}
 use Rattle.os9_base.specs.declared.errors.TheConstants.{E_SLF}
 use Rattle.os9_base.specs.declared.registers.TimePacket.{TimePacket}
 use Rattle.os9_outer.specs.TerminalState.{TerminalState}
@@ -9,14 +9,27 @@ use Rattle.rbf_access.specs.declared.faults.FileFault.TheVariants.{Device, TooMa
 use Rattle.rbf_walk.specs.declared.error.DirError.TheVariants.{File}
 use Rattle.rbf_change.specs.Faults as ends
 use Rattle.call_rules.specs.Inner.{Inner}
-use Rattle.io_rules.specs.Attempts.{Does, result_of}
-use Rattle.io_rules.specs.Step.{IoEffect, IoStep}
+use Rattle.os9_base.specs.declared.call.CallEnd.{CallEnd}
+use Rattle.std.proofs.lemmas.Option.{none-some}
+use Rattle.io_model.specs.declared.kept.Kept.{Kept}
+use Rattle.lock_model.specs.Records.{Records, with_waiting}
+use Rattle.io_rules.specs.Attempts.{Does, result_by, result_of}
+use Rattle.io_rules.specs.Step.{IoEffect, IoEnd, IoStep, answers, fails, keeps}
+use Rattle.proc_state.specs.Tie.{Comes}
+use Rattle.proc_state.specs.declared.state.ProcState.{ProcState}
 use Rattle.file_rules.specs.Attempts.{FileAttempts, asker_of, file_step, files_after, io_effect}
 use Rattle.file_rules.specs.Change.{Change, writes, sizes, sets_attributes, creates, makes_directory, deletes, MayBeTooLong, MayLeave}
-use Rattle.file_rules.specs.Files.{DriveState, Files, Asker, NoneFailed, OneFailed, volume_at, with_drives, with_volume}
+use Rattle.file_rules.specs.Files.{DriveState, Files, Asker, NoneFailed, OneFailed, volume_at, with_drives, with_records, with_volume}
 use Rattle.file_rules.specs.Step.{Deed, DoesDeed, FileDoes, FileEffect, FileStep, IsChanged, IsTooLong, MayBeLeft, VolumeChange, as_io, changes, deed_of, drive_of, leaves_so, on_files, refuses_so, with_drives_after, with_volume_after}
 use Rattle.file_rules.specs.declared.path_call.PathCall.{PathCall}
+use Rattle.file_rules.specs.Locking.{records_after}
 use Rattle.file_drives.specs.Changed.{AnswersChange, Asked, has_full_list}
+use Rattle.file_drives.specs.Drives.{DriveView}
+use Rattle.file_state.specs.Attempt.{settled, unrequested, without_request}
+use Rattle.file_state.specs.Ends.{StandsAfter}
+use Rattle.file_state.specs.Tie.{StandsFor}
+use Rattle.file_state.specs.declared.state.FileState.{FileState}
+use Rattle.file_state.proofs.StateLemmas.{stands-with_records}
 
 -- the change of a step, as it is asked for
 abbrev pub asked_of : VolumeChange → Asker → Asked
@@ -155,10 +168,10 @@ breaks-before step asker files drive number v image drives terms reached none is
 -- what they do is done in the state of files
 pub goes-as-io : (step : FileStep) (asker : Asker) (files : Files) (deed : IoStep) (it : IoEffect)
     (before after : List TerminalState) → deed_of step files ≡ as_io deed → Does deed asker.caller files.io it before
-    after → FileDoes step asker files (on_files files it) before after
+    after → FileDoes step asker files (on_files asker.caller.process.0 files it) before after
 goes-as-io step asker files deed it before after is does = inl (record {
-  it = on_files files it;
-  does = subst (λ d. DoesDeed d asker files (on_files files it) before after) (sym is) (it, does, refl);
+  it = on_files asker.caller.process.0 files it;
+  does = subst (λ d. DoesDeed d asker files (on_files asker.caller.process.0 files it) before after) (sym is) (it, does, refl);
   drives = files.drives;
   none_failed = refl;
   effect_is = refl;
@@ -170,3 +183,36 @@ pub attempts : (call : PathCall) (m : Inner) (files : Files) (now : TimePacket) 
     (asker_of m p now) files effect before after → FileAttempts call m files now p (result_of m p (io_effect effect))
     (files_after p effect) before after
 attempts call m files now p effect before after does = record { effect = effect; does = does; result_is = refl; state = refl }
+
+-- ---- requests
+
+-- files that stand for those of the machine do so without a request
+stands-without : (p : ℕ) (state : FileState) (views : List DriveView) (files : Files) → StandsFor state views files → StandsFor (without_request p state) views (unrequested p files)
+stands-without p state views files stands =
+    stands-with_records state views files (with_waiting files.records p None) (with_waiting state.records p None) (ap (λ (records : Records). with_waiting records p None) stands.records) stands
+
+-- an attempt that has come to an end
+pub stands-settled : (m : Inner) (p : ℕ) (effect : IoEffect) (end : IoEnd) (came : CallEnd) (processes : ProcState)
+    (state : FileState) (views : List DriveView) (files : Files) → Comes m p (result_by end m p effect) came processes
+    → StandsAfter p end state views files → StandsFor (settled p came state) views
+    (with_records files (records_after end files.records p))
+stands-settled m p effect end came processes state views files comes stands = by_end end comes stands
+  where
+    dropped : IoEnd → Type 0
+    dropped end = StandsAfter p end state views files
+
+    over : (end : IoEnd) → dropped end → StandsFor (without_request p state) views (unrequested p files)
+    over end (inl stands) = stands-without p state views files stands
+    over end (inr (none, stands)) = stands
+
+    waits : (kept : Kept) → dropped (keeps kept) → StandsFor state views files
+    waits kept (inl stands) = stands
+    waits kept (inr (none, stands)) = absurd (none-some kept (sym none))
+
+    by_end : (end : IoEnd) → Comes m p (result_by end m p effect) came processes → dropped end → StandsFor (settled p came state) views (with_records files (records_after end files.records p))
+    by_end (answers regs) comes stands =
+        subst (λ (came : CallEnd). StandsFor (settled p came state) views (with_records files (with_waiting files.records p None))) (sym comes.0) (over (answers regs) stands)
+    by_end (fails number) comes stands =
+        subst (λ (came : CallEnd). StandsFor (settled p came state) views (with_records files (with_waiting files.records p None))) (sym comes.0) (over (fails number) stands)
+    by_end (keeps kept) comes stands =
+        subst (λ (came : CallEnd). StandsFor (settled p came state) views files) (sym comes.0) (waits kept stands)

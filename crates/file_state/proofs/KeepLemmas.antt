@@ -1,10 +1,10 @@
 -- What an attempt of a call on files leaves of the drives, by what calls of its drive came to. An attempt that changes
 -- no volume ends by `keeps-same`, `keeps-read` or `keeps-refused`, one that changes one by `keeps-made` or
 -- `keeps-broken`.
-use Rattle.std.proofs.Common.{◌≡◌, ◌≢◌, ◌⊎◌, ℕ, true, Option, Some, List, length, slice_get, Result, Ok, Err, refl, ap, sym, subst, inl, inr, ⊎_elim}
+use Rattle.std.proofs.Common.{◌≡◌, ◌≢◌, ◌⊎◌, ◌∙◌, ℕ, true, Option, Some, List, length, slice_get, Result, Ok, Err, refl, ap, sym, subst, inl, inr, ⊎_elim}
 use Rattle.std.proofs.lemmas.Bool.{cases_eq}
 use Rattle.os9_base.specs.declared.call.CallEnd.{CallEnd}
-use Rattle.os9_base.specs.declared.call.CallEnd.TheVariants.{Done, Error}
+use Rattle.os9_base.specs.declared.call.CallEnd.TheVariants.{Done, Error, NoMemory}
 use Rattle.os9_base.specs.declared.registers.TimePacket.{TimePacket}
 use Rattle.os9_outer.specs.TerminalState.{TerminalState}
 use Rattle.rbf_model.specs.File.{DiskFile}
@@ -13,18 +13,22 @@ use Rattle.rbf_access.specs.declared.faults.FileFault.TheVariants.{Device}
 use Rattle.rbf_walk.specs.declared.error.DirError.{DirError}
 use Rattle.rbf_walk.specs.declared.error.DirError.TheVariants.{File}
 use Rattle.call_rules.specs.Inner.{Inner}
-use Rattle.file_rules.specs.Attempts.{asker_of, file_step, files_after, io_effect}
+use Rattle.file_rules.specs.Attempts.{asker_of, file_step, files_after, files_kept, io_effect}
 use Rattle.file_rules.specs.Files.{Asker, DriveState, Files, OneFailed, volume_at}
 use Rattle.file_rules.specs.Step.{Deed, FileStep, Step, VolumeChange, as_io, changes, deed_of, drive_of, leaves_so}
 use Rattle.file_rules.specs.declared.path_call.PathCall.{PathCall}
 use Rattle.io_rules.specs.Attempts.{result_of}
+use Rattle.io_rules.specs.Step.{IoEnd, answers, fails, keeps}
+use Rattle.lock_model.specs.Records.{Records}
+use Rattle.file_rules.specs.Locking.{records_after}
 use Rattle.file_drives.specs.Changed.{Asked, IsRefused, is_refused}
 use Rattle.file_drives.specs.Drives.{DriveView, KeepsIdent, drive_states, media_at, media_of}
-use Rattle.file_state.proofs.EndLemmas.{asked_of}
+use Rattle.file_state.proofs.EndLemmas.{asked_of, stands-settled}
 use Rattle.file_state.proofs.MediaLemmas.{ident-same, media-of_same, media-same}
 use Rattle.file_state.specs.Attempt.{Standing}
 use Rattle.file_state.specs.Counted.{AttemptsIn}
-use Rattle.file_state.specs.Ends.{Ends}
+use Rattle.file_state.specs.Ends.{Ends, EndsUnentered}
+use Rattle.file_state.specs.Lacks.{LacksItsEntry}
 use Rattle.file_state.specs.Media.{ChangesDisk, KeepsDrives, MediaAfter, MediaAfterChange, file_changed}
 use Rattle.file_state.specs.Reached.{HasChanged, HasRead, OthersStay}
 use Rattle.file_state.specs.declared.state.FileState.{FileState}
@@ -115,6 +119,10 @@ module _ (step : FileStep) (asker : Asker) (files : Files) (it : VolumeChange) (
   pub keeps-made : (n : ℕ) → HasChanged (asked_of it asker) (Ok n) it.drive v file files new before after → KeepsDrives step asker files Done before after
   keeps-made n changed = keeps-changed Done (Ok n) changed (n, on-disk (Ok n) changed)
 
+  -- and memory was wanting for its entry in the history
+  pub keeps-unentered : (n : ℕ) → HasChanged (asked_of it asker) (Ok n) it.drive v file files new before after → KeepsDrives step asker files NoMemory before after
+  keeps-unentered n changed = keeps-changed NoMemory (Ok n) changed (n, on-disk (Ok n) changed)
+
   -- the drive failed in it
   pub keeps-broken : (number : ℕ) → files.drives ≡ drive_states before → HasChanged (asked_of it asker)
       (Err (File (Device number))) it.drive v file files new before after → KeepsDrives step asker files
@@ -139,8 +147,37 @@ ends-attempt most call m was now p end terms before after ends = record {
     left = files_after p ends.effect;
     attempt = record { effect = ends.effect; does = ends.does; result_is = refl; state = refl };
     comes = ends.comes;
-    stands = ends.stands;
+    stands =
+        stands-settled m p (io_effect ends.effect) ends.effect.end end after.processes after.files after.views (files_kept p ends.effect) ends.comes ends.stands;
   };
   calls = ends.calls;
   drives = ends.drives;
+}
+
+-- a request that is kept no longer leaves the history as it is
+settled-history : (end : IoEnd) (records : Records) (p : ℕ) → (records_after end records p).history ≡ records.history
+settled-history (answers regs) records p = refl
+settled-history (fails number) records p = refl
+settled-history (keeps kept) records p = refl
+
+-- or memory was wanting for its entry
+pub lacks-attempt : (most : ℕ) (call : PathCall) (m : Inner) (was : Files) (now : TimePacket) (p : ℕ) (end : CallEnd)
+    (terms : List TerminalState) (before after : Standing) → EndsUnentered (file_step call (asker_of m p now) was
+    (length terms)) most m was now p end after.files before.views after.views terms → LacksItsEntry most call m was
+    now p end terms terms before after
+lacks-attempt most call m was now p end terms before after it = record {
+  done = files_after p it.effect;
+  lacks = record {
+    result = result_of m p (io_effect it.effect);
+    attempts = record { effect = it.effect; does = it.does; result_is = refl; state = refl };
+    enters = record {
+      entry = it.enters.entry;
+      is = settled-history it.effect.end it.effect.files.records p ∙ it.enters.is;
+      no_end = it.enters.no_end;
+    };
+  };
+  drives = it.drives;
+  mounted = it.mounted;
+  calls = it.calls;
+  images = it.images;
 }

@@ -1,7 +1,9 @@
+pub mod AskingLemmas
 pub mod CountLemmas
 pub mod EndLemmas
 pub mod KeepLemmas
 pub mod MediaLemmas
 pub mod OpenedLemmas
 pub mod ReachedLemmas
+pub mod RequestLemmas
 pub mod StateLemmas

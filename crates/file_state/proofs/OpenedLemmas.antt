@@ -1,5 +1,5 @@
 -- Files and directories that paths name, where paths are on what is there.
-use Rattle.std.proofs.Common.{◌≡◌, ℕ, Bool, true, false, Option, Some, None, option_map, option_and_then, List, refl, ap, sym, subst, ◌∙◌}
+use Rattle.std.proofs.Common.{◌≡◌, ℕ, Bool, true, false, Option, Some, None, IfSome, option_map, option_and_then, List, refl, ap, sym, subst, ◌∙◌}
 use Rattle.std.proofs.lemmas.Bool.{false≢true}
 use Rattle.std.proofs.lemmas.Option.{none-some, same_Some}
 use Rattle.io_model.specs.Path.{desc_of, slot_of}
@@ -11,12 +11,14 @@ use Rattle.rbf_model.specs.Volume.{DiskVolume}
 use Rattle.io_rules.specs.Modes.{can_write}
 use Rattle.io_rules.specs.Io.{Io, OpenPath, open_path}
 use Rattle.file_rules.specs.Files.{Files, OpenFile as Found, open_file_at, place_of_target}
-use Rattle.file_rules.specs.declared.places.FilePlace.{FilePlace}
+use Rattle.lock_model.specs.declared.place.FilePlace.{FilePlace}
 use Rattle.file_drives.specs.Drives.{DriveView}
 use Rattle.file_drives.specs.Mounted.{HasFileAt}
 use Rattle.file_laws.specs.Kinds.{AreKinds, IsOfKind, IsOnTarget}
 use Rattle.file_state.proofs.ReachedLemmas.{on-volume}
-use Rattle.file_state.specs.Opened.{IsFileOf, NamesFile, opened_by}
+use Rattle.record_locks.specs.Places.{IsPath}
+use Rattle.io_state.specs.Files.{IsOnDisk}
+use Rattle.file_state.specs.Opened.{IsFileOf, IsPathOf, NamesFile, NamesNoFile, opened_by, path_of}
 use Rattle.file_state.specs.Tie.{StandsFor}
 use Rattle.file_state.specs.declared.state.FileState.{FileState}
 
@@ -38,6 +40,32 @@ open-desc io p n path desc is = by (slot_of io.paths p n) is
     by : (slot : Option SysPath) → option_and_then (λ s. option_map (path-and-desc s) (desc_of io.paths s.0)) slot ≡ Some (path-and-desc path desc) → desc_of io.paths path.0 ≡ Some desc
     by None is = absurd (none-some (path-and-desc path desc) is)
     by (Some s) is = by-desc s (desc_of io.paths s.0) refl is
+
+-- a path that was opened on this, with its descriptor
+pub path-opened : (io : Io) (path : SysPath) (desc : Desc) (target : Target) → desc_of io.paths path.0 ≡ Some desc → IsPath path.0 → IfSome (opened_by path desc target) (IsPathOf io)
+path-opened io path desc (File drive number) is low = record { desc = is; place = low }
+path-opened io path desc (Folder drive number) is low = record { desc = is; place = low }
+path-opened io path desc (Term terminal) is low = tt
+path-opened io path desc (Pipe pipe) is low = tt
+
+-- and the number that names it
+pub path-named : (io : Io) (p n : ℕ) (path : SysPath) (desc : Desc) (target : Target) → Some (path-and-desc path desc)
+    ≡ open_path io p n → IfSome (opened_by path desc target) (λ file. open_path io p n ≡ Some (path_of file))
+path-named io p n path desc (File drive number) is = sym is
+path-named io p n path desc (Folder drive number) is = sym is
+path-named io p n path desc (Term terminal) is = tt
+path-named io p n path desc (Pipe pipe) is = tt
+
+-- what is opened on no file is on none
+pub no-file : (io : Io) (p n : ℕ) (path : SysPath) (desc : Desc) → Some (path-and-desc path desc) ≡ open_path io p n → opened_by path desc desc.target ≡ None → NamesNoFile io p n
+no-file io p n path desc is none =
+    subst (λ (o : Option OpenPath). IfSome o (λ opened. IsOnDisk opened.desc.target → ⊥)) is (by desc.target none)
+  where
+    by : (target : Target) → opened_by path desc target ≡ None → IsOnDisk target → ⊥
+    by (File drive number) none on = none-some _ (sym none)
+    by (Folder drive number) none on = none-some _ (sym none)
+    by (Term terminal) none on = on
+    by (Pipe pipe) none on = on
 
 module _ (state : FileState) (views : List DriveView) (files : Files) (p n : ℕ) (stands : StandsFor state views files) (kinds : AreKinds files) where
   -- what follows once the path is known

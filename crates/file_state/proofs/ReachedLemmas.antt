@@ -10,7 +10,7 @@ use Rattle.rbf_access.specs.Drive.{MovesCounts}
 use Rattle.rbf_walk.specs.Walk.{directory_fault}
 use Rattle.rbf_walk.specs.declared.error.DirError.{DirError}
 use Rattle.file_rules.specs.Files.{DriveState, Files, NoneFailed, OneFailed, file_in, volume_at, with_drives, with_volume}
-use Rattle.file_rules.specs.declared.places.FilePlace.{FilePlace}
+use Rattle.lock_model.specs.declared.place.FilePlace.{FilePlace}
 use Rattle.file_drives.proofs.DriveLemmas.{changes-weaker, none-failed, one-failed}
 use Rattle.file_drives.specs.Changed.{AnswersOnDisk, Asked, ChangesVolume}
 use Rattle.file_drives.specs.Drives.{DriveView, KeepsIdent, OneDriveMoves, Reads, ReadsDrive, drive_states, media_at}
@@ -64,7 +64,7 @@ moved-then (Some number) drive before mid now none moved = subst (λ drives. One
 pub read-none : (drive : ℕ) (state : FileState) (views : List DriveView) (files : Files) → StandsFor state views files → HasRead None drive files state views views
 read-none drive state views files stands = record {
   moved = subst (λ drives. NoneFailed drives (drive_states views)) (sym stands.drives) refl;
-  stands = record { io = stands.io; directories = stands.directories; drives = refl; mounted = stands.mounted };
+  stands = record { io = stands.io; directories = stands.directories; records = stands.records; drives = refl; mounted = stands.mounted };
   media_kept = refl;
   others = others-none drive views;
 }
@@ -73,8 +73,9 @@ read-none drive state views files stands = record {
 pub has-read : (state new : FileState) (views now : List DriveView) (files : Files) (place : FilePlace)
     (file : DiskFile) (fault : Option ℕ) (most : DiskVolume → DiskFile → ℕ) → StandsFor state views files
     → file_in files place ≡ Some file → new.io ≡ state.io → new.directories ≡ state.directories
-    → ReadsFile place fault most state.disks views new.disks now → HasRead fault place.drive files new views now
-has-read state new views now files place file fault most stands there io directories read =
+    → new.records ≡ state.records → ReadsFile place fault most state.disks views new.disks now
+    → HasRead fault place.drive files new views now
+has-read state new views now files place file fault most stands there io directories records read =
     let on = on-volume files place file there in
     let calls = most on.volume file in
     let drive : ReadsDrive fault calls place.drive views now = read.drive files.volumes on.volume file stands.mounted on.is on.there in
@@ -84,6 +85,7 @@ has-read state new views now files place file fault most stands there io directo
       stands = record {
         io = stands.io ∙ sym io;
         directories = stands.directories ∙ sym directories;
+        records = stands.records ∙ sym records;
         drives = refl;
         mounted = read.mounted files.volumes stands.mounted;
       };
@@ -95,9 +97,10 @@ has-read state new views now files place file fault most stands there io directo
 unfoldable pub has-changed : (state new : FileState) (views now : List DriveView) (files : Files) (place : FilePlace)
     (v : DiskVolume) (file : DiskFile) (asked : Asked) (answer : Result ℕ DirError) (most : DiskVolume → DiskFile
     → DiskVolume → ℕ) → StandsFor state views files → volume_at files place.drive ≡ Some v → v.files place.number ≡
-    Some file → new.io ≡ state.io → new.directories ≡ state.directories → ChangesVolume place asked answer most
-    state.disks views new.disks now → HasChanged asked answer place.drive v file files new views now
-has-changed state new views now files place v file asked answer most stands is there io directories changes =
+    Some file → new.io ≡ state.io → new.directories ≡ state.directories → new.records ≡ state.records
+    → ChangesVolume place asked answer most state.disks views new.disks now → HasChanged asked answer place.drive v
+    file files new views now
+has-changed state new views now files place v file asked answer most stands is there io directories records changes =
     let it = changes files.volumes v file stands.mounted is there in
     record {
       left = it.left;
@@ -108,6 +111,7 @@ has-changed state new views now files place v file asked answer most stands is t
       stands = record {
         io = stands.io ∙ sym io;
         directories = stands.directories ∙ sym directories;
+        records = stands.records ∙ sym records;
         drives = refl;
         mounted = it.mounted;
       };

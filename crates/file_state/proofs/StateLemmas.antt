@@ -1,24 +1,34 @@
 -- The kernel's files where paths, positions and directories change, and what is asked of its paths.
-use Rattle.std.proofs.Common.{◌≡◌, ◌≤◌, ℕ, get_or, length, replicate, inl, inr, arith, Bool, false, Option, Some, None, IfSome, List, [], ◌∷◌, slice_set, Result, Ok, Err, refl, ap, sym, subst, ◌∙◌}
-use Rattle.std.specs.Prelude.{◌&&◌, ◌||◌}
+use Rattle.std.proofs.Common.{◌≡◌, ◌≤◌, ℕ, get_or, length, replicate, inl, inr, arith, Bool, true, false, Option, Some, None, IfSome, is_some, List, [], ◌∷◌, slice_set, Result, Ok, Err, refl, ap, sym, subst, ◌∙◌}
+use Rattle.std.specs.Prelude.{◌&&◌, ◌||◌, ◌==◌, is_none, if◌then◌else◌}
 use Rattle.std.specs.List.{list_any}
 use Rattle.std.specs.Option.{option_map_or}
-use Rattle.std.proofs.lemmas.Bool.{cases_lt}
+use Rattle.std.proofs.lemmas.Bool.{cases_lt, false≢true}
 use Rattle.std.proofs.lemmas.List.{get_or-replicate, get_or_past, length-replicate}
+use Rattle.io_model.specs.Path.{desc_of}
 use Rattle.io_model.specs.declared.path.Desc.{Desc}
 use Rattle.io_model.specs.declared.path.Target.{Target}
 use Rattle.io_model.specs.declared.path.Target.TheVariants.{File, Folder, Term, Pipe}
 use Rattle.io_rules.specs.Io.{Io, first_io}
+use Rattle.io_rules.specs.Close.{after_close}
 use Rattle.io_rules.specs.Processes.{io_ended}
+use Rattle.io_rules.specs.Waiting.{io_interrupted}
+use Rattle.lock_model.specs.History.{dropped}
+use Rattle.lock_model.specs.Locks.{lock_of}
+use Rattle.lock_model.specs.Records.{Records, ends_lock, ends_locks_below, entered, no_records, with_waiting, without_lock}
+use Rattle.lock_model.specs.declared.lock.Held.{Held}
+use Rattle.lock_model.specs.declared.lock.TheConstants.{PATH_PLACES}
 use Rattle.io_state.specs.Files.{is_of_file, is_path_on as is_path_of, some_path_on as some_path_of}
 use Rattle.rbf_model.specs.Volume.{DiskVolume}
 use Rattle.rbf_access.specs.declared.faults.VolFault.{VolFault}
 use Rattle.rbf_access.specs.declared.volume.Volume.{Volume}
-use Rattle.file_rules.specs.Files.{Files, directory_of, no_directories, place_of_target, with_directories_of, with_io}
+use Rattle.file_rules.specs.Close.{files_after_close}
+use Rattle.file_rules.specs.Files.{Files, directory_of, no_directories, place_of_target, with_directories_of, with_io, with_records}
+use Rattle.file_rules.specs.Locking.{files_interrupted, lock_ends}
 use Rattle.file_rules.specs.Processes.{files_ended}
 use Rattle.file_rules.specs.Sharing.{is_path_on, is_same_place, some_path_on}
 use Rattle.file_rules.specs.declared.places.Directories.{Directories}
-use Rattle.file_rules.specs.declared.places.FilePlace.{FilePlace}
+use Rattle.lock_model.specs.declared.place.FilePlace.{FilePlace}
 use Rattle.file_drives.specs.Drives.{DriveView, drive_states}
 use Rattle.file_drives.specs.Mounted.{AgreesOnDrive, HasFileAt, MountsAs, kept_at, mounted_at}
 use Rattle.file_laws.specs.Kinds.{AreKinds}
@@ -56,14 +66,11 @@ some-path io files place test is =
 
 -- other paths
 pub stands-with_io : (state : FileState) (views : List DriveView) (files : Files) (io new : Io) → io ≡ new
-    → StandsFor state views files → StandsFor (record {
-      io = new;
-      disks = state.disks;
-      directories = state.directories;
-    }) views (with_io files io)
+    → StandsFor state views files → StandsFor (record state { io = new }) views (with_io files io)
 stands-with_io state views files io new is stands = record {
   io = is;
   directories = stands.directories;
+  records = stands.records;
   drives = stands.drives;
   mounted = stands.mounted;
 }
@@ -71,11 +78,12 @@ stands-with_io state views files io new is stands = record {
 -- other directories
 pub stands-with_directories : (state : FileState) (views : List DriveView) (files : Files) (p : ℕ)
     (directories other : Directories) → directories ≡ other → StandsFor state views files
-    → StandsFor (record { io = state.io; disks = state.disks; directories = slice_set state.directories p other })
-    views (with_directories_of files p directories)
+    → StandsFor (record state { directories = slice_set state.directories p other }) views
+    (with_directories_of files p directories)
 stands-with_directories state views files p directories other same stands = record {
   io = stands.io;
   directories = ap (λ all. slice_set all p directories) stands.directories ∙ ap (slice_set state.directories p) same;
+  records = stands.records;
   drives = stands.drives;
   mounted = stands.mounted;
 }
@@ -100,29 +108,111 @@ has-directories state views files p execute (Some place) stands kinds is = has-d
 
 pub mounts-on : (state : FileState) (result : Result (Unit {0}) VolFault) (n : ℕ) (before after : List DriveView)
     (disks : List (Option Volume)) → MountsAs result n state.disks before disks after → MountsOn result n state before
-    (record { io = state.io; disks = disks; directories = state.directories }) after
+    (record state { disks = disks }) after
 mounts-on state (Ok done) n before after disks mounts = λ files v stands holds. record {
   io = stands.io;
   directories = stands.directories;
+  records = stands.records;
   drives = refl;
   mounted = mounts files.volumes v stands.mounted holds;
 }
 mounts-on state (Err fault) n before after disks stays = λ files stands. record {
   io = stands.io;
   directories = stands.directories;
+  records = stands.records;
   drives = refl;
   mounted = stays files.volumes stands.mounted;
 }
 
 -- ---- a process ends
 
-pub stands-ended : (state : FileState) (views : List DriveView) (files : Files) (p : ℕ) (new : Io)
-    → new ≡ io_ended state.io p → StandsFor state views files
-    → StandsFor (record { io = new; disks = state.disks; directories = slice_set state.directories p no_directories })
-    views (files_ended files p)
-stands-ended state views files p new is stands = record {
-  io = ap (λ (io : Io). io_ended io p) stands.io ∙ sym is;
-  directories = ap (λ all. slice_set all p no_directories) stands.directories;
+-- other locks
+pub stands-with_records : (state : FileState) (views : List DriveView) (files : Files) (records new : Records)
+    → records ≡ new → StandsFor state views files → StandsFor (record state { records = new }) views
+    (with_records files records)
+stands-with_records state views files records new is stands = record {
+  io = stands.io;
+  directories = stands.directories;
+  records = is;
+  drives = stands.drives;
+  mounted = stands.mounted;
+}
+
+-- the locks that end, by the paths that are left
+abbrev ended-records : Io → ℕ → Records → Records
+ended-records io p records =
+    ends_locks_below (lock_ends io.paths (λ owner. owner == p)) PATH_PLACES (with_waiting records p None)
+
+pub stands-ended : (state : FileState) (views : List DriveView) (files : Files) (p : ℕ) (new : Io) (records : Records)
+    → new ≡ io_ended state.io p → records ≡ ended-records new p state.records → StandsFor state views files
+    → StandsFor (record {
+      io = new;
+      disks = state.disks;
+      directories = slice_set state.directories p no_directories;
+      records = records;
+    }) views (files_ended files p)
+stands-ended state views files p new records is ends stands =
+    let io : io_ended files.io p ≡ new = ap (λ (io : Io). io_ended io p) stands.io ∙ sym is in
+    record {
+      io = io;
+      directories = ap (λ all. slice_set all p no_directories) stands.directories;
+      records =
+          ap (λ (io : Io). ended-records io p files.records) io ∙ ap (ended-records new p) stands.records ∙ sym ends;
+      drives = stands.drives;
+      mounted = stands.mounted;
+    }
+
+-- ---- a path is closed
+
+abbrev closed-records : Io → ℕ → Records → Records
+closed-records io path records = ends_lock (lock_ends io.paths (λ owner. false)) path records
+
+-- a lock goes with its path
+pub drops-gone : (io : Io) (path : ℕ) (records : Records) → is_some (desc_of io.paths path) ≡ false → without_lock records path ≡ closed-records io path records
+drops-gone io path records gone = by (lock_of records.locks path) (desc_of io.paths path) gone
+  where
+    by : (lock : Option Held) (desc : Option Desc) → is_some desc ≡ false
+        → option_map_or (λ (lock : Held). entered records path None (dropped path lock)) lock records ≡
+        (if option_map_or (λ (lock : Held). is_none desc || false) lock false then option_map_or
+        (λ (lock : Held). entered records path None (dropped path lock)) lock records else records)
+    by None desc gone = refl
+    by (Some lock) None gone = refl
+    by (Some lock) (Some desc) gone = absurd (false≢true (sym gone))
+
+-- and stays with it
+pub keeps-there : (io : Io) (path : ℕ) (records : Records) → is_some (desc_of io.paths path) ≡ true → records ≡ closed-records io path records
+keeps-there io path records there = by (lock_of records.locks path) (desc_of io.paths path) there
+  where
+    by : (lock : Option Held) (desc : Option Desc) → is_some desc ≡ true → records ≡ (if option_map_or (λ (lock : Held). is_none desc || false) lock false then without_lock records path else records)
+    by None desc there = refl
+    by (Some lock) None there = absurd (false≢true there)
+    by (Some lock) (Some desc) there = refl
+
+pub stands-closed : (state : FileState) (views : List DriveView) (files : Files) (p n path : ℕ) (new : Io)
+    (records : Records) → new ≡ after_close state.io p n → records ≡ closed-records new path state.records
+    → StandsFor state views files → StandsFor (record state { io = new; records = records }) views
+    (files_after_close files p n path)
+stands-closed state views files p n path new records is ends stands =
+    let io : after_close files.io p n ≡ new = ap (λ (io : Io). after_close io p n) stands.io ∙ sym is in
+    record {
+      io = io;
+      directories = stands.directories;
+      records =
+          ap (λ (io : Io). closed-records io path files.records) io ∙ ap (closed-records new path) stands.records ∙ sym ends;
+      drives = stands.drives;
+      mounted = stands.mounted;
+    }
+
+-- ---- a call is broken off
+
+pub stands-interrupted : (state : FileState) (views : List DriveView) (files : Files) (p : ℕ) (new : Io)
+    (records : Records) → new ≡ io_interrupted state.io p → records ≡ with_waiting state.records p None
+    → StandsFor state views files → StandsFor (record state { io = new; records = records }) views
+    (files_interrupted files p)
+stands-interrupted state views files p new records is dropped stands = record {
+  io = ap (λ (io : Io). io_interrupted io p) stands.io ∙ sym is;
+  directories = stands.directories;
+  records = ap (λ (records : Records). with_waiting records p None) stands.records ∙ sym dropped;
   drives = stands.drives;
   mounted = stands.mounted;
 }
@@ -140,16 +230,19 @@ none-at {X} k n = elim (cases_lt n k) [
 
 -- a new state is that of drives without volumes
 pub stands-first : (state : FileState) (views : List DriveView) → length views ≤ 4 → state.io ≡ first_io
-    → state.disks ≡ replicate 4 None → state.directories ≡ replicate 33 no_directories → StandsFor state views
-    (record {
+    → state.disks ≡ replicate 4 None → state.directories ≡ replicate 33 no_directories → state.records ≡ no_records
+    → StandsFor state views (record {
       io = first_io;
       directories = replicate 33 no_directories;
-      volumes = replicate (length views) None;
+      volumes = replicate
+          (length views) None;
       drives = drive_states views;
+      records = no_records;
     })
-stands-first state views few io disks directories = record {
+stands-first state views few io disks directories records = record {
   io = sym io;
   directories = sym directories;
+  records = sym records;
   drives = refl;
   mounted = record {
     few = few;

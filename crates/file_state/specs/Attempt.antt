@@ -1,25 +1,43 @@
 -- What an attempt of a call on paths, files and directories does to the kernel's processes and its files.
-use Rattle.std.specs.Prelude.{ℕ, List}
+use Rattle.std.specs.Prelude.{ℕ, None, List}
 use Rattle.std.specs.declared.alloc.Global.{Global}
 use Rattle.std.specs.declared.dyn_box.DynBox.{DynBox}
 use Rattle.os9_base.specs.declared.call.CallEnd.{CallEnd}
+use Rattle.os9_base.specs.declared.call.CallEnd.TheVariants.{Wait}
 use Rattle.os9_base.specs.declared.registers.TimePacket.{TimePacket}
 use Rattle.os9_outer.specs.TerminalState.{TerminalState}
 use Rattle.os9_outer.specs.declared.drive.BlockDriver.{Ghosts}
 use Rattle.call_rules.specs.CallResult.{CallResult}
 use Rattle.call_rules.specs.Inner.{Inner}
+use Rattle.lock_model.specs.Records.{Records, with_waiting}
 use Rattle.proc_state.specs.Tie.{Comes, Represents}
 use Rattle.proc_state.specs.declared.state.ProcState.{ProcState}
 use Rattle.file_rules.specs.Attempts.{FileAttempts}
-use Rattle.file_rules.specs.Files.{Files}
+use Rattle.file_rules.specs.Files.{Files, with_records}
 use Rattle.file_rules.specs.declared.path_call.PathCall.{PathCall}
 use Rattle.file_drives.specs.Drives.{DriveView, drive_views}
 use Rattle.file_laws.specs.Kinds.{AreKinds}
 use Rattle.file_state.specs.Tie.{StandsFor}
 use Rattle.file_state.specs.declared.state.FileState.{FileState}
 
--- an attempt of a call by a process, at a time: its end, and the processes, the files and the terminals after it; the
--- result is not yet given to the process
+-- the kernel's files without a request of a process
+abbrev pub without_request : ℕ → FileState → FileState
+without_request p state = record state { records = with_waiting state.records p None }
+
+-- and those of the machine
+abbrev pub unrequested : ℕ → Files → Files
+unrequested p files = with_records files (with_waiting files.records p None)
+
+-- and after an attempt that ends so, which keeps its request only if it waits
+abbrev pub records_settled : ℕ → CallEnd → Records → Records
+records_settled p Wait records = records
+records_settled p end records = with_waiting records p None
+
+abbrev pub settled : ℕ → CallEnd → FileState → FileState
+settled p end state = record state { records = records_settled p end state.records }
+
+-- an attempt of a call by a process, at a time: how it ends, and the processes, the files and the terminals then; its
+-- process is not told yet, and a request of it may be kept yet
 pub record Attempts (call : PathCall) (m : Inner) (files : Files) (now : TimePacket) (p : ℕ) (end : CallEnd)
     (processes : ProcState) (new : FileState) (views : List DriveView) (before after : List TerminalState)
     : Type 0 where
@@ -27,7 +45,7 @@ pub record Attempts (call : PathCall) (m : Inner) (files : Files) (now : TimePac
   pub left : Files
   pub attempt : FileAttempts call m files now p result left before after
   pub comes : Comes m p result end processes
-  pub stands : StandsFor new views left
+  pub stands : StandsFor (settled p end new) views left
 
 -- ---- from any state that the kernel's state represents
 

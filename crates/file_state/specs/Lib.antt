@@ -1,6 +1,8 @@
+pub mod Asking
 pub mod Attempt
 pub mod Counted
 pub mod Ends
+pub mod Lacks
 pub mod Media
 pub mod Opened
 pub mod Reached

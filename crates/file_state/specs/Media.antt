@@ -41,14 +41,15 @@ pub record BreaksDisk (it : VolumeChange) (asker : Asker) (files : Files) (numbe
   pub failed : OneFailed it.drive number (drive_states before) (drive_states after)
   pub left : ChangesDisk it asker files (Err (File (Device number))) before after
 
--- by the end of the attempt: the change is made; or a fault has ended it, or all media are unchanged
+-- by how the attempt ends: the change is made, also if its entry in the history found no memory; or a fault has ended
+-- it, or all media are as they were
 abbrev pub MediaAfterChange : VolumeChange → Asker → Files → CallEnd → List DriveView → List DriveView → Type 0
 MediaAfterChange it asker files Done before after = (n : ℕ) × ChangesDisk it asker files (Ok n) before after
 MediaAfterChange it asker files (Error number) before after =
     (media_of after ≡ media_of before) ⊎ BreaksDisk it asker files number before after
 MediaAfterChange it asker files Wait before after = ⊥
 MediaAfterChange it asker files Ended before after = ⊥
-MediaAfterChange it asker files NoMemory before after = ⊥
+MediaAfterChange it asker files NoMemory before after = (n : ℕ) × ChangesDisk it asker files (Ok n) before after
 
 -- ---- the drives
 

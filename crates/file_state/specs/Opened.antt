@@ -1,15 +1,18 @@
 -- Files and directories that paths and processes name.
-use Rattle.std.specs.Prelude.{◌≡◌, ℕ, Bool, true, false, Option, Some, None, List, if◌then◌else◌}
+use Rattle.std.specs.Prelude.{◌≡◌, ℕ, Bool, true, false, Option, Some, None, IfSome, List, if◌then◌else◌}
+use Rattle.io_model.specs.Path.{desc_of}
 use Rattle.io_model.specs.declared.path.Desc.{Desc}
 use Rattle.io_model.specs.declared.path.SysPath.{SysPath}
 use Rattle.io_model.specs.declared.path.Target.{Target}
 use Rattle.io_model.specs.declared.path.Target.TheVariants.{File, Folder, Term, Pipe}
 use Rattle.rbf_model.specs.File.{is_directory}
-use Rattle.io_rules.specs.Io.{OpenPath}
+use Rattle.io_rules.specs.Io.{Io, OpenPath, open_path}
+use Rattle.io_state.specs.Files.{IsOnDisk}
 use Rattle.io_rules.specs.Modes.{can_write}
 use Rattle.file_rules.specs.Files.{Files, OpenFile as Found, file_in, open_file}
 use Rattle.file_rules.specs.declared.places.Directories.{Directories}
-use Rattle.file_rules.specs.declared.places.FilePlace.{FilePlace}
+use Rattle.lock_model.specs.declared.place.FilePlace.{FilePlace}
+use Rattle.record_locks.specs.Places.{IsPath}
 use Rattle.file_drives.specs.Drives.{DriveView}
 use Rattle.file_drives.specs.Mounted.{HasDataFileAt, HasFileAt}
 use Rattle.file_state.specs.declared.state.FileState.{FileState}
@@ -18,6 +21,15 @@ use Rattle.file_state.specs.declared.state.OpenFile.{OpenFile}
 -- the path of an open file
 abbrev pub path_of : OpenFile → OpenPath
 path_of opened = record { path = opened.path; desc = opened.desc }
+
+-- the descriptor is that of the system path, which has a place for a lock
+pub record IsPathOf (io : Io) (opened : OpenFile) : Type 0 where
+  pub desc : desc_of io.paths opened.path.0 ≡ Some opened.desc
+  pub place : IsPath opened.path.0
+
+-- a number of a process names no path on a file or a directory
+abbrev pub NamesNoFile : Io → ℕ → ℕ → Type 0
+NamesNoFile io p n = IfSome (open_path io p n) (λ opened. IsOnDisk opened.desc.target → ⊥)
 
 -- a number of a process names this file or directory, which exists
 pub record IsFileOf (state : FileState) (views : List DriveView) (files : Files) (p n : ℕ) (opened : OpenFile) : Type 0

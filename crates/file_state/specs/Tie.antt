@@ -10,6 +10,7 @@ use Rattle.file_state.specs.declared.state.FileState.{FileState}
 pub record StandsFor (state : FileState) (views : List DriveView) (files : Files) : Type 0 where
   pub io : files.io ≡ state.io
   pub directories : files.directories ≡ state.directories
+  pub records : files.records ≡ state.records
   pub drives : files.drives ≡ drive_states views
   pub mounted : AreMounted state.disks views files.volumes
 

@@ -1,32 +1,47 @@
 //! The state of input and output with the disks.
 
-ghost use Rattle.std.specs.Prelude.{◌≡◌, ◌<◌, ℕ, Bool, None, Some, IfOk, IfSome, IsSome, OnOk, OnErr, List, replicate, vec_len};
-ghost use Rattle.io_model.specs.Path.{desc_of, new_number};
-ghost use Rattle.io_rules.specs.Io.{first_io, kept_at};
+ghost use Rattle.std.specs.Prelude.{◌≡◌, ◌<◌, ◌==◌, ◌||◌, ℕ, Bool, false, None, Some, IfOk, IfSome, IsSome, OnOk, OnErr, List, replicate, vec_len};
+ghost use Rattle.std.specs.Option.{option_map_or};
+ghost use Rattle.call_rules.specs.IoReady.{has_io};
+ghost use Rattle.io_model.specs.Path.{new_number, slot_of};
+ghost use Rattle.io_rules.specs.Io.{first_io, kept_at, open_path};
+ghost use Rattle.io_rules.specs.Waiting.{interrupted_count, io_may_go};
 ghost use Rattle.io_state.specs.Files.{IsOnDisk};
+ghost use Rattle.lock_model.specs.Locks.{lock_of};
+ghost use Rattle.lock_model.specs.Records.{ends_lock, ends_locks_below, no_records};
+ghost use Rattle.lock_model.specs.Waits.{lock_may_go};
+ghost use Rattle.record_locks.specs.Places.{IsPath};
 ghost use Rattle.rbf_model.specs.File.{DiskFile, is_directory as is_directory_lem};
 ghost use Rattle.rbf_model.specs.Volume.{DiskVolume};
 ghost use Rattle.file_rules.specs.Files.{Files, directories_at, directory_of, no_directories, target_on as target_on_lem, with_directories_of, with_directory, with_drives, with_volume};
+ghost use Rattle.file_rules.specs.Close.{files_after_close};
+ghost use Rattle.file_rules.specs.Locking.{call_wait, end_of_wait as end_of_wait_lem, files_interrupted, files_may_go, lock_ends as lock_ends_lem, request_wait as request_wait_lem};
 ghost use Rattle.file_rules.specs.Processes.{files_started, files_ended};
 ghost use Rattle.file_rules.specs.Sharing.{is_open as is_open_lem, is_not_shared as is_not_shared_lem, is_single as is_single_lem, some_path_on};
 ghost use Rattle.file_rules.specs.Way.{Found};
 ghost use Rattle.file_drives.specs.Drives.{ChangesOneDrive, DriveView, drive_states, drive_views};
 ghost use Rattle.file_drives.specs.Mounted.{HasFileAt, ReadsToMount};
 ghost use Rattle.file_laws.specs.Kinds.{AreKinds};
-ghost use Rattle.file_state.specs.Opened.{NamesFile, directory_in, opened_by};
+ghost use Rattle.file_state.specs.Opened.{IsPathOf, NamesFile, NamesNoFile, directory_in, opened_by, path_of};
 ghost use Rattle.file_state.specs.Reached.{MountsOn, OthersKept};
 ghost use Rattle.file_state.specs.Tie.{StandsFor};
 
+use call_rules::io_ready::IoReady;
 use device_table::devices::Devices;
 use file_drives::disks::Disks;
-use file_rules::places::{Directories, FilePlace};
+use file_rules::places::Directories;
 use file_rules::status::SINGLE_USER;
 use io_model::path::{Desc, SysPath, Target};
 use io_state::state::IoState;
+use lock_model::lock::{PATH_PLACES, Request};
+use lock_model::place::FilePlace;
 use os9_base::call::OutOfMemory;
+use os9_base::limits::PROCESS_PLACES;
 use os9_base::registers::Pid;
 use os9_outer::drive::BlockDriver;
+use os9_sched::{Cause, Wait};
 use rbf_access::VolFault;
+use record_locks::records::Records;
 use std::alloc::Global;
 
 /// Processes, by number from 0 to 32.
@@ -38,14 +53,15 @@ const NO_DIRECTORIES: Directories = Directories {
     execution_directory: None,
 };
 
-/// Paths, terminals, pipes and pending calls, the volumes mounted on the drives, and the
-/// directories of each process, by its number (Level Two manual, "I/O system"; OS-9 Technical
-/// Reference, Random Block File Manager).
+/// Paths, terminals, pipes and waiting calls, the volumes that are mounted on the drives, the
+/// directories of each process, by its number, and the record locks with their history (Level Two
+/// manual, "I/O system"; OS-9 Technical Reference, Random Block File Manager).
 #[derive(Drop)]
 pub struct FileState {
     pub io: IoState,
     pub disks: Disks,
     pub directories: [Directories; PROCESSES],
+    pub records: Records,
 }
 
 /// A path on a file or a directory: its system path, its descriptor, and the place of the file.
@@ -59,7 +75,7 @@ pub struct OpenFile {
 
 impl FileState {
     /// The state of a machine with process 2, whose standard paths are one path on TERM. No volume
-    /// is mounted, and no process has a directory.
+    /// is mounted, no process has a directory, and no path holds a lock.
     ///
     /// # Errors
     ///
@@ -69,16 +85,18 @@ impl FileState {
         ensures disks { IfOk result (λ state. state.disks ≡ replicate 4 None) }
         ensures directories { IfOk result
             (λ state. state.directories ≡ replicate 33 no_directories) }
+        ensures records { IfOk result (λ state. state.records ≡ no_records) }
     {
         Ok(FileState {
             io: IoState::new(alloc)?,
             disks: Disks::new(alloc)?,
             directories: [NO_DIRECTORIES; PROCESSES],
+            records: Records::new(alloc)?,
         })
     }
 
     /// Mounts the volume on the media of drive `n`, in place of the one that was mounted there.
-    /// Paths, directories and the state kept for the other drives are unchanged.
+    /// Paths, directories, locks and what is kept of the other drives stay.
     ///
     /// # Errors
     ///
@@ -93,8 +111,7 @@ impl FileState {
         ensures drive { ChangesOneDrive (ReadsToMount result) n
             (drive_views ⟦<dyn BlockDriver as BlockDriver>⟧ devices.old.drives.items)
             (drive_views ⟦<dyn BlockDriver as BlockDriver>⟧ devices.new.drives.items) }
-        ensures io_kept { self.new.io ≡ self.old.io }
-        ensures directories_kept { self.new.directories ≡ self.old.directories }
+        ensures rest { self.new ≡ record self.old { disks = self.new.disks } }
         ensures others { OthersKept n self.old.disks self.new.disks }
         ensures terms_kept { devices.new.terms ≡ devices.old.terms }
     {
@@ -103,8 +120,10 @@ impl FileState {
 
     /// The file or directory that a number of a process names; None if it names none.
     pub fn open_file(&self, p: Pid, n: u8) -> Option<OpenFile>
-        ensures path { IfSome result
-            (λ file. desc_of self.now.io.paths file.path.0 ≡ Some file.desc) }
+        ensures path { IfSome result (IsPathOf self.now.io) }
+        ensures named { IfSome result
+            (λ file. open_path self.now.io p.0 n ≡ Some (path_of file)) }
+        ensures none { result ≡ None → NamesNoFile self.now.io p.0 n }
         ensures file { (views : List DriveView) (files : Files)
             → StandsFor self.now views files → AreKinds files
             → NamesFile self.now views files p.0 n result }
@@ -192,16 +211,142 @@ impl FileState {
         self.directories[child.0 as usize] = self.directories[parent.0 as usize];
     }
 
-    /// Ends a process (System Programmer's Manual, F$Exit): its paths are closed, its pending call
-    /// is dropped, and it has no directory any more.
+    /// A process closes its number of a path on a file or a directory (System Programmer's Manual,
+    /// I$Close). The path goes with its last number, and its lock with it.
+    pub fn close_file(&mut self, p: Pid, n: u8, path: SysPath)
+        requires open { slot_of self.old.io.paths p.0 n ≡ Some path }
+        requires there { IsPath path.0 }
+        requires quiet { kept_at self.old.io p.0 ≡ None }
+        ensures { (views : List DriveView) (files : Files) → StandsFor self.old views files
+            → StandsFor self.new views (files_after_close files p.0 n path.0) }
+    {
+        self.io.close(p, n);
+        if !self.io.is_there(path) {
+            self.records.drop_lock(path.0);
+        }
+    }
+
+    /// A process ends (System Programmer's Manual, F$Exit): its paths are closed, what it waits for
+    /// is dropped, its locks and those of paths that have gone end, and it has no directory any
+    /// more.
     pub fn end(&mut self, p: Pid)
         requires { p.0 < 33 }
         ensures { (views : List DriveView) (files : Files) → StandsFor self.old views files
             → StandsFor self.new views (files_ended files p.0) }
     {
         self.io.end(p);
+        self.records.cancel(p);
+        self.end_locks_of(p);
         self.directories[p.0 as usize] = NO_DIRECTORIES;
     }
+
+    /// The locks of a process and those of paths that have gone end, the least path first.
+    fn end_locks_of(&mut self, p: Pid)
+        ensures { self.new ≡ record self.old {
+          records = ends_locks_below (lock_ends_lem self.old.io.paths (λ owner. owner == p.0))
+              PATH_PLACES self.old.records;
+        } }
+    {
+        for path in 0..PATH_PLACES {
+            self.end_lock(SysPath(path as u8), p);
+        }
+    }
+
+    /// The lock of a path ends if the path has gone or the process owns the lock.
+    fn end_lock(&mut self, path: SysPath, p: Pid)
+        requires { IsPath path.0 }
+        ensures { self.new ≡ record self.old {
+          records = ends_lock
+              (lock_ends_lem self.old.io.paths (λ owner. owner == p.0)) path.0 self.old.records;
+        } }
+    {
+        if self.lock_ends(path, p) {
+            self.records.drop_lock(path.0);
+        }
+    }
+
+    /// Does the lock of a path, if it holds one, end with this process?
+    fn lock_ends(&self, path: SysPath, p: Pid) -> bool
+        ensures { result ≡ option_map_or
+            (lock_ends_lem self.now.io.paths (λ owner. owner == p.0) path.0)
+            (lock_of self.now.records.locks path.0) false }
+    {
+        match self.records.locks().lock_of(path.0) {
+            Some(lock) => !self.io.is_there(path) || lock.owner == p,
+            None => false,
+        }
+    }
+
+    /// The waiting call of a process is broken off, if one waits: neither it nor its request is kept
+    /// any longer. The answer is the count in Y: what a write or a line read of a pipe has moved;
+    /// None for any other call (System Programmer's Manual, F$Icpt).
+    pub fn interrupt(&mut self, p: Pid) -> Option<u16>
+        requires { p.0 < 33 }
+        ensures count { result ≡ interrupted_count self.old.io p.0 }
+        ensures files { (views : List DriveView) (files : Files) → StandsFor self.old views files
+            → StandsFor self.new views (files_interrupted files p.0) }
+    {
+        self.records.cancel(p);
+        self.io.interrupt(p)
+    }
+
+    /// The processes whose waiting calls may go on in a tick.
+    pub fn ready_set(&self, tick: u32) -> IoReady
+        ensures { (views : List DriveView) (files : Files) → StandsFor self.now views files
+            → (p : ℕ) → p < 33 → has_io result p ≡ files_may_go files tick p }
+    {
+        let mut ready = IoReady::none();
+        for number in 0..PROCESS_PLACES {
+            if self.may_go(Pid(number), tick) {
+                ready.allow(Pid(number));
+            }
+        }
+        ready
+    }
+
+    /// May the waiting call of a process go on in a tick?
+    fn may_go(&self, p: Pid, tick: u32) -> bool
+        requires { p.0 < 33 }
+        ensures { result
+            ≡ (io_may_go self.now.io p.0 || lock_may_go self.now.records.locks tick p.0) }
+    {
+        self.io.may_go(p) || self.records.locks().may_go(p, tick)
+    }
+
+    /// What a process waits for, if a call of it waits on a terminal, on a pipe or for a record.
+    pub fn waits_for(&self, p: Pid) -> Option<Wait>
+        requires { p.0 < 33 }
+        ensures { result ≡ call_wait self.now.io self.now.records.locks p.0 }
+    {
+        match self.records.locks().request_of(p) {
+            Some(request) => Some(request_wait(request)),
+            None => {
+                let cause = self.io.waits_for(p)?;
+                Some(Wait { cause, until: None })
+            }
+        }
+    }
+}
+
+/// What a request waits for: a record of its file, for as many ticks as its path allows.
+fn request_wait(request: Request) -> Wait
+    ensures { result ≡ request_wait_lem request }
+{
+    let file = request.lock.file;
+    Wait {
+        cause: Cause::Lock(file.drive, file.number),
+        until: end_of_wait(request),
+    }
+}
+
+/// The tick from which a request waits no longer, if its path limits its ticks.
+fn end_of_wait(request: Request) -> Option<u32>
+    ensures { result ≡ end_of_wait_lem request }
+{
+    if request.ticks <= 1 {
+        return None;
+    }
+    request.since.checked_add(u32::from(request.ticks))
 }
 
 /// The target of a path on the file or directory at a place.

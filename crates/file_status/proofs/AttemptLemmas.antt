@@ -10,16 +10,17 @@ use Rattle.io_rules.specs.Status.{i_getstt as gets_of_device, i_setstt as sets_o
 use Rattle.proc_rules.specs.Records.{record_at}
 use Rattle.proc_state.specs.Tie.{Represents}
 use Rattle.proc_state.specs.declared.state.ProcState.{ProcState}
-use Rattle.file_rules.specs.Attempts.{asker_of}
+use Rattle.file_rules.specs.Attempts.{asker_of, file_step}
 use Rattle.file_rules.specs.Files.{Files, OpenFile, open_file}
 use Rattle.file_rules.specs.OnFile.{by_kind}
 use Rattle.file_rules.specs.Status.{gets_status, sets_status}
 use Rattle.file_rules.specs.declared.path_call.PathCall.TheVariants as Call
 use Rattle.file_laws.specs.Kinds.{AreKinds}
-use Rattle.file_state.proofs.KeepLemmas.{ends-attempt}
+use Rattle.file_state.proofs.KeepLemmas.{ends-attempt, lacks-attempt}
 use Rattle.file_state.specs.Attempt.{Standing}
 use Rattle.file_state.specs.Counted.{AttemptsIn}
-use Rattle.file_state.specs.Ends.{Ends}
+use Rattle.file_state.specs.Ends.{Ends, EndsOrLacks}
+use Rattle.file_state.specs.Lacks.{AttemptsOrLacks}
 use Rattle.file_state.specs.Tie.{StandsFor}
 use Rattle.file_state.specs.declared.state.OpenFile.{OpenFile as KernelFile}
 use Rattle.file_status.proofs.OpenLemmas.{open-of}
@@ -37,13 +38,13 @@ module _ (m : Inner) (was : Files) (now : TimePacket) (p : ℕ) (end : CallEnd) 
     (stands : StandsFor before.files before.views was) (kinds : AreKinds was) (named : IsNamedInA p opened before)
   where
     abbrev found : OpenFile
-    found = (named was stands kinds).found
+    found = (named.file was stands kinds).found
 
     found_is : open_file was p (regs_at m p).a ≡ Some found
-    found_is = subst (λ (r : Regs). open_file was p r.a ≡ Some found) (regs-tied before.processes m p tied) (named was stands kinds).is
+    found_is = subst (λ (r : Regs). open_file was p r.a ≡ Some found) (regs-tied before.processes m p tied) (named.file was stands kinds).is
 
     found-open : IsOpen was opened found
-    found-open = open-of before.files before.views was p (record_at before.processes.table p).regs.a opened (named was stands kinds)
+    found-open = open-of before.files before.views was p (record_at before.processes.table p).regs.a opened (named.file was stands kinds)
 
     pub get-attempt : ((it : OpenFile) → IsOpen was opened it
         → Ends (gets_status (asker_of m p now) was it (regs_at m p).b) 1 m was now p end after.processes after.files
@@ -55,14 +56,21 @@ module _ (m : Inner) (was : Files) (now : TimePacket) (p : ℕ) (end : CallEnd) 
         before.views after.views terms) (sym found_is)
         (by found found-open))
 
-    pub set-attempt : ((it : OpenFile) → IsOpen was opened it
-        → Ends (sets_status (asker_of m p now) was it (regs_at m p).b) (calls_by_code (asker_of m p now) it) m was now p
-        end after.processes after.files before.views after.views terms) → AttemptsIn (i_setstt_calls (asker_of m p now)
-        was (length terms)) Call.SetStt m was now p end terms terms before after
+    pub set-attempt : ((it : OpenFile) → IsOpen was opened it → EndsOrLacks (sets_status (asker_of m p now) was it
+        (regs_at m p).b) (calls_by_code (asker_of m p now) it) m was now p end after.processes after.files before.views
+        after.views terms) → AttemptsOrLacks (i_setstt_calls (asker_of m p now) was (length terms)) Call.SetStt m was
+        now p end terms terms before after
     set-attempt by =
-        ends-attempt (i_setstt_calls (asker_of m p now) was (length terms)) Call.SetStt m was now p end terms before after
-        (subst (λ o. Ends (by_kind o (sets_of_device (asker_of m p now).caller was.io)
+        let it : EndsOrLacks (file_step Call.SetStt (asker_of m p now) was (length terms))
+        (i_setstt_calls (asker_of m p now) was (length terms)) m was now p end after.processes after.files
+        before.views after.views terms =
+        subst (λ o. EndsOrLacks (by_kind o (sets_of_device (asker_of m p now).caller was.io)
         (λ it. sets_status (asker_of m p now) was it (regs_at m p).b))
         (option_map_or (calls_by_code (asker_of m p now)) o 0) m was now p end after.processes after.files
         before.views after.views terms) (sym found_is)
-        (by found found-open))
+        (by found found-open)
+        in
+        record {
+          attempted = λ some. ends-attempt (i_setstt_calls (asker_of m p now) was (length terms)) Call.SetStt m was now p end terms before after (it.ends some);
+          lacks = λ none. lacks-attempt (i_setstt_calls (asker_of m p now) was (length terms)) Call.SetStt m was now p end terms before after (it.lacks none);
+        }

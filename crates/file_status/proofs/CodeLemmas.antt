@@ -16,7 +16,8 @@ use Rattle.file_rules.specs.Files.{Files, OpenFile}
 use Rattle.file_rules.specs.Status.{gets_status, long_regs, sets_status}
 use Rattle.file_rules.specs.Step.{FileStep, done, refused}
 use Rattle.file_drives.specs.Drives.{DriveView}
-use Rattle.file_state.specs.Ends.{Ends}
+use Rattle.file_state.proofs.RequestLemmas.{lacks-none}
+use Rattle.file_state.specs.Ends.{Ends, EndsOrLacks}
 use Rattle.file_state.specs.Tie.{StandsFor}
 use Rattle.file_state.specs.declared.state.FileState.{FileState}
 use Rattle.file_state.specs.declared.state.OpenFile.{OpenFile as KernelFile}
@@ -26,6 +27,12 @@ use Rattle.file_status.specs.Status.{IsOpen, setting_calls, uncalled}
 -- none of the tests holds
 two-fail : (a b : Bool) (one two other : FileStep) → a ≡ false → b ≡ false → (if a then one else (if b then two else other)) ≡ other
 two-fail a b one two other na nb = subst (λ t. (if t then one else (if b then two else other)) ≡ other) (sym na) (subst (λ t. (if t then two else other) ≡ other) (sym nb) refl)
+
+four-fail : (a b c d : Bool) (one two three four other : FileStep) → a ≡ false → b ≡ false → c ≡ false → d ≡ false
+    → (if a then one else (if b then two else (if c then three else (if d then four else other)))) ≡ other
+four-fail a b c d one two three four other na nb nc nd =
+    subst (λ t. (if t then one else (if b then two else (if c then three else (if d then four else other)))) ≡ other) (sym na)
+    (subst (λ t. (if t then two else (if c then three else (if d then four else other))) ≡ other) (sym nb) (two-fail c d three four other nc nd))
 
 six-fail : (a b c d e f : Bool) (one two three four five six other : FileStep) → a ≡ false → b ≡ false → c ≡ false
     → d ≡ false → e ≡ false → f ≡ false
@@ -50,11 +57,12 @@ by-code m files now p end processes new before after terms it known code is ends
 
 pub set-by-code : (m : Inner) (files : Files) (now : TimePacket) (p : ℕ) (end : CallEnd) (processes : ProcState)
     (new : FileState) (before after : List DriveView) (terms : List TerminalState) (it : OpenFile) (known code : ℕ)
-    → known ≡ code → Ends (sets_status (asker_of m p now) files it known) (setting_calls known (asker_of m p now) it)
-    m files now p end processes new before after terms → Ends (sets_status (asker_of m p now) files it code)
-    (setting_calls code (asker_of m p now) it) m files now p end processes new before after terms
+    → known ≡ code → EndsOrLacks (sets_status (asker_of m p now) files it known)
+    (setting_calls known (asker_of m p now) it) m files now p end processes new before after terms
+    → EndsOrLacks (sets_status (asker_of m p now) files it code) (setting_calls code (asker_of m p now) it) m files
+    now p end processes new before after terms
 set-by-code m files now p end processes new before after terms it known code is ends =
-    subst (λ n. Ends (sets_status (asker_of m p now) files it n) (setting_calls n (asker_of m p now) it) m files now p end processes new before after terms) is ends
+    subst (λ n. EndsOrLacks (sets_status (asker_of m p now) files it n) (setting_calls n (asker_of m p now) it) m files now p end processes new before after terms) is ends
 
 module _ (m : Inner) (files : Files) (now : TimePacket) (p : ℕ) (end : CallEnd) (processes : ProcState)
     (state new : FileState) (views : List DriveView) (terms : List TerminalState) (it : OpenFile) (regs : Regs)
@@ -69,13 +77,14 @@ module _ (m : Inner) (files : Files) (now : TimePacket) (p : ℕ) (end : CallEnd
       (ne_eqb code 6 n6) (ne_eqb code 15 n15)))
       (ends-refused (refused E_UNKSVC) 1 m files now p end processes state new views terms E_UNKSVC refl is_end tied stands new_is)
 
-  pub setting-unknown : (most code : ℕ) → (code ≡ 2 → ⊥) → (code ≡ 28 → ⊥) → end ≡ CallEnd.Error E_UNKSVC
-      → Represents processes m → Ends (sets_status (asker_of m p now) files it code) most m files now p end processes
-      new views views terms
-  setting-unknown most code n2 n28 is_end tied =
-      subst (λ step. Ends step most m files now p end processes new views views terms)
-      (sym (two-fail (code == 2) (code == 28) _ _ (refused E_UNKSVC) (ne_eqb code 2 n2) (ne_eqb code 28 n28)))
-      (ends-refused (refused E_UNKSVC) most m files now p end processes state new views terms E_UNKSVC refl is_end tied stands new_is)
+  pub setting-unknown : (most code : ℕ) → (code ≡ 2 → ⊥) → (code ≡ 16 → ⊥) → (code ≡ 17 → ⊥) → (code ≡ 28 → ⊥)
+      → end ≡ CallEnd.Error E_UNKSVC → Represents processes m → EndsOrLacks (sets_status (asker_of m p now) files it
+      code) most m files now p end processes new views views terms
+  setting-unknown most code n2 n16 n17 n28 is_end tied =
+      lacks-none (sets_status (asker_of m p now) files it code) most m files now p end processes new views views terms
+      (subst (λ step. Ends step most m files now p end processes new views views terms)
+      (sym (four-fail (code == 2) (code == 16) (code == 17) (code == 28) _ _ _ _ (refused E_UNKSVC) (ne_eqb code 2 n2) (ne_eqb code 16 n16) (ne_eqb code 17 n17) (ne_eqb code 28 n28)))
+      (ends-refused (refused E_UNKSVC) most m files now p end processes state new views terms E_UNKSVC refl is_end tied stands new_is))
 
   -- SS.Ready
   pub ready-told : end ≡ CallEnd.Done → Represents processes (with_regs_of m p (record regs { b = 0 }))

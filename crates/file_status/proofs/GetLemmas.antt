@@ -23,7 +23,7 @@ use Rattle.file_rules.specs.Attempts.{asker_of}
 use Rattle.file_rules.specs.Files.{Files, OpenFile}
 use Rattle.file_rules.specs.Status.{asked_bytes, descriptor_front, gets_descriptor, gets_end, gets_size, long_regs}
 use Rattle.file_rules.specs.Step.{FileEffect, FileStep, comes, deed_of, done, leaves_so, reaches, refuses, refuses_so, stores}
-use Rattle.file_rules.specs.declared.places.FilePlace.{FilePlace}
+use Rattle.lock_model.specs.declared.place.FilePlace.{FilePlace}
 use Rattle.file_drives.specs.Drives.{DriveView}
 use Rattle.file_drives.specs.Mounted.{OnDisks, ReadsFile}
 use Rattle.file_state.proofs.CountLemmas.{called-read}
@@ -102,7 +102,7 @@ module _ (m : Inner) (files : Files) (now : TimePacket) (p : ℕ) (end : CallEnd
   reads : (fault : Option ℕ) → Reading fault → HasRead fault opened.place.drive files (with_disks state disks) before after
   reads fault read =
       has-read state (with_disks state disks) before after files opened.place it.file fault (λ v file. 1) stands
-      (file-there files opened.place it.volume it.file open_is.volume_is open_is.file_is) refl refl read
+      (file-there files opened.place it.volume it.file open_is.volume_is open_is.file_is) refl refl refl read
 
   calls : (fault : Option ℕ) → Reading fault → CalledAtMost 1 before after
   calls fault read =

@@ -1,7 +1,13 @@
+pub mod AskedLemmas
 pub mod AttemptLemmas
 pub mod CodeLemmas
+pub mod DropLemmas
 pub mod FrontLemmas
 pub mod GetLemmas
+pub mod GrantedLemmas
 pub mod OpenLemmas
+pub mod RequestingLemmas
 pub mod SetLemmas
+pub mod SizingLemmas
 pub mod StandLemmas
+pub mod TickLemmas

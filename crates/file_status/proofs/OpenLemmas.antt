@@ -1,19 +1,27 @@
 -- The file of a path, from the number that names it.
-use Rattle.std.proofs.Common.{◌≡◌, ℕ, ◌∙◌, Bool, true, false, Option, Some, None, option_map, option_and_then, List, refl, ap, sym, subst}
-use Rattle.std.proofs.lemmas.Option.{none-some, same_Some}
-use Rattle.io_model.specs.Path.{desc_of, slot_of}
-use Rattle.io_model.specs.declared.path.Desc.{Desc}
-use Rattle.io_model.specs.declared.path.SysPath.{SysPath}
-use Rattle.io_rules.specs.Io.{OpenPath, open_path}
+use Rattle.std.proofs.Common.{◌≡◌, ℕ, ◌<◌, ◌∙◌, Bool, true, false, Option, Some, None, IfSome, option_map, option_and_then, List, length, get_or, slice_get, refl, ap, sym, subst, arith}
+use Rattle.std.proofs.lemmas.List.{get_or_default}
+use Rattle.std.proofs.lemmas.Option.{none-some, same_Some, slice_get_read}
+use Rattle.os9_base.specs.declared.registers.Regs.{Regs}
+use Rattle.io_rules.specs.Again.{IsAgain, path_number}
+use Rattle.io_rules.specs.Io.{Io, OpenPath, kept_at, open_path}
+use Rattle.io_rules.specs.declared.io_call.IoCall.{IoCall}
+use Rattle.io_state.specs.Sound.{IsNoRead}
 use Rattle.io_rules.specs.Modes.{can_write}
+use Rattle.rbf_access.specs.Mounted.{Represents}
+use Rattle.rbf_access.specs.declared.volume.Volume.{Volume}
 use Rattle.rbf_model.specs.File.{DiskFile}
 use Rattle.rbf_model.specs.Volume.{DiskVolume}
 use Rattle.file_rules.specs.Files.{Files, OpenFile, open_file, open_file_at, place_of_target, volume_at}
-use Rattle.file_rules.specs.declared.places.FilePlace.{FilePlace}
+use Rattle.lock_model.specs.declared.place.FilePlace.{FilePlace}
+use Rattle.file_drives.proofs.MountedLemmas.{mounted-below}
 use Rattle.file_drives.specs.Drives.{DriveView}
-use Rattle.file_drives.specs.Mounted.{HasDataFileAt, HasFileAt}
+use Rattle.file_drives.specs.Mounted.{AgreesOnDrive, AreMounted, HasDataFileAt, HasFileAt, ReadsFile, mounted_at}
+use Rattle.file_drives.specs.Mounted as drives
 use Rattle.file_laws.specs.Kinds.{AreKinds}
-use Rattle.file_state.specs.Opened.{IsFileOf}
+use Rattle.file_state.proofs.AskingLemmas.{may-ask, no-read-again}
+use Rattle.file_state.specs.Asking.{KeepsRequest, MayAsk}
+use Rattle.file_state.specs.Opened.{IsFileOf, IsPathOf, path_of}
 use Rattle.file_state.specs.Tie.{IsSound, StandsFor}
 use Rattle.file_state.specs.declared.state.FileState.{FileState}
 use Rattle.file_state.specs.declared.state.OpenFile.{OpenFile as KernelFile}
@@ -28,13 +36,13 @@ mapped f None b h = absurd (none-some b h)
 mapped f (Some a) b h = (a, refl, same_Some (f a) b h)
 
 -- what a file that a number names is found by
-record IsFound (files : Files) (found : OpenFile) : Type 0 where
+record IsFound (files : Files) (p n : ℕ) (found : OpenFile) : Type 0 where
   pub target : place_of_target found.opened.desc.target ≡ Some found.place
   pub volume : volume_at files found.place.drive ≡ Some found.volume
   pub file : found.volume.files found.place.number ≡ Some found.file
-  pub desc : desc_of files.io.paths found.opened.path.0 ≡ Some found.opened.desc
+  pub path : open_path files.io p n ≡ Some found.opened
 
-found-by : (files : Files) (p n : ℕ) (found : OpenFile) → open_file files p n ≡ Some found → IsFound files found
+found-by : (files : Files) (p n : ℕ) (found : OpenFile) → open_file files p n ≡ Some found → IsFound files p n found
 found-by files p n found is =
     let one = and-then (λ (opened : OpenPath). option_and_then (open_file_at files opened) (place_of_target opened.desc.target)) (open_path files.io p n) found is in
     let two = and-then (open_file_at files one.0) (place_of_target one.0.desc.target) found one.2 in
@@ -42,16 +50,8 @@ found-by files p n found is =
     { opened = one.0; place = two.0; volume = v; file = file } in f) (v.files two.0.number))
     (volume_at files two.0.drive) found two.2 in
     let four = mapped (λ (file : DiskFile). let f : OpenFile = record { opened = one.0; place = two.0; volume = three.0; file = file } in f) (three.0.files two.0.number) found three.2 in
-    let slot = and-then (λ (s : SysPath). option_map (λ (desc : Desc). let path : OpenPath = record
-    { path = s; desc = desc } in path) (desc_of files.io.paths s.0)) (slot_of files.io.paths p n) one.0 one.1 in
-    let path = mapped (λ (desc : Desc). let path : OpenPath = record { path = slot.0; desc = desc } in path) (desc_of files.io.paths slot.0.0) one.0 slot.2 in
-    subst (λ (f : OpenFile). IsFound files f) four.2
-    (record {
-      target = two.1;
-      volume = three.1;
-      file = four.1;
-      desc = subst (λ (path : OpenPath). desc_of files.io.paths path.path.0 ≡ Some path.desc) path.2 path.1;
-    })
+    subst (λ (f : OpenFile). IsFound files p n f) four.2
+    (record { target = two.1; volume = three.1; file = four.1; path = one.1 })
 
 -- the file that a number names is the one that its path was opened on
 pub open-of : (state : FileState) (views : List DriveView) (files : Files) (p n : ℕ) (opened : KernelFile) (it : IsFileOf state views files p n opened) → IsOpen files opened it.found
@@ -84,3 +84,58 @@ data-file-there state views p n opened sound named may = by opened.is_directory 
     by : (directory : Bool) → opened.is_directory ≡ directory → HasDataFileAt state.disks views opened.place
     by true is = absurd (let e : true ≡ false = sym may ∙ it.unwritten is in cc)
     by false is = it.data_file is
+
+-- the number names the path of the file
+module _ (state : FileState) (views : List DriveView) (p n : ℕ) (opened : KernelFile) (sound : IsSound state views)
+    (named : (was : Files) → StandsFor state views was → AreKinds was → IsFileOf state views was p n opened) where
+  it : IsFileOf state views sound.files p n opened
+  it = named sound.files sound.stands sound.kinds
+
+  names : open_path state.io p n ≡ Some (path_of opened)
+  names =
+      ap (λ (io : Io). open_path io p n) (sym sound.stands.io) ∙ (found-by sound.files p n it.found it.is).path
+      ∙ ap (λ (path : OpenPath). Some path) it.path
+
+  place : place_of_target opened.desc.target ≡ Some opened.place
+  place = (open-of state views sound.files p n opened it).target_is
+
+  -- its process may ask for records on it
+  pub asks-there : IsPathOf state.io opened → KeepsRequest state.io state.records.locks p → MayAsk state.io state.records.locks p opened
+  asks-there path kept = may-ask state.io state.records.locks p n opened path names place kept
+
+  -- and the pending call of the process is not a read of a terminal
+  pub no-read-there : (call : IoCall) (regs : Regs) → path_number call regs ≡ n → IsAgain call regs state.io p → IfSome (kept_at state.io p) (IsNoRead state.io)
+  no-read-there call regs number again = no-read-again state.io p n opened call regs again number names place
+
+-- ---- on a drive
+
+-- a volume that is mounted is that of some media
+pub mounted-on : (disks : List (Option Volume)) (views : List DriveView) (volumes : List (Option DiskVolume)) (n : ℕ)
+    (v : DiskVolume) → AreMounted disks views volumes → mounted_at volumes n ≡ Some v → (media : Option (List ℕ)) ×
+    Represents media v
+mounted-on disks views volumes n v mounted is =
+    let none : DriveView = record { media = None; counts = record { faults = 0; last = None; calls = 0 } } in
+    let view : DriveView = get_or views n none in
+    let inside : n < length views = omega (arith, mounted-below volumes n v is, mounted.as_many) in
+    let there : slice_get views n ≡ Some view = slice_get_read views (length views) n view refl inside (get_or_default views n none view inside) in
+    by (drives.kept_at disks n) view (subst (λ (o : Option DiskVolume). AgreesOnDrive (drives.kept_at disks n) view o) is (mounted.each n view there))
+  where
+    by : (kept : Option Volume) (view : DriveView) → AgreesOnDrive kept view (Some v) → (media : Option (List ℕ)) × Represents media v
+    by None view agrees = absurd agrees
+    by (Some volume) view agrees = (view.media, agrees.on)
+
+-- a file that is there is there still if its drive was only read
+pub data-stays : (at : FilePlace) (fault : Option ℕ) (most : DiskVolume → DiskFile → ℕ)
+    (disks new : List (Option Volume)) (views now : List DriveView) → HasDataFileAt disks views at
+    → ReadsFile at fault most disks views new now → HasDataFileAt new now at
+data-stays at fault most disks new views now it reads = record {
+  has = record {
+    volumes = it.has.volumes;
+    mounted = reads.mounted it.has.volumes it.has.mounted;
+    volume = it.has.volume;
+    is = it.has.is;
+    file = it.has.file;
+    there = it.has.there;
+  };
+  not_directory = it.not_directory;
+}

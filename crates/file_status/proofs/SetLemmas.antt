@@ -3,7 +3,7 @@ use Rattle.std.proofs.Common.{◌≡◌, ℕ, ◌+◌, ◌%◌, ◌≤◌, ◌�
 use Rattle.std.specs.Prelude.{if◌then◌else◌}
 use Rattle.std.proofs.lemmas.Bool.{or_left}
 use Rattle.os9_base.specs.declared.call.CallEnd.{CallEnd}
-use Rattle.os9_base.specs.declared.errors.TheConstants.{E_FULL, E_FNA, E_BMODE}
+use Rattle.os9_base.specs.declared.errors.TheConstants.{E_FNA, E_BMODE}
 use Rattle.os9_base.specs.declared.registers.Regs.{Regs}
 use Rattle.os9_base.specs.declared.registers.TimePacket.{TimePacket}
 use Rattle.os9_outer.specs.TerminalState.{TerminalState}
@@ -17,8 +17,6 @@ use Rattle.rbf_model.specs.Volume.{DiskVolume}
 use Rattle.rbf_change.specs.Calls.{cluster_size, free_total}
 use Rattle.rbf_change.specs.Growth.{clusters_needed}
 use Rattle.rbf_change.specs.NewFiles.{owns_file}
-use Rattle.rbf_access.specs.Faults.{file_error}
-use Rattle.rbf_access.specs.declared.faults.FileFault.{FileFault}
 use Rattle.rbf_access.specs.declared.faults.FileFault.TheVariants.{Device, NoCluster, TooManyRuns}
 use Rattle.rbf_access.specs.declared.volume.Volume.{Volume}
 use Rattle.rbf_delete.specs.Attributes.{attribute_calls}
@@ -28,32 +26,34 @@ use Rattle.rbf_walk.specs.Walk.{directory_error}
 use Rattle.rbf_walk.specs.declared.error.DirError.{DirError}
 use Rattle.rbf_walk.specs.declared.error.DirError.TheVariants.{NotAllowed, BadPath, NotFound, Exists, File}
 use Rattle.file_rules.specs.Attempts.{asker_of}
-use Rattle.file_rules.specs.Change.{Change, sizes, sets_attributes}
+use Rattle.file_rules.specs.Change.{Change, sets_attributes}
 use Rattle.file_rules.specs.Files.{Files, OpenFile}
 use Rattle.file_rules.specs.Seek.{long_of}
-use Rattle.file_rules.specs.Status.{sets_attributes_of, sets_size}
+use Rattle.file_rules.specs.Locking.{is_for_update, request_now}
+use Rattle.file_rules.specs.Status.{locks_bytes, sets_attributes_of, sets_lock, sets_size, size_claim, sizes_locked}
 use Rattle.file_rules.specs.Step.{FileStep, comes, changes, leaves, reaches, refuses}
 use Rattle.io_rules.specs.Step.{answers}
-use Rattle.file_rules.specs.declared.places.FilePlace.{FilePlace}
-use Rattle.file_drives.specs.Calls.{sizing_calls as drive_calls}
-use Rattle.file_drives.specs.Changed.{ChangesVolume, file_answer, numbered}
+use Rattle.lock_model.specs.declared.place.FilePlace.{FilePlace}
+use Rattle.file_drives.specs.Changed.{ChangesVolume, numbered}
 use Rattle.file_drives.specs.Drives.{DriveView}
-use Rattle.file_state.proofs.CountLemmas.{called-more, has-changed-in}
-use Rattle.file_state.specs.Counted.{CalledAtMost, HasChangedIn}
-use Rattle.file_state.specs.Ends.{Ends}
+use Rattle.file_state.proofs.CountLemmas.{has-changed-in}
+use Rattle.file_state.specs.Counted.{HasChangedIn}
+use Rattle.file_state.proofs.RequestLemmas.{lacks-none}
+use Rattle.file_state.specs.Ends.{Ends, EndsOrLacks}
 use Rattle.file_state.specs.Tie.{StandsFor}
 use Rattle.file_state.specs.declared.state.FileState.{FileState}
 use Rattle.file_state.specs.declared.state.OpenFile.{OpenFile as KernelFile}
-use Rattle.file_status.proofs.GetLemmas.{passes, stops}
-use Rattle.file_status.proofs.StandLemmas.{change-broken, change-made, change-refused, change-too_long, with_disks}
-use Rattle.file_status.specs.Status.{IsOpen, sizing_calls, uncalled}
+use Rattle.file_status.proofs.GetLemmas.{stops}
+use Rattle.file_status.proofs.StandLemmas.{change-broken, change-made, change-refused, with_disks}
+use Rattle.file_status.specs.Status.{IsOpen, uncalled}
 
 -- nothing is less than nothing
 none-lacking : (free : ℕ) → nat_lt free 0 ≡ true → ⊥
 none-lacking free h = grind arith
 
 -- a file gains no more sectors of marks than clusters
-size-at-most : (v : DiskVolume) (file : DiskFile) (marks : ℕ) (sizing : Sizing) → size_calls v file marks sizing ≤ size_calls v file (clusters_needed (cluster_size v) file.segments sizing.size) sizing
+pub size-at-most : (v : DiskVolume) (file : DiskFile) (marks : ℕ) (sizing : Sizing) → size_calls v file marks sizing ≤
+    size_calls v file (clusters_needed (cluster_size v) file.segments sizing.size) sizing
 size-at-most v file marks sizing = by (nat_lt (length file.contents) sizing.size)
   where
     gained : ℕ
@@ -69,7 +69,7 @@ size-at-most v file marks sizing = by (nat_lt (length file.contents) sizing.size
     by true = omega (arith, fewer)
     by false = omega arith
 
-one-at-least : (v : DiskVolume) (file : DiskFile) (marks : ℕ) (sizing : Sizing) → 1 ≤ size_calls v file marks sizing
+pub one-at-least : (v : DiskVolume) (file : DiskFile) (marks : ℕ) (sizing : Sizing) → 1 ≤ size_calls v file marks sizing
 one-at-least v file marks sizing = by (nat_lt (length file.contents) sizing.size) (nat_lt sizing.size (length file.contents))
   where
     by : (longer shorter : Bool) → 1 ≤ (if longer then 1 + laying_calls v file marks sizing.size sizing.size else (if shorter then 2 + giving_calls v file sizing else 1))
@@ -83,104 +83,6 @@ module _ (m : Inner) (files : Files) (now : TimePacket) (p : ℕ) (end : CallEnd
     (open_is : IsOpen files opened it) (new_is : new ≡ uncalled (with_disks state disks) p) where
   abbrev place : FilePlace
   place = opened.place
-
-  -- ---- SS.Size
-
-  abbrev sizing : ℕ → Change
-  sizing size = sizes place.number size
-
-  abbrev needs_more : ℕ → Bool
-  needs_more size = nat_lt (free_total it.volume) (clusters_needed (cluster_size it.volume) it.file.segments size)
-
-  -- how often the drive is called for it
-  abbrev size_bound : ℕ → FilePlace → ℕ
-  size_bound size at = size_calls it.volume it.file (clusters_needed (cluster_size it.volume) it.file.segments size) (record { number = at.number; size = size; now = now })
-
-  abbrev size_deed : ℕ → FilePlace → FileStep
-  size_deed size at =
-      refuses (needs_more size) E_FULL
-      (comes (changes (record { drive = at.drive; change = sizes at.number size; effect = λ n. leaves (answers (regs_at m p)) files })))
-
-  -- by the size that the registers have
-  size-step : (size : ℕ) → size ≡ long_of (regs_at m p) → can_write opened.desc.mode ≡ true
-      → Ends (reaches place.drive (size_deed size place)) (size_bound size place) m files now p end processes new
-      before after terms → Ends (sets_size (asker_of m p now) files it) (sizing_calls (asker_of m p now) it
-      (long_of (regs_at m p))) m files now p end processes new before after terms
-  size-step size size_is may ends =
-      passes (sizing_calls (asker_of m p now) it (long_of (regs_at m p))) m files now p end processes new before after
-      terms (not (can_write it.opened.desc.mode)) E_BMODE
-      (reaches it.place.drive (size_deed (long_of (regs_at m p)) it.place))
-      (ap (λ (desc : Desc). not (can_write desc.mode)) open_is.desc_is ∙ ap not may)
-      (subst (λ (at : FilePlace). Ends (reaches at.drive (size_deed (long_of (regs_at m p)) at))
-      (size_bound (long_of (regs_at m p)) at) m files now p end processes new before after terms)
-      (sym open_is.place_is)
-      (subst (λ n. Ends (reaches place.drive (size_deed n place)) (size_bound n place) m files now p end processes new before after terms) size_is ends))
-
-  abbrev SizeChanges : ℕ → Result (Unit {0}) FileFault → Type 0
-  SizeChanges size result = (user : ℕ) → ChangesVolume place (record { change = sizing size; user = user; now = now })
-      (file_answer result) (drive_calls (record { number = place.number; size = size; now = now }) result) state.disks
-      before disks after
-
-  size-changed : (size : ℕ) (result : Result (Unit {0}) FileFault) → SizeChanges size result
-      → HasChangedIn (drive_calls (record { number = place.number; size = size; now = now }) result it.volume it.file)
-      (record { change = sizing size; user = user_at m p; now = now }) (file_answer result) place.drive it.volume
-      it.file files (with_disks state disks) before after
-  size-changed size result changed =
-      has-changed-in state (with_disks state disks) before after files place it.volume it.file
-      (record { change = sizing size; user = user_at m p; now = now }) (file_answer result)
-      (drive_calls (record { number = place.number; size = size; now = now }) result) stands open_is.volume_is
-      open_is.file_is refl refl (changed (user_at m p))
-
-  size-few : (size : ℕ) (result : Result (Unit {0}) FileFault) (left : DiskVolume)
-      → drive_calls (record { number = place.number; size = size; now = now }) result it.volume it.file left ≤
-      size_bound size place
-  size-few size (Ok done) left = size-at-most it.volume it.file _ (record { number = place.number; size = size; now = now })
-  size-few size (Err (Device number)) left = size-at-most it.volume it.file _ (record { number = place.number; size = size; now = now })
-  size-few size (Err NoCluster) left = one-at-least it.volume it.file _ (record { number = place.number; size = size; now = now })
-  size-few size (Err TooManyRuns) left = one-at-least it.volume it.file _ (record { number = place.number; size = size; now = now })
-
-  size-called : (size : ℕ) (result : Result (Unit {0}) FileFault) → SizeChanges size result → CalledAtMost (size_bound size place) before after
-  size-called size result changed =
-      let it = size-changed size result changed in
-      called-more _ (size_bound size place) before after (size-few size result it.changed.left) it.calls
-
-  pub size-set : (regs : Regs) (size : ℕ) → regs ≡ regs_at m p → size ≡ long_of (regs_at m p)
-      → can_write opened.desc.mode ≡ true → SizeChanges size (Ok tt) → end ≡ CallEnd.Done → Represents processes
-      (with_regs_of m p regs) → Ends (sets_size (asker_of m p now) files it) (sizing_calls (asker_of m p now) it
-      (long_of (regs_at m p))) m files now p end processes new before after terms
-  size-set regs size same size_is may changed is_end tied =
-      let made = size-changed size (Ok tt) changed in
-      size-step size size_is may
-      (change-made (size_bound size place) m files now p end processes (with_disks state disks) new before after terms
-      place.drive it.volume open_is.volume_is new_is (size-called size (Ok tt) changed) (sizing size) it.file
-      open_is.file_is (regs_at m p) (needs_more size) E_FULL
-      0 made.changed.answers.enough made.changed is_end (subst (λ (r : Regs). Represents processes (with_regs_of m p r)) same tied))
-
-  pub size-failed : (size : ℕ) (fault : FileFault) → size ≡ long_of (regs_at m p) → can_write opened.desc.mode ≡ true
-      → SizeChanges size (Err fault) → end ≡ CallEnd.Error (file_error fault) → Represents processes m
-      → Ends (sets_size (asker_of m p now) files it) (sizing_calls (asker_of m p now) it (long_of (regs_at m p))) m
-      files now p end processes new before after terms
-  size-failed size (Device number) size_is may changed is_end tied =
-      let broken = size-changed size (Err (Device number)) changed in
-      size-step size size_is may
-      (change-broken (size_bound size place) m files now p end processes (with_disks state disks) new before after
-      terms place.drive it.volume open_is.volume_is new_is (size-called size (Err (Device number)) changed)
-      (sizing size) it.file open_is.file_is (regs_at m p) (needs_more size) E_FULL
-      number stands.drives (λ full. or_left (needs_more size) false full) broken.changed is_end tied)
-  size-failed size NoCluster size_is may changed is_end tied =
-      let full = size-changed size (Err NoCluster) changed in
-      size-step size size_is may
-      (change-refused (size_bound size place) m files now p end processes (with_disks state disks) new before after
-      terms place.drive it.volume open_is.volume_is new_is (size-called size (Err NoCluster) changed)
-      (sizing size) it.file open_is.file_is (regs_at m p) (needs_more size) E_FULL
-      (Err (File NoCluster)) full.changed.answers.few full.changed tt full.changed.answers.same full.changed.moved is_end tied)
-  size-failed size TooManyRuns size_is may changed is_end tied =
-      let long = size-changed size (Err TooManyRuns) changed in
-      size-step size size_is may
-      (change-too_long (size_bound size place) m files now p end processes (with_disks state disks) new before after
-      terms place.drive it.volume open_is.volume_is new_is (size-called size (Err TooManyRuns) changed)
-      (sizing size) it.file open_is.file_is (regs_at m p) (needs_more size) E_FULL
-      long.changed.answers.enough refl long.changed is_end tied)
 
   -- ---- SS.Attr
 
@@ -227,7 +129,7 @@ module _ (m : Inner) (files : Files) (now : TimePacket) (p : ℕ) (end : CallEnd
   attributes-changed regs user result who changed =
       has-changed-in state (with_disks state disks) before after files place it.volume it.file
       (record { change = attributing regs; user = user_at m p; now = now }) (numbered result)
-      (λ v file left. attribute_calls file (user_at m p)) stands open_is.volume_is open_is.file_is refl refl
+      (λ v file left. attribute_calls file (user_at m p)) stands open_is.volume_is open_is.file_is refl refl refl
       (subst (λ u. AttributesChange regs u result) who changed)
 
   pub attributes-set : (regs : Regs) (user : ℕ) → regs ≡ regs_at m p → user ≡ user_at m p → AttributesChange regs user
@@ -268,16 +170,28 @@ module _ (m : Inner) (files : Files) (now : TimePacket) (p : ℕ) (end : CallEnd
   attributes-failed regs user (File TooManyRuns) same who changed is_end tied =
       absurd (⊎_elim (λ e. let e : false ≡ true = e in cc) (λ it. it) (attributes-changed regs user (Err (File TooManyRuns)) who changed).changed.answers.full)
 
--- a path that may not be written
-pub size-stopped : (m : Inner) (files : Files) (now : TimePacket) (p : ℕ) (end : CallEnd) (processes : ProcState)
+-- ---- a path whose mode allows it not
+
+module _ (m : Inner) (files : Files) (now : TimePacket) (p : ℕ) (end : CallEnd) (processes : ProcState)
     (state new : FileState) (views : List DriveView) (terms : List TerminalState) (opened : KernelFile)
-    (it : OpenFile) → StandsFor state views files → IsOpen files opened it → new ≡ uncalled state p
-    → not (can_write opened.desc.mode) ≡ true → end ≡ CallEnd.Error E_BMODE → Represents processes m
-    → Ends (sets_size (asker_of m p now) files it) (sizing_calls (asker_of m p now) it (long_of (regs_at m p))) m
-    files now p end processes new views views terms
-size-stopped m files now p end processes state new views terms opened it stands open_is new_is closed is_end tied =
-    stops (sizing_calls (asker_of m p now) it (long_of (regs_at m p))) m files now p end processes new views terms state (not (can_write it.opened.desc.mode)) E_BMODE
-    (reaches it.place.drive
-    (refuses (nat_lt (free_total it.volume) (clusters_needed (cluster_size it.volume) it.file.segments (long_of (regs_at m p)))) E_FULL
-    (comes (changes (record { drive = it.place.drive; change = sizes it.place.number (long_of (regs_at m p)); effect = λ n. leaves (answers (regs_at m p)) files })))))
-    (ap (λ (desc : Desc). not (can_write desc.mode)) open_is.desc_is ∙ closed) is_end tied stands new_is
+    (it : OpenFile) (most : ℕ) (stands : StandsFor state views files) (open_is : IsOpen files opened it)
+    (new_is : new ≡ uncalled state p) (end_is : end ≡ CallEnd.Error E_BMODE) (tied : Represents processes m) where
+  abbrev size_next : FileStep
+  size_next =
+      reaches it.place.drive
+      (sizes_locked (asker_of m p now) files it (long_of (regs_at m p)) (request_now (asker_of m p now) files it (size_claim it (long_of (regs_at m p)))))
+
+  pub size-stopped : not (can_write opened.desc.mode) ≡ true → EndsOrLacks (sets_size (asker_of m p now) files it) most m files now p end processes new views views terms
+  size-stopped closed =
+      lacks-none (sets_size (asker_of m p now) files it) most m files now p end processes new views views terms
+      (stops most m files now p end processes new views terms state (not (can_write it.opened.desc.mode)) E_BMODE size_next
+      (ap (λ (desc : Desc). not (can_write desc.mode)) open_is.desc_is ∙ closed) end_is tied stands new_is)
+
+  abbrev lock_next : FileStep
+  lock_next = locks_bytes (asker_of m p now) files it (long_of (regs_at m p))
+
+  pub lock-stopped : not (is_for_update opened.desc.mode) ≡ true → EndsOrLacks (sets_lock (asker_of m p now) files it) most m files now p end processes new views views terms
+  lock-stopped closed =
+      lacks-none (sets_lock (asker_of m p now) files it) most m files now p end processes new views views terms
+      (stops most m files now p end processes new views terms state (not (is_for_update it.opened.desc.mode)) E_BMODE lock_next
+      (ap (λ (desc : Desc). not (is_for_update desc.mode)) open_is.desc_is ∙ closed) end_is tied stands new_is)

@@ -18,7 +18,7 @@ use Rattle.rbf_access.specs.declared.faults.FileFault.TheVariants.{Device, TooMa
 use Rattle.rbf_access.specs.declared.volume.Volume.{Volume}
 use Rattle.rbf_walk.specs.declared.error.DirError.{DirError}
 use Rattle.rbf_walk.specs.declared.error.DirError.TheVariants.{File}
-use Rattle.file_rules.specs.Attempts.{asker_of, files_after, io_effect}
+use Rattle.file_rules.specs.Attempts.{asker_of, files_kept, io_effect}
 use Rattle.file_rules.specs.Change.{Change}
 use Rattle.file_rules.specs.Files.{Asker, DriveState, Files, NoneFailed, volume_at, with_drives, with_io, with_volume}
 use Rattle.file_rules.specs.Step.{FileEffect, FileStep, MayBeLeft, VolumeChange, reaches, comes, changes, leaves_so, leaves, stores, refuses, refuses_so, deed_of, with_drives_after, with_volume_after}
@@ -44,6 +44,7 @@ pub stands-uncalled : (state : FileState) (views : List DriveView) (files : File
 stands-uncalled state views files p stands = record {
   io = ap (λ io. with_call io p None) stands.io;
   directories = stands.directories;
+  records = stands.records;
   drives = stands.drives;
   mounted = stands.mounted;
 }
@@ -64,7 +65,7 @@ module _ (step : FileStep) (most : ℕ) (m : Inner) (files : Files) (now : TimeP
         bytes;
     files = files;
   } in deed_of step files ≡ leaves_so it → Comes m p (result_of m p (io_effect it)) end
-      processes → StandsFor new views (files_after p it) → Ends step most m files now p end processes new views views
+      processes → StandsFor new views (files_kept p it) → Ends step most m files now p end processes new views views
       terms
   ends-leaving by at bytes deed came stands =
       let it : FileEffect = record { end = by; at = at; bytes = bytes; files = files } in
@@ -72,7 +73,7 @@ module _ (step : FileStep) (most : ℕ) (m : Inner) (files : Files) (now : TimeP
         effect = it;
         does = goes-well step (asker_of m p now) files it files.drives terms deed refl;
         comes = came;
-        stands = stands;
+        stands = inl stands;
         calls = called-more 0 (calls_of step most) views views (omega arith) (called-none views);
         drives = keeps-same step (asker_of m p now) files end views (subst (λ d. MayKeepAll d end) (sym deed) tt);
       }
@@ -137,7 +138,7 @@ module _ (most : ℕ) (m : Inner) (files : Files) (now : TimePacket) (p : ℕ) (
       effect = with_drives_after (stores at bytes regs files) drives;
       does = goes-well (reaches drive inner) asker files (stores at bytes regs files) drives terms deed read.moved;
       comes = (is_end, tied);
-      stands = left-uncalled (with_drives files drives) read.stands;
+      stands = inl (left-uncalled (with_drives files drives) read.stands);
       calls = called;
       drives = keeps-reading inner (stores at bytes regs files) None deed read;
     }
@@ -150,7 +151,7 @@ module _ (most : ℕ) (m : Inner) (files : Files) (now : TimePacket) (p : ℕ) (
       effect = with_drives_after (refuses_so number files) drives;
       does = goes-well (reaches drive inner) asker files (refuses_so number files) drives terms deed read.moved;
       comes = (is_end, tied);
-      stands = left-uncalled (with_drives files drives) read.stands;
+      stands = inl (left-uncalled (with_drives files drives) read.stands);
       calls = called;
       drives = keeps-reading inner (refuses_so number files) None deed read;
     }
@@ -164,8 +165,8 @@ module _ (most : ℕ) (m : Inner) (files : Files) (now : TimePacket) (p : ℕ) (
       does = breaks-nothing (reaches drive inner) asker files it drive number v drives terms refl deed is read.moved;
       comes = (is_end, tied);
       stands =
-          subst (λ (f : Files). StandsFor new after (with_io (with_drives f drives) (with_call f.io p None))) (sym (same-volume files drive v is))
-          (left-uncalled (with_drives files drives) read.stands);
+          inl (subst (λ (f : Files). StandsFor new after (with_io (with_drives f drives) (with_call f.io p None))) (sym (same-volume files drive v is))
+          (left-uncalled (with_drives files drives) read.stands));
       calls = called;
       drives = keeps-reading inner it (Some number) deed read;
     }
@@ -207,7 +208,7 @@ module _ (most : ℕ) (m : Inner) (files : Files) (now : TimePacket) (p : ℕ) (
         effect = with_drives_after (with_volume_after (leaves (answers regs) files) drive it.left) drives;
         does = is-made step asker files deed v it.left file n drives terms (goes-on allowed) is it.answers it.moved;
         comes = (is_end, tied);
-        stands = left-uncalled (with_drives (with_volume files drive it.left) drives) it.stands;
+        stands = inl (left-uncalled (with_drives (with_volume files drive it.left) drives) it.stands);
         calls = called;
         drives = keeps-as CallEnd.Done is_end (keeps-made step asker files deed v file mid before after refl (goes-on allowed) is there n it);
       }
@@ -220,7 +221,7 @@ module _ (most : ℕ) (m : Inner) (files : Files) (now : TimePacket) (p : ℕ) (
         effect = with_drives_after (refuses_so number files) drives;
         does = goes-well step asker files (refuses_so number files) drives terms (ap (λ t. deed_of (change_step t) files) forbidden) none;
         comes = (is_end, tied);
-        stands = left-same it.left same it.stands;
+        stands = inl (left-same it.left same it.stands);
         calls = called;
         drives = keeps-all answer number it (inl refused) is_end;
       }
@@ -233,7 +234,7 @@ module _ (most : ℕ) (m : Inner) (files : Files) (now : TimePacket) (p : ℕ) (
         effect = with_drives_after (refuses_so E_SLF files) drives;
         does = is-too-long step asker files deed v it.left file drives terms (goes-on allowed) is list it.answers it.moved;
         comes = (is_end, tied);
-        stands = left-same it.left it.answers.same it.stands;
+        stands = inl (left-same it.left it.answers.same it.stands);
         calls = called;
         drives = keeps-all (Err (File TooManyRuns)) E_SLF it (inl tt) is_end;
       }
@@ -246,7 +247,7 @@ module _ (most : ℕ) (m : Inner) (files : Files) (now : TimePacket) (p : ℕ) (
         effect = refuses_so fault (with_drives (with_volume files drive it.left) drives);
         does = breaks step asker files drive fault v it.left drives terms refl is (may_be test refusal) it.moved;
         comes = (is_end, tied);
-        stands = left-uncalled (with_drives (with_volume files drive it.left) drives) it.stands;
+        stands = inl (left-uncalled (with_drives (with_volume files drive it.left) drives) it.stands);
         calls = called;
         drives = keeps test refl;
       }

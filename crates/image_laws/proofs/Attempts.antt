@@ -29,8 +29,12 @@ module _ (call : PathCall) (asker : Asker) (files : Files) (terms : ℕ) where
   deed-keeps : (reached : Option ℕ) (deed : Deed) (it : FileEffect) (before after : List TerminalState)
       → Splits call asker files terms reached deed → DoesDeed deed asker files it before after → Keep files.volumes
       it.files.volumes
-  deed-keeps reached (leaves_so effect) it before after left (is, same) =
+  deed-keeps reached (leaves_so effect) it before after (inl left) (is, same) =
       keep-same files.volumes it.files.volumes (ap volumes_in is ∙ left.volumes)
+  deed-keeps reached (leaves_so effect) it before after (inr (inl device)) (is, same) =
+      keep-same files.volumes it.files.volumes (ap volumes_in is ∙ ap volumes_in device.same)
+  deed-keeps reached (leaves_so effect) it before after (inr (inr waiting)) (is, same) =
+      keep-same files.volumes it.files.volumes (ap volumes_in is ∙ ap volumes_in waiting.same)
   deed-keeps reached (as_io step) it before after splits (io, does, is) =
       keep-same files.volumes it.files.volumes (ap volumes_in is)
   deed-keeps reached (changes one) it before after answers (inl changed, same) =
@@ -59,7 +63,7 @@ module _ (call : PathCall) (asker : Asker) (files : Files) (terms : ℕ) where
     does-keeps splits (inl well) = well-keeps splits well
     does-keeps splits (inr (broken, same)) = broken-keeps broken
 
-path-keeps : (call : PathCall) (inner : Inner) (files : Files) (now : TimePacket) (p : ℕ) (result : CallResult)
+pub path-keeps : (call : PathCall) (inner : Inner) (files : Files) (now : TimePacket) (p : ℕ) (result : CallResult)
     (new : Files) (before after : List TerminalState) → FileAttempts call inner files now p result new before after
     → Keep files.volumes new.volumes
 path-keeps call inner files now p result new before after it =

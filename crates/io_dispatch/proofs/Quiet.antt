@@ -1,5 +1,5 @@
 -- Calls that move no byte: none of them waits, and none wants memory.
-use Rattle.std.proofs.Common.{◌≡◌, ℕ, true, false, Option, Some, None, is_some, IfSome, option_and_then, List, refl, sym, ◌∙◌, ap, subst}
+use Rattle.std.proofs.Common.{◌≡◌, ◌≢◌, ◌⊎◌, ℕ, true, false, Option, Some, None, is_some, IsSome, IfSome, option_and_then, List, inl, inr, refl, sym, ◌∙◌, ap, subst}
 use Rattle.os9_base.specs.declared.call.CallEnd.{CallEnd}
 use Rattle.os9_base.specs.declared.call.CallEnd.TheVariants.{Done, Error, Wait, Ended, NoMemory}
 use Rattle.os9_base.specs.declared.registers.Regs.{Regs}
@@ -9,26 +9,46 @@ use Rattle.call_rules.specs.CallResult as Result
 use Rattle.call_rules.specs.Inner.{Inner}
 use Rattle.io_model.specs.declared.kept.Kept.{Kept}
 use Rattle.io_rules.specs.Again.{IsAgain, IsKept}
-use Rattle.io_rules.specs.Codes.{io_call_of, direction_of_call}
+use Rattle.io_rules.specs.Codes.{direction_of, io_call_of, direction_of_call}
 use Rattle.io_rules.specs.Io.{Io, kept_at}
 use Rattle.io_rules.specs.declared.io_call.IoCall.{IoCall}
+use Rattle.io_rules.specs.declared.io_call.IoCall.TheVariants as Call
 use Rattle.io_state.specs.Attempt.{Attempts}
-use Rattle.io_state.specs.Sound.{IsIo}
+use Rattle.io_state.specs.Sound.{IsIo, SetsStatus}
 use Rattle.proc_state.specs.Tie.{Comes}
 use Rattle.proc_state.specs.declared.state.ProcState.{ProcState}
 use Rattle.io_rules.specs.Attempts.{caller_of, step_of}
 use Rattle.io_rules.specs.Memory.{WantsMemory}
 
--- a call that waits moves bytes, so a call that moves none is at its first attempt
-pub is-first : (call : IoCall) (regs : Regs) (io : Io) (p : ℕ) → direction_of_call call ≡ None → IsIo io → IsAgain call regs io p → kept_at io p ≡ None
-is-first call regs io p quiet sound again = by (kept_at io p) refl again
+-- a call that waits moves bytes or sets a status, so another one is at its first attempt
+pub is-first : (call : IoCall) (regs : Regs) (io : Io) (p : ℕ) → direction_of_call call ≡ None → call ≢ Call.SetStt → IsIo io → IsAgain call regs io p → kept_at io p ≡ None
+is-first call regs io p quiet other sound again = by (kept_at io p) refl again
   where
+    waits : (kept : Kept) → io_call_of kept.code ≡ Some call → IsSome (direction_of kept.code) ⊎ SetsStatus io.paths kept → ⊥
+    waits kept coded (inl moves) =
+        let none : option_and_then direction_of_call (io_call_of kept.code) ≡ None = ap (option_and_then direction_of_call) coded ∙ quiet in
+        let e : false ≡ true = ap is_some (sym none) ∙ moves in cc
+    waits kept coded (inr it) =
+        let e : Some call ≡ Some Call.SetStt = sym coded ∙ it.sets in
+        other cc
+
     by : (kept : Option Kept) → kept_at io p ≡ kept → IfSome kept (IsKept call regs io p) → kept ≡ None
     by None is again = refl
-    by (Some kept) is again =
-        let moves = (sound.waits.calls p kept is).moves in
-        let none : option_and_then direction_of_call (io_call_of kept.code) ≡ None = ap (option_and_then direction_of_call) again.code ∙ quiet in
-        absurd (let e : false ≡ true = ap is_some (sym none) ∙ moves in cc)
+    by (Some kept) is again = absurd (waits kept again.code (sound.waits.calls p kept is).moves)
+
+-- so is one that sets a status, if none of them waits on a terminal or a pipe
+pub is_first_if : (call : IoCall) (regs : Regs) (io : Io) (p : ℕ) → direction_of_call call ≡ None → (call ≡ Call.SetStt → kept_at io p ≡ None) → IsIo io → IsAgain call regs io p → kept_at io p ≡ None
+is_first_if Call.Dup regs io p quiet status sound again = is-first Call.Dup regs io p quiet (λ same. cc) sound again
+is_first_if Call.Create regs io p quiet status sound again = is-first Call.Create regs io p quiet (λ same. cc) sound again
+is_first_if Call.Open regs io p quiet status sound again = is-first Call.Open regs io p quiet (λ same. cc) sound again
+is_first_if Call.Close regs io p quiet status sound again = is-first Call.Close regs io p quiet (λ same. cc) sound again
+is_first_if Call.Read regs io p quiet status sound again = is-first Call.Read regs io p quiet (λ same. cc) sound again
+is_first_if Call.ReadLn regs io p quiet status sound again = is-first Call.ReadLn regs io p quiet (λ same. cc) sound again
+is_first_if Call.Write regs io p quiet status sound again = is-first Call.Write regs io p quiet (λ same. cc) sound again
+is_first_if Call.WritLn regs io p quiet status sound again = is-first Call.WritLn regs io p quiet (λ same. cc) sound again
+is_first_if Call.GetStt regs io p quiet status sound again = is-first Call.GetStt regs io p quiet (λ same. cc) sound again
+is_first_if Call.SetStt regs io p quiet status sound again = status refl
+is_first_if Call.PErr regs io p quiet status sound again = is-first Call.PErr regs io p quiet (λ same. cc) sound again
 
 -- an attempt comes to something else than want of memory
 no-memory : (m : Inner) (p : ℕ) (result : CallResult) (processes : ProcState) → Comes m p result NoMemory processes → ⊥

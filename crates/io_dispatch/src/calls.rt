@@ -1,8 +1,9 @@
 //! The calls on paths by their names.
 
-ghost use Rattle.std.specs.Prelude.{◌≡◌, vec_len};
+ghost use Rattle.std.specs.Prelude.{◌≡◌, None, vec_len};
 ghost use Rattle.proc_rules.specs.Records.{IsLiving};
 ghost use Rattle.io_dispatch.specs.Staying.{MayAttempt};
+ghost use Rattle.io_rules.specs.Io.{kept_at};
 ghost use Rattle.device_io.specs.Streams.{streams};
 ghost use Rattle.device_io.specs.Trying.{AttemptsFrom, WantsMemoryFrom};
 
@@ -27,6 +28,7 @@ use proc_state::state::ProcState;
 /// # Errors
 ///
 /// Those of the calls, in the order of their definitions.
+#[tactic(auto, using(crate::proofs::Quiet::is_first_if))]
 pub fn attempt(
     s: &mut ProcState,
     io: &mut IoState,
@@ -36,6 +38,7 @@ pub fn attempt(
 ) -> CallEnd
     requires lives { IsLiving s.old.table p.0 }
     requires may { MayAttempt call s.old io.old p.0 (vec_len devices.old.terms) }
+    requires status { call ≡ IoCall.SetStt → kept_at io.old p.0 ≡ None }
     ensures call { AttemptsFrom call (vec_len devices.old.drives) p.0 result s.old s.new
         (streams ⟦<dyn CharDriver as CharDriver>⟧ io.old devices.old.terms.items)
         (streams ⟦<dyn CharDriver as CharDriver>⟧ io.new devices.new.terms.items) }
@@ -46,7 +49,7 @@ pub fn attempt(
     ensures drives { devices.new.drives ≡ devices.old.drives }
     ensures count { vec_len devices.new.terms ≡ vec_len devices.old.terms }
 {
-    // A call that moves no byte is in its first attempt.
+    // A call that moves no byte is at its first attempt; SS.Size and SS.Lock wait on files alone.
     prove!(io.kept(p).is_none() || call.direction().is_some());
     match call {
         IoCall::Dup => i_dup(s, io, p),

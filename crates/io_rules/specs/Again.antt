@@ -15,10 +15,12 @@ abbrev pub path_number : IoCall → Regs → ℕ
 path_number Call.PErr regs = STANDARD_ERROR
 path_number call regs = regs.a
 
--- the kept count of a call is the count that it asks for; for a line write, the count that its first attempt found
+-- the count that is kept of a call is the one that it asks for; that of a line write is what its first attempt found. A
+-- call that sets a status counts as one byte
 abbrev pub KeepsCount : IoCall → Regs → ℕ → Type 0
 KeepsCount Call.WritLn regs count = count ≤ regs.y
 KeepsCount Call.PErr regs count = count ≡ length (error_line regs.b)
+KeepsCount Call.SetStt regs count = count ≡ 1
 KeepsCount call regs count = count ≡ regs.y
 
 -- the kept call of a process is this call

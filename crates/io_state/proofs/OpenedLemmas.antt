@@ -1,5 +1,5 @@
 -- Calls on a path that a process has open: that it may wait in them, and may read a terminal by them.
-use Rattle.std.proofs.Common.{◌≡◌, ◌<◌, ◌∙◌, ℕ, Option, Some, None, IsSome, IfSome, option_map, option_and_then, unwrap_or, sym, ap, refl, subst}
+use Rattle.std.proofs.Common.{◌≡◌, ◌<◌, ◌∙◌, ℕ, Option, Some, None, IsSome, IfSome, option_map, option_and_then, unwrap_or, inl, sym, ap, refl, subst}
 use Rattle.os9_base.specs.declared.registers.Regs.{Regs}
 use Rattle.io_model.specs.Path.{slot_of, desc_of}
 use Rattle.io_model.specs.declared.kept.Kept.{Kept}
@@ -50,7 +50,7 @@ pub may-wait : (io : Io) (p n : ℕ) (opened : OpenPath) (code moved count : ℕ
     → IsSome (direction_of code) → moved < count → ((m : ℕ) → opened.desc.target ≡ Term m → direction_of code ≡ Some
     Way.Reading) → MayWait io.paths p (record { code = code; path = opened.path; moved = moved; count = count })
 may-wait io p n opened code moved count e moves left reads = record {
-  moves = moves;
+  moves = inl moves;
   left = left;
   held = slot-held io.paths p n opened.path (opened-slot io p n opened e).0;
   reads = λ m on. reads m (some-same opened.desc.target (Term m) (sym (opened-target io p n opened e) ∙ on));

@@ -250,6 +250,14 @@ is-there io s (Folder drive sector) e are = tt
 is-there io s (Term terminal) e are = are.terminals s terminal e
 is-there io s (Pipe pipe) e are = are.pipes s pipe e
 
+-- a path that is there is one of the table
+pub path-low : (paths : PathTable) (s : ℕ) (desc : Desc) → desc_of paths s ≡ Some desc → ArePaths paths → s < 65
+path-low paths s desc is are =
+    elim (cases_lt s (length paths.descs)) [
+      | inl within ↦ omega (arith, within, are.places)
+      | inr past ↦ absurd (none-some desc (sym (get_or_past paths.descs s None past) ∙ is))
+    ]
+
 -- the first place that has nothing
 first-free : (pipes : List (Option (List ℕ))) → get_or pipes (position_or_len is_none pipes) None ≡ None
 first-free [] = refl

@@ -27,7 +27,7 @@ use Rattle.io_rules.specs.declared.io_call.IoCall.{IoCall}
 use Rattle.io_rules.specs.declared.io_call.IoCall.TheVariants as Call
 use Rattle.terminal_mgr.specs.Term.{read_of}
 use Rattle.io_state.proofs.HeldLemmas.{IsHeldStill, begun-still, doubled-still, closed-still, inherited-still, held-there}
-use Rattle.io_state.specs.Sound.{AreWaits, MayWait, IsReadOf, IsWaitedFor, IsNoRead, read_kind, read_kind_of, most_of}
+use Rattle.io_state.specs.Sound.{AreWaits, MayWait, SetsStatus, IsReadOf, IsWaitedFor, IsNoRead, read_kind, read_kind_of, most_of, target_at}
 use Rattle.io_state.specs.Terminals.{MayRead, count_of, kept_after}
 
 abbrev nothing : {X : Type 0} → Option X
@@ -41,6 +41,14 @@ some-same x y e = cc
 
 -- ---- paths and pipes
 
+-- a call on a path that is on the same moves bytes, or sets a status of it
+moves-still : {old : PathTable} (paths : PathTable) (call : Kept) → target_at paths call.path.0 ≡ target_at old
+    call.path.0 → IsSome (direction_of call.code) ⊎ SetsStatus old call → IsSome (direction_of call.code) ⊎ SetsStatus
+    paths call
+moves-still paths call same (inl moves) = inl moves
+moves-still paths call same (inr it) =
+    inr (record { sets = it.sets; target = it.target; on = same ∙ it.on; on_disk = it.on_disk })
+
 -- each call that waits has its path still
 pub waits-with_paths : (io : Io) (paths : PathTable) → ((p : ℕ) (call : Kept) → kept_at io p ≡ Some call
     → holds_path io.paths p call.path.0 ≡ true → IsHeldStill io.paths paths p call.path.0) → AreWaits io
@@ -49,7 +57,7 @@ waits-with_paths io paths still are = record {
   calls = λ p call kept.
       let was = are.calls p call kept in
       let now = still p call kept was.held in
-      record { moves = was.moves; left = was.left; held = now.0; reads = λ n on. was.reads n (sym now.1 ∙ on) };
+      record { moves = moves-still paths call now.1 was.moves; left = was.left; held = now.0; reads = λ n on. was.reads n (sym now.1 ∙ on) };
   reads = λ n reading is.
       let was = are.reads n reading is in
       let now = still reading.process.0 was.call was.kept (are.calls reading.process.0 was.call was.kept).held in

@@ -1,5 +1,5 @@
 -- The invariant of the state of input and output.
-use Rattle.std.specs.Prelude.{◌≡◌, ℕ, ◌<◌, min, true, ⊤, Option, Some, None, IsSome, List, option_map, option_and_then, length}
+use Rattle.std.specs.Prelude.{◌≡◌, ◌⊎◌, ℕ, ◌<◌, min, true, ⊤, Option, Some, None, IsSome, List, option_map, option_and_then, length}
 use Rattle.std.specs.Option.{option_map_or}
 use Rattle.io_model.specs.Kept.{kept_of}
 use Rattle.io_model.specs.Path.{PathTable, ArePaths, desc_of, holds_path, new_number, paths_after_begin}
@@ -16,6 +16,7 @@ use Rattle.io_rules.specs.Io.{Io, kept_at, terminal_at, new_desc, with_paths, wi
 use Rattle.io_rules.specs.declared.io_call.Direction.TheVariants as Way
 use Rattle.io_rules.specs.declared.io_call.IoCall.{IoCall}
 use Rattle.io_rules.specs.declared.io_call.IoCall.TheVariants as Call
+use Rattle.io_state.specs.Files.{IsOnDisk}
 
 -- the target of a system path, if the path exists
 abbrev pub target_at : PathTable → ℕ → Option Target
@@ -51,10 +52,17 @@ read_kind code = option_and_then read_kind_of (io_call_of code)
 abbrev pub most_of : Kept → ℕ
 most_of call = min call.count TYPE_AHEAD
 
--- a process may wait in this call: it moves bytes, not all of them were moved, the process holds its path, and on a
--- terminal it reads
+-- a call sets a status, and its path is on a file or a directory
+pub record SetsStatus (paths : PathTable) (call : Kept) : Type 0 where
+  pub sets : io_call_of call.code ≡ Some Call.SetStt
+  pub target : Target
+  pub on : target_at paths call.path.0 ≡ Some target
+  pub on_disk : IsOnDisk target
+
+-- a process may wait in this call: it moves bytes or sets the status of a file, not all of it was done, the process
+-- holds its path, and on a terminal it reads
 pub record MayWait (paths : PathTable) (p : ℕ) (call : Kept) : Type 0 where
-  pub moves : IsSome (direction_of call.code)
+  pub moves : IsSome (direction_of call.code) ⊎ SetsStatus paths call
   pub left : call.moved < call.count
   pub held : holds_path paths p call.path.0 ≡ true
   pub reads : (n : ℕ) → target_at paths call.path.0 ≡ Some (Term n) → direction_of call.code ≡ Some Way.Reading

@@ -1,6 +1,6 @@
 //! Paths on files and directories of drives.
 
-ghost use Rattle.std.specs.Prelude.{◌≡◌, ◌<◌, ◌&&◌, true, Some, IfSome, IsSome};
+ghost use Rattle.std.specs.Prelude.{◌≡◌, ◌<◌, ◌&&◌, true, Some, IfSome, IsSome, is_some};
 ghost use Rattle.std.specs.Result.{result_ok};
 ghost use Rattle.io_model.specs.Path.{desc_of, new_number, paths_after_begin, with_desc};
 ghost use Rattle.io_rules.specs.Io.{new_desc as new_desc_lem, with_paths};
@@ -48,6 +48,26 @@ impl IoState {
         self.paths.set_desc(path, desc);
     }
 
+    /// Sets how many ticks the requests of a path wait for a record (SS.Ticks).
+    pub fn set_ticks(&mut self, path: SysPath, ticks: u16)
+        requires { IsSome (desc_of self.old.paths path.0) }
+        ensures { IfSome (desc_of self.old.paths path.0) (λ desc. self.new ≡ with_paths self.old
+            (with_desc self.old.paths path.0 (Some (record desc { ticks = ticks })))) }
+    {
+        let desc = with_ticks(self.paths.desc(path), ticks);
+        self.paths.set_desc(path, desc);
+    }
+
+    /// Is this system path there?
+    pub fn is_there(&self, path: SysPath) -> bool
+        ensures { result ≡ is_some (desc_of self.now.paths path.0) }
+    {
+        match self.paths.descs().get(path.0 as usize) {
+            Some(desc) => desc.is_some(),
+            None => false,
+        }
+    }
+
     /// Is some path on the file or directory of this number of a drive?
     pub fn is_on_path(&self, drive: u8, number: u32) -> bool
         ensures { result ≡ some_path_on self.now drive number (λ desc. true) }
@@ -76,6 +96,13 @@ fn moved_to(desc: Desc, at: u32) -> Desc
     ensures { result ≡ record desc { at = at } }
 {
     Desc { at, ..desc }
+}
+
+/// A path's descriptor with another number of ticks.
+fn with_ticks(desc: Desc, ticks: u16) -> Desc
+    ensures { result ≡ record desc { ticks = ticks } }
+{
+    Desc { ticks, ..desc }
 }
 
 /// Is a path on the file or directory of this number of a drive?

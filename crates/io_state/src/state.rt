@@ -71,6 +71,7 @@ impl IoState {
         ensures path { option_map (λ found. record { path = found.0; desc = found.1 }) result
             ≡ open_path_lem self.now p.0 n }
         ensures there { IfSome result (λ found. IsThere self.now found.1.target) }
+        ensures low { IfSome result (λ found. found.0.0 < 65) }
     {
         let path = self.paths.slot(p, n)?;
         let desc = self.paths.desc(path);

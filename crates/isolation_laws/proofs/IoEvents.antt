@@ -14,7 +14,7 @@ use Rattle.call_rules.specs.Delivery.{delivered}
 use Rattle.call_rules.specs.Inner.{Inner, regs_at}
 use Rattle.call_rules.specs.Ready.{Act, attempts, delivers, executes, act_of}
 use Rattle.call_rules.specs.declared.proc_call.ProcCall.TheVariants as Call
-use Rattle.io_model.specs.Path.{PathTable, desc_of, free_number, free_path, inherited_numbers, numbers_of, paths_after_begin, paths_after_inherit, slot_of, with_path}
+use Rattle.io_model.specs.Path.{PathTable, desc_of, free_number, free_path, inherited_numbers, numbers_of, paths_after_begin, paths_after_inherit, slot_of, with_desc, with_path}
 use Rattle.io_model.specs.Terminal.{Terminal, new_terminal, used_by, without_reading}
 use Rattle.io_model.specs.declared.path.Desc.{Desc}
 use Rattle.io_model.specs.declared.path.SysPath.{SysPath}
@@ -26,7 +26,7 @@ use Rattle.io_rules.specs.Waiting.{pid}
 use Rattle.io_rules.specs.declared.io_call.Direction.TheVariants.{Writing}
 use Rattle.io_rules.specs.declared.io_call.IoCall.{IoCall}
 use Rattle.file_rules.specs.Attempts.{asker_of}
-use Rattle.file_rules.specs.Files.{Asker, Files, open_file}
+use Rattle.file_rules.specs.Files.{Asker, Files, OpenFile, open_file}
 use Rattle.file_rules.specs.declared.path_call.PathCall.{PathCall}
 use Rattle.file_rules.specs.declared.path_call.PathCall.TheVariants as OnPath
 use Rattle.event_rules.specs.Event.{next_instruction}
@@ -39,9 +39,10 @@ use Rattle.call_laws.specs.PathOthers.{LeavesPaths}
 use Rattle.call_laws.proofs.IoKept.{EffectLeft, FailsOn}
 use Rattle.call_laws.proofs.OthersLeft.{attempt-leaves, effect-left, left-leaves}
 use Rattle.call_laws.proofs.OthersKept.{free-is, living-record}
-use Rattle.call_laws.proofs.PathsKept.{IoLeft, PathsLeft, io-ended, io-interrupted, io-same, left-numbers}
+use Rattle.call_laws.proofs.PathsKept.{IoLeft, PathsLeft, io-call, io-ended, io-interrupted, io-same, left-numbers}
 use Rattle.touch_laws.specs.Devices.{IsOnDevice, number_in}
-use Rattle.touch_laws.specs.Touch.{IsSamePath, KeepsIo, LeavesDevices, MovesPosition, PathsMove}
+use Rattle.touch_laws.specs.Touch.{ChangesPath, IsSamePath, KeepsIo, LeavesDevices, PathsMove, WaitsForRecord}
+use Rattle.file_rules.specs.Locking.{call_of}
 use Rattle.touch_laws.proofs.Attempts.{attempt-comes}
 use Rattle.touch_laws.proofs.Codes.{code-there}
 use Rattle.touch_laws.proofs.Keeps.{IsNamed, file-named, free-desc, io-kept}
@@ -111,31 +112,37 @@ module _ (s : State) (p : ℕ) (call : PathCall) (attempted : AttemptsService s 
   DescComes paths opened = (desc_of paths opened.path.0 ≡ Some opened.desc) ⊎ MovesPath s p opened
 
   module _ (opened : OpenPath) (was : desc_of s.files.io.paths opened.path.0 ≡ Some opened.desc) where
-    desc-moved : (paths : PathTable) → MovesPosition call asker s.files paths → DescComes paths opened
-    desc-moved paths moved = by_path (cases_eq opened.path.0 moved.found.opened.path.0)
+    -- the path that its number names gets another descriptor
+    desc-changed : (paths : PathTable) (found : OpenFile) (new : Desc) → ChangesPath call asker → open_file s.files p
+        (number_in call asker) ≡ Some found → paths ≡ with_desc s.files.io.paths found.opened.path.0 (Some new)
+        → DescComes paths opened
+    desc-changed paths found new changes named is = by_path (cases_eq opened.path.0 found.opened.path.0)
       where
-        there : IsNamed s.files p (number_in call asker) moved.found
-        there = file-named s.files p (number_in call asker) moved.found moved.named
+        there : IsNamed s.files p (number_in call asker) found
+        there = file-named s.files p (number_in call asker) found named
 
-        by_path : (opened.path.0 ≡ moved.found.opened.path.0) ⊎ (opened.path.0 ≢ moved.found.opened.path.0) → DescComes paths opened
+        by_path : (opened.path.0 ≡ found.opened.path.0) ⊎ (opened.path.0 ≢ found.opened.path.0) → DescComes paths opened
         by_path (inl same) =
-            let path : moved.found.opened.path ≡ opened.path = λ i. record { 0 = sym same i } in
-            let desc : moved.found.opened.desc ≡ opened.desc = same_Some moved.found.opened.desc opened.desc (sym there.desc ∙ ap (desc_of s.files.io.paths) (sym same) ∙ was) in
+            let path : found.opened.path ≡ opened.path = λ i. record { 0 = sym same i } in
+            let desc : found.opened.desc ≡ opened.desc = same_Some found.opened.desc opened.desc (sym there.desc ∙ ap (desc_of s.files.io.paths) (sym same) ∙ was) in
             inr (record {
               call = call;
               attempted = attempted;
-              moves = moved.moves;
-              found = moved.found;
-              named = ap (open_file s.files p) (number-same call s.inner p s.clock.from now) ∙ moved.named;
+              moves = changes;
+              found = found;
+              named = ap (open_file s.files p) (number-same call s.inner p s.clock.from now) ∙ named;
               same = λ i. record { path = path i; desc = desc i };
             })
         by_path (inr differ) =
-            inl (ap (λ (paths : PathTable). desc_of paths opened.path.0) moved.is ∙ get_or-set_other s.files.io.paths.descs moved.found.opened.path.0 opened.path.0 _ None differ ∙ was)
+            inl (ap (λ (paths : PathTable). desc_of paths opened.path.0) is ∙ get_or-set_other s.files.io.paths.descs found.opened.path.0 opened.path.0 (Some new) None differ ∙ was)
 
     desc-comes : (paths : PathTable) → PathsMove call asker s.files paths → DescComes paths opened
     desc-comes paths (inl same) = inl (ap (λ (paths : PathTable). desc_of paths opened.path.0) same ∙ was)
-    desc-comes paths (inr (inl moved)) = desc-moved paths moved
-    desc-comes paths (inr (inr begins)) =
+    desc-comes paths (inr (inl moved)) =
+        desc-changed paths moved.found (record moved.found.opened.desc { at = moved.at }) (inl moved.moves) moved.named moved.is
+    desc-comes paths (inr (inr (inl set))) =
+        desc-changed paths set.found (record set.found.opened.desc { ticks = asker.caller.regs.x }) (inr set.sets) set.named set.is
+    desc-comes paths (inr (inr (inr begins))) =
         inl (ap (λ (paths : PathTable). desc_of paths opened.path.0) begins.is ∙ begun-desc s.files.io.paths p _ opened.path.0 opened.desc was)
 
   -- where input and output stay but for paths on files
@@ -300,11 +307,15 @@ module _ (s : State) (p code : ℕ) (next : act_of s.inner p ≡ attempts code) 
   serves-io (on_paths call) result serves asked (it, same) =
       by_device (attempt-comes call s.inner s.files now p result rest.files s.terms rest.terms it)
     where
-      by_device : IsOnDevice call s.inner s.files p result rest.files s.terms rest.terms ⊎ LeavesDevices call s.inner s.files now p result rest.files s.terms rest.terms → LeavesIo s p then
+      by_device : IsOnDevice call s.inner s.files p result rest.files s.terms rest.terms ⊎ LeavesDevices call s.inner
+          s.files now p result rest.files s.terms rest.terms ⊎ WaitsForRecord call s.inner s.files now p result
+          rest.files s.terms rest.terms → LeavesIo s p then
       by_device (inl on) =
           device-leaves s p code on.device next (code-there code call asked ∙ on.device_is) (length s.files.drives) result then on.attempted
-      by_device (inr none) =
+      by_device (inr (inl none)) =
           leaves-by-kept s p call (code, next, serves) now then none.paths (io-kept s.inner s.files p result rest.files s.terms rest.terms none)
+      by_device (inr (inr waiting)) =
+          leaves-by s p then (subst (IoLeft p s.files.io) (sym waiting.io) (io-call p s.files.io (Some (call_of waiting.request))))
   serves-io no_call result serves asked (result_is, is) = leaves-same s p then (ap (λ (rest : Rest). rest.files.io) is)
 
 -- ---- each event

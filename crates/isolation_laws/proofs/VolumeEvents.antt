@@ -39,7 +39,7 @@ use Rattle.event_rules.specs.declared.ends.EventEnd.{EventEnd}
 use Rattle.call_laws.specs.Others.{AttemptsCall}
 use Rattle.call_laws.proofs.ForkedChildren.{NamesChild}
 use Rattle.touch_laws.specs.Devices.{IsOnDevice}
-use Rattle.touch_laws.specs.Touch.{FaultAnswers, LeavesDevices, LeavesFiles, NoVolumeChanges, OneDriveFails, OneVolumeChanges, may_change_volume}
+use Rattle.touch_laws.specs.Touch.{FaultAnswers, LeavesDevices, LeavesFiles, NoVolumeChanges, OneDriveFails, OneVolumeChanges, WaitsForRecord, may_change_volume}
 use Rattle.touch_laws.proofs.Attempts.{attempt-comes}
 use Rattle.touch_laws.proofs.Loads.{chain-leaves, fork-leaves, load-leaves}
 use Rattle.machine_model.specs.Event.{Acts, Event, before_delivery, files_after_delivery, files_after_instruction}
@@ -257,10 +257,14 @@ module _ (s : State) (p code : ℕ) (next : act_of s.inner p ≡ attempts code) 
   serves-volumes (on_paths call) result rest serves asked (it, same) =
       by_device (attempt-comes call s.inner s.files now p result rest.files s.terms rest.terms it)
     where
-      by_device : IsOnDevice call s.inner s.files p result rest.files s.terms rest.terms ⊎ LeavesDevices call s.inner s.files now p result rest.files s.terms rest.terms → LeavesVolumes s p (then rest)
+      by_device : IsOnDevice call s.inner s.files p result rest.files s.terms rest.terms ⊎ LeavesDevices call s.inner
+          s.files now p result rest.files s.terms rest.terms ⊎ WaitsForRecord call s.inner s.files now p result
+          rest.files s.terms rest.terms → LeavesVolumes s p (then rest)
       by_device (inl on) =
           leaves-by s p (then rest) (stay-lists p s.files rest.files on.volumes on.directories) (inl on.none_failed) (inl same)
-      by_device (inr none) = record {
+      by_device (inr (inr waiting)) =
+          leaves-by s p (then rest) (stay-lists p s.files rest.files waiting.volumes waiting.directories) (inl waiting.none_failed) (inl same)
+      by_device (inr (inl none)) = record {
         volumes = volumes-come call serves rest result none.still none.volumes;
         drives = path-drives call serves rest result none.volumes;
         directories = λ q differ. inl (none.directories q differ);

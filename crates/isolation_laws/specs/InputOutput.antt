@@ -19,7 +19,7 @@ use Rattle.file_rules.specs.declared.path_call.PathCall.{PathCall}
 use Rattle.call_laws.specs.Terminals.{KeepsReading}
 use Rattle.call_laws.specs.Others.{AttemptsCall}
 use Rattle.touch_laws.specs.Devices.{IsDevice, number_in}
-use Rattle.touch_laws.specs.Touch.{IsSamePath, moves_position}
+use Rattle.touch_laws.specs.Touch.{ChangesPath, IsSamePath}
 use Rattle.isolation_laws.specs.Drives.{AttemptsService}
 use Rattle.machine_model.specs.Services.{on_paths}
 use Rattle.machine_model.specs.State.{State}
@@ -39,17 +39,19 @@ pub record FailsInWrite (s : State) (p n : ℕ) (t : State) : Type 0 where
 abbrev pub number_of_call : State → ℕ → PathCall → ℕ
 number_of_call s p call = number_in call (asker_of s.inner p s.clock.from)
 
--- a process attempts a call that moves the position of a path on a file, by the number of this path
+-- a process attempts a call that moves the position of the path on a file which its number names, or sets its ticks:
+-- this path
 pub record MovesPath (s : State) (p : ℕ) (opened : OpenPath) : Type 0 where
   pub call : PathCall
   pub attempted : AttemptsService s p (on_paths call)
-  pub moves : moves_position call ≡ true
+  pub moves : ChangesPath call (asker_of s.inner p s.clock.from)
   pub found : OpenFile
   pub named : open_file s.files p (number_of_call s p call) ≡ Some found
   pub same : found.opened ≡ opened
 
--- a path of another process stays: the same path, opened on the same file or device with the same mode. Only its
--- position on a file may change, by a call on the same path, which F$Fork and I$Dup give to several numbers
+-- a path of another process stays: the same path, opened on the same file or device with the same mode. Nothing of it
+-- changes but its position on a file and its ticks, by a call on the same path, which F$Fork and I$Dup give to several
+-- numbers
 pub record StaysOpen (s : State) (p : ℕ) (t : State) (q n : ℕ) (opened : OpenPath) : Type 0 where
   pub now : OpenPath
   pub is : open_path t.files.io q n ≡ Some now

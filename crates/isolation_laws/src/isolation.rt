@@ -30,11 +30,11 @@ pub fn an_event_leaves_what_it_does_not_name()
 
 /// Of input and output every other process keeps its path numbers, the paths that they name, and
 /// its pending call; F$Fork gives a child the standard paths and the directories of its parent. The
-/// position of a path on a file moves only by a call of a process on the same path. A terminal
-/// keeps the unfinished read of another process, unless a write to it fails. The volume of at most
-/// one drive changes, by a call that changes volumes and reaches that drive. No drive fails but the
-/// one that the process reaches in an attempt of its call, so none in an instruction. Only F$STime
-/// sets the clock.
+/// position and the ticks of a path on a file change only by a call of a process on the same path.
+/// A terminal keeps the unfinished read of another process, unless a write to it fails. The volume
+/// of at most one drive changes, by a call that changes volumes and reaches that drive. No drive
+/// fails but the one that the process reaches in an attempt of its call, so none in an instruction.
+/// Only F$STime sets the clock.
 pub fn an_event_leaves_the_input_and_output_of_the_others()
     ensures io { (s t : State) (end : EventEnd) (p : ℕ) → s.chosen ≡ Some p → Event s end t
         → LeavesIo s p t }

@@ -80,10 +80,11 @@ module _ (step : Step ProgramFile) (most : ℕ) (m : Inner) (next : ProgramFile 
 
 -- ---- what stays of the files
 
--- paths, terminals and pipes stay, and so do directories
+-- paths, terminals and pipes stay, and so do directories and records
 pub record KeepsPaths (old new : FileState) : Type 0 where
   pub io : new.io ≡ old.io
   pub directories : new.directories ≡ old.directories
+  pub records : new.records ≡ old.records
 
 paths-kept : (step : Step ProgramFile) (most : ℕ) (was : Files) (buffer : List ℕ) (old new : FileState)
     (views before after : List DriveView) (result : Result ProgramRead ℕ) → StandsFor old views was
@@ -91,6 +92,7 @@ paths-kept : (step : Step ProgramFile) (most : ℕ) (was : Files) (buffer : List
 paths-kept step most was buffer old new views before after result stands read = record {
   io = sym read.stands.io ∙ ap (λ (files : Files). files.io) read.reads.state ∙ stands.io;
   directories = sym read.stands.directories ∙ ap (λ (files : Files). files.directories) read.reads.state ∙ stands.directories;
+  records = sym read.stands.records ∙ ap (λ (files : Files). files.records) read.reads.state ∙ stands.records;
 }
 
 -- the processes are those of some machine

@@ -11,7 +11,7 @@ use Rattle.file_rules.specs.Files.{Files, file_in, with_drives}
 use Rattle.file_rules.specs.ProgramFile.{ProgramFile, reading_of}
 use Rattle.file_rules.specs.Step.{Step, drive_of}
 use Rattle.file_rules.specs.Way.{Found}
-use Rattle.file_rules.specs.declared.places.FilePlace.{FilePlace}
+use Rattle.lock_model.specs.declared.place.FilePlace.{FilePlace}
 use Rattle.file_drives.specs.Drives.{DriveView, drive_states, media_of}
 use Rattle.file_drives.specs.Mounted.{ReadsFile}
 use Rattle.file_state.proofs.CountLemmas.{called-more, called-none, called-read, called-then}
@@ -136,10 +136,10 @@ module _ (user next : ℕ) (was : Files) (found : Found) (place : FilePlace) (st
       reads-well step most was (Err number) (Err number) buffer state start views views place.drive
       (ap (λ (size : Result ℕ ℕ). reading_of (program_by found next size)) (sym is)) first refl (only-none step most views)
 
-  module _ (new : FileState) (now : List DriveView) (io : new.io ≡ state.io) (directories : new.directories ≡ state.directories) where
+  module _ (new : FileState) (now : List DriveView) (io : new.io ≡ state.io) (directories : new.directories ≡ state.directories) (records : new.records ≡ state.records) where
     read-here : (fault : Option ℕ) (most : DiskVolume → DiskFile → ℕ) → ReadsFile place fault most state.disks views new.disks now → HasRead fault place.drive before new views now
     read-here fault most read =
-        has-read state new views now before place found.file fault most first.stands there io directories read
+        has-read state new views now before place found.file fault most first.stands there io directories records read
 
     read-on : (fault : Option ℕ) (most : DiskVolume → DiskFile → ℕ) → ReadsFile place fault most state.disks views new.disks now → HasRead fault place.drive was new start now
     read-on fault most read =

@@ -17,7 +17,7 @@ use Rattle.file_rules.specs.Files.{Asker, DriveState, Files, file_in, volume_at}
 use Rattle.file_rules.specs.ProgramFile.{ProgramFile, program_file, program_found, program_on_way, reading_of}
 use Rattle.file_rules.specs.Step.{Step, refused, comes, reaches, drive_of, needs}
 use Rattle.file_rules.specs.Way.{Way, along, to_device, nowhere, Found, list_of, reads_list, walk_ends, way_of}
-use Rattle.file_rules.specs.declared.places.FilePlace.{FilePlace}
+use Rattle.lock_model.specs.declared.place.FilePlace.{FilePlace}
 use Rattle.file_drives.specs.Drives.{DriveView, drive_state}
 use Rattle.file_drives.specs.Mounted.{HasFileAt}
 use Rattle.file_state.proofs.CountLemmas.{called-more, called-read}
@@ -138,7 +138,7 @@ pub record Arrives (asker : Asker) (files : Files) (list : PathList) (from place
 module _ (asker : Asker) (process : Pid) (user : ℕ) (files : Files) (list : PathList) (from : FilePlace)
     (state new : FileState) (views now : List DriveView) (same : asker.user ≡ user) (stands : StandsFor state views
     files) (has : HasFileAt state.disks views from) (io : new.io ≡ state.io) (directories : new.directories ≡
-    state.directories) where
+    state.directories) (records : new.records ≡ state.records) where
   abbrev walker : Walker
   walker = record { process = process; user = user; execute = true }
 
@@ -170,7 +170,7 @@ module _ (asker : Asker) (process : Pid) (user : ℕ) (files : Files) (list : Pa
 
   module _ (arrived : Result FilePlace DirError) (it : Walks walker from list.names arrived state.disks views new.disks now) where
     read : HasRead (directory_fault arrived) from.drive files new views now
-    read = has-read state new views now files from has.file (directory_fault arrived) (λ v file. walk_calls v.files user true from.number list.names) stands there io directories it.drive
+    read = has-read state new views now files from has.file (directory_fault arrived) (λ v file. walk_calls v.files user true from.number list.names) stands there io directories records it.drive
 
     comes-to : WalkComes walker files from list.names arrived
     comes-to = walk-comes walker files from list.names state.disks views new.disks now has stands.mounted arrived it

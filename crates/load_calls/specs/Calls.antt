@@ -11,7 +11,7 @@ use Rattle.rbf_walk.specs.Walk.{calls_on, walk_calls}
 use Rattle.file_rules.specs.Files.{Asker, Files, volume_at}
 use Rattle.file_rules.specs.ProgramFile.{program_file}
 use Rattle.file_rules.specs.Way.{Found, Way, along, to_device, nowhere, list_of, way_of}
-use Rattle.file_rules.specs.declared.places.FilePlace.{FilePlace}
+use Rattle.lock_model.specs.declared.place.FilePlace.{FilePlace}
 use Rattle.file_state.specs.Counted.{calls_of}
 use Rattle.file_routes.specs.Ways.{refuses_by}
 use Rattle.load_calls.specs.Found.{program_size}

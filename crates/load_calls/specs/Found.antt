@@ -10,7 +10,7 @@ use Rattle.file_rules.specs.ProgramFile.{ProgramFile}
 use Rattle.file_rules.specs.Sharing.{is_not_shared}
 use Rattle.file_rules.specs.Step.{Step, refused, comes, reaches}
 use Rattle.file_rules.specs.Way.{Found}
-use Rattle.file_rules.specs.declared.places.FilePlace.{FilePlace}
+use Rattle.lock_model.specs.declared.place.FilePlace.{FilePlace}
 
 -- the file at a place
 pub record IsFoundAt (files : Files) (place : FilePlace) (found : Found) : Type 0 where

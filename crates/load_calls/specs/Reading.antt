@@ -10,7 +10,7 @@ use Rattle.file_rules.specs.Files.{Asker, Files}
 use Rattle.file_rules.specs.ProgramFile.{ProgramFile, ReadsProgram, program_on_way}
 use Rattle.file_rules.specs.Step.{Step, drive_of}
 use Rattle.file_rules.specs.Way.{Found, along}
-use Rattle.file_rules.specs.declared.places.FilePlace.{FilePlace}
+use Rattle.lock_model.specs.declared.place.FilePlace.{FilePlace}
 use Rattle.file_drives.specs.Drives.{DriveView, media_of}
 use Rattle.file_state.specs.Attempt.{Standing}
 use Rattle.file_state.specs.Counted.{CalledAtMost}

@@ -57,6 +57,7 @@ pub fn f_fork(s: &mut ProcState, files: &mut FileState, p: Pid, devices: &mut De
     ensures terms_kept { devices.new.terms ≡ devices.old.terms }
     ensures io { files.new.io ≡ files.old.io }
     ensures directories { files.new.directories ≡ files.old.directories }
+    ensures records { files.new.records ≡ files.old.records }
 {
     if names_program(s, p) {
         return fork_named(s, p);

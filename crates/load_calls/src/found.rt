@@ -17,10 +17,10 @@ ghost use Rattle.rbf_model.specs.File.{DiskFile};
 
 use device_table::devices::Devices;
 use file_drives::disks::Disks;
-use file_rules::places::FilePlace;
 use file_rules::status::DIRECTORY;
 use file_state::state::FileState;
 use io_rules::modes::MODE_EXECUTE;
+use lock_model::place::FilePlace;
 use os9_base::errors::{E_FNA, E_MEMFUL, E_SHARE};
 use os9_base::limits::MOST_GROUP_BYTES;
 use os9_outer::drive::BlockDriver;

@@ -54,6 +54,7 @@ pub fn f_load(s: &mut ProcState, files: &mut FileState, p: Pid, devices: &mut De
     ensures terms_kept { devices.new.terms ≡ devices.old.terms }
     ensures io { files.new.io ≡ files.old.io }
     ensures directories { files.new.directories ≡ files.old.directories }
+    ensures records { files.new.records ≡ files.old.records }
 {
     match read_program(s, files, devices, p, None) {
         Err(number) => CallEnd::Error(number),

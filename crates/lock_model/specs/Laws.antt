@@ -1,5 +1,5 @@
 -- What holds of locks and requests at all times (Level Two manual, RBF record locking).
-use Rattle.std.specs.Prelude.{◌≡◌, ℕ, ◌<◌, ◌≤◌, false, Some, None, length}
+use Rattle.std.specs.Prelude.{◌≡◌, ℕ, ◌+◌, ◌<◌, ◌≤◌, false, Some, None, length}
 use Rattle.lock_model.specs.declared.lock.Held.{Held}
 use Rattle.lock_model.specs.declared.lock.Range.{Range}
 use Rattle.lock_model.specs.declared.lock.Request.{Request}
@@ -12,6 +12,10 @@ use Rattle.lock_model.specs.Waits.{Waits}
 pub record IsIn (byte : ℕ) (range : Range) : Type 0 where
   pub from : range.start ≤ byte
   pub to : (end : ℕ) → range.end ≡ Some end → byte < end
+
+-- a range has so many bytes from its start on
+abbrev pub Covers : Range → ℕ → Type 0
+Covers range count = (last : ℕ) → range.end ≡ Some last → range.start + count ≤ last
 
 -- processes have ranks, and each waits for processes of lower rank alone; so no process waits for itself
 pub record HasRanks (locks : Locks) : Type 0 where

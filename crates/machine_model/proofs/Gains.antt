@@ -14,7 +14,7 @@ use Rattle.file_rules.specs.declared.path_call.PathCall.{PathCall}
 use Rattle.file_rules.specs.Attempts.{asker_of}
 use Rattle.file_rules.specs.Files.{Files}
 use Rattle.touch_laws.specs.Devices.{IsOnDevice}
-use Rattle.touch_laws.specs.Touch.{LeavesDevices, LeavesFiles}
+use Rattle.touch_laws.specs.Touch.{LeavesDevices, LeavesFiles, WaitsForRecord}
 use Rattle.touch_laws.proofs.Attempts.{attempt-comes}
 use Rattle.touch_laws.proofs.Loads.{chain-leaves, fork-leaves, load-leaves}
 use Rattle.event_rules.specs.declared.ends.EventEnd.{EventEnd}
@@ -87,15 +87,20 @@ module _ (s : State) (now : TimePacket) (p : ℕ) (result : CallResult) (rest : 
       others-gain after (subst (DrivesOnlyGain s.files.drives) (sym same) (loads-gain s.files result files left.drives)) is
 
   path-gains : (call : PathCall) → IsOnDevice call s.inner s.files p result rest.files s.terms rest.terms ⊎
-      LeavesDevices call s.inner s.files now p result rest.files s.terms rest.terms → RestGains s rest
+      LeavesDevices call s.inner s.files now p result rest.files s.terms rest.terms ⊎ WaitsForRecord call s.inner
+      s.files now p result rest.files s.terms rest.terms → RestGains s rest
   path-gains call (inl on) = record {
     terminals =
         gain-attempt on.device s.inner s.files.io rest.files.io (length s.files.drives) p result s.terms rest.terms on.attempted;
     drives = none-gains s.files.drives rest.files.drives on.none_failed;
   }
-  path-gains call (inr left) = record {
+  path-gains call (inr (inl left)) = record {
     terminals = subst (TerminalsOnlyGain s.terms) (sym left.terminals) (gain-same s.terms);
     drives = volumes-gain s.files result rest.files left.volumes;
+  }
+  path-gains call (inr (inr waiting)) = record {
+    terminals = subst (TerminalsOnlyGain s.terms) (sym waiting.terminals) (gain-same s.terms);
+    drives = none-gains s.files.drives rest.files.drives waiting.none_failed;
   }
 
   serves-gain : (service : Service) → Serves service s now p result rest → RestGains s rest

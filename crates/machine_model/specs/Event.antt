@@ -8,8 +8,9 @@ use Rattle.call_rules.specs.CallResult.{CallResult}
 use Rattle.call_rules.specs.Delivery.{delivered, after_delivery}
 use Rattle.call_rules.specs.Inner.{Inner}
 use Rattle.call_rules.specs.Ready.{Act, attempts, delivers, executes, act_of}
-use Rattle.io_rules.specs.Waiting.{io_interrupted, interrupted_count}
-use Rattle.file_rules.specs.Files.{Files, with_io}
+use Rattle.io_rules.specs.Waiting.{interrupted_count}
+use Rattle.file_rules.specs.Files.{Files}
+use Rattle.file_rules.specs.Locking.{files_interrupted}
 use Rattle.file_rules.specs.Processes.{files_ended}
 use Rattle.event_rules.specs.Event.{after_instruction, broken_off, call_event_end, cost_of, delivery_end, instruction_end, next_instruction}
 use Rattle.event_rules.specs.declared.ends.EventEnd.{EventEnd}
@@ -28,7 +29,7 @@ before_delivery s p = broken_off s.inner p (interrupted_count s.files.io p)
 
 -- files after a delivery: the pending call, if any, is broken off; or the process has ended
 abbrev pub files_after_delivery : Files → ℕ → Result Inner ℕ → Files
-files_after_delivery files p (Ok t) = with_io files (io_interrupted files.io p)
+files_after_delivery files p (Ok t) = files_interrupted files p
 files_after_delivery files p (Err status) = files_ended files p
 
 -- what a process does

@@ -7,8 +7,8 @@ use Rattle.io_model.specs.Terminal.{Terminal, Arrives}
 use Rattle.io_model.specs.declared.terminal.Arrival.{Arrival}
 use Rattle.io_rules.specs.Arrivals.{Desk, Arrivals, ArrivesFrom}
 use Rattle.io_rules.specs.Io.{terminal_at}
-use Rattle.io_rules.specs.Waiting.{io_may_go}
 use Rattle.file_rules.specs.Files.{with_io}
+use Rattle.file_rules.specs.Locking.{files_may_go}
 use Rattle.event_rules.specs.declared.ends.EventEnd.{EventEnd}
 use Rattle.event_rules.specs.declared.ends.SliceEnd.{SliceEnd}
 use Rattle.event_rules.specs.declared.ends.SliceEnd.TheVariants.{Idle, Ran}
@@ -41,13 +41,13 @@ pub record BreaksTick (s : State) (terms : List TerminalState) : Type 0 where
       (λ before now. Arrives (s.inner.tick + 1) (terminal_at desk.io count) terminal before now answer) count
       desk.terms terms
 
--- a Ready process is chosen, if there is one; input and output let pending calls go on
+-- a process that is Ready is chosen, if there is one; input and output and records let calls that wait go on
 abbrev pub Choose : State → State → Type 0
 Choose s t =
     t
     ≡ record s {
-      inner = after_choice (io_may_go s.files.io) s.inner;
-      chosen = option_map (λ (p : Pid). p.0) (choice_of (io_may_go s.files.io) s.inner).chosen;
+      inner = after_choice (files_may_go s.files s.inner.tick) s.inner;
+      chosen = option_map (λ (p : Pid). p.0) (choice_of (files_may_go s.files s.inner.tick) s.inner).chosen;
     }
 
 -- a slice goes on after an event with this end: the process neither waits nor has ended

@@ -1,5 +1,5 @@
 -- Slices of the machine that are worked through by hand, one event after another.
-use Rattle.std.specs.Prelude.{◌≡◌, ℕ, zero, suc, Option, Some, None, option_map, List, [], ◌∷◌, ◌++◌, length, map, replicate}
+use Rattle.std.specs.Prelude.{◌≡◌, ℕ, zero, suc, Bool, Option, Some, None, option_map, List, [], ◌∷◌, ◌++◌, length, map, replicate}
 use Rattle.std.specs.Option.{option_map_or}
 use Rattle.os9_base.specs.declared.calls.TheConstants.{F_ID, F_SLEEP, F_TIME, F_STIME}
 use Rattle.os9_base.specs.declared.errors.TheConstants.{E_UNKSVC}
@@ -17,7 +17,7 @@ use Rattle.call_rules.specs.Delivery.{delivered, after_delivery}
 use Rattle.call_rules.specs.Inner.{Inner, no_own, with_records, with_own}
 use Rattle.call_rules.specs.Ready.{Act, attempts, delivers, executes, act_of}
 use Rattle.call_rules.specs.Rows.{one_process, two_processes, running_with, next_tick}
-use Rattle.io_rules.specs.Waiting.{io_may_go}
+use Rattle.file_rules.specs.Locking.{files_may_go}
 use Rattle.file_rules.specs.Processes.{first_files}
 use Rattle.time_rules.specs.Attempts.{clock_after, result_of, time_step}
 use Rattle.time_rules.specs.Clock.{IsNow, first_clock}
@@ -85,11 +85,15 @@ acts_from now (suc n) s = next_of s ∷ acts_from now n (after_event now s)
 
 -- ---- slices
 
+-- the waiting call of a process may go on at the next tick
+abbrev pub may_go_next : State → ℕ → Bool
+may_go_next s = files_may_go s.files (next_tick s.inner).tick
+
 -- the state in which a slice begins: at the next tick, with its process chosen
 abbrev pub at_choice : State → State
 at_choice s = record s {
-  inner = after_choice (io_may_go s.files.io) (next_tick s.inner);
-  chosen = option_map (λ (p : Pid). p.0) (choice_of (io_may_go s.files.io) (next_tick s.inner)).chosen;
+  inner = after_choice (may_go_next s) (next_tick s.inner);
+  chosen = option_map (λ (p : Pid). p.0) (choice_of (may_go_next s) (next_tick s.inner)).chosen;
 }
 
 -- the state after a slice of this number of events, at whose tick the clock shows this time

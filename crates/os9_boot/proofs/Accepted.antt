@@ -26,6 +26,7 @@ use Rattle.command_files.specs.declared.status.Input.TheVariants.{Script}
 use Rattle.os9_boot.specs.Boots.{BootComesTo, RunsToEnd}
 use Rattle.command_files.specs.End.{status_number}
 use Rattle.os9_boot.specs.Headline.{BootIsOneRun, IsAccepted, IsOneRun}
+use Rattle.os9_boot.specs.History.{outputs_of}
 use Rattle.command_files.specs.Reading.{BreaksSlices}
 use Rattle.command_files.specs.Setup.{SetsUpBoot, script_of}
 use Rattle.os9_boot.specs.Commands.{CommandCall}
@@ -62,7 +63,7 @@ module _ (files : Files) (boot : RunWords) (before after : World) (accepted : Is
       refuses))
 
   one-run : (setup : Setup) (lives : Bool) → SetsUpBoot files boot (length before.devices.terms) setup
-      → (ran : RunsToEnd setup boot.files lives before after) → (status : ℕ) → status ≡ (if lives then 5 else 0)
+      → (ran : RunsToEnd setup (outputs_of boot) lives before after) → (status : ℕ) → status ≡ (if lives then 5 else 0)
       → IsOneRun files boot before after status
   one-run setup lives sets ran status is = record {
     setup = setup;
@@ -103,7 +104,7 @@ module _ (files : Files) (boot : RunWords) (before after : World) (accepted : Is
         let volume : IsVolume comes.1.image = volume-at number (images_of files boot.files) comes.1.image comes.1.is
         (subst (λ (images : List (List ℕ)). All IsVolume images) accepted.sets.images accepted.sets.volumes) in
         absurd (no_image_breach comes.1.image volume.0 volume.1 comes.1.broken.broken)
-    by-end CannotWriteFile call comes is = absurd call.may
+    by-end CannotWriteFile call comes is = absurd (kept call.host.2.0)
     by-end (Refused number) call comes is = absurd call.may
     by-end (BadSource line error) call comes is = absurd call.may
     by-end (TerminalFailed n) call comes is = absurd call.may

@@ -18,7 +18,7 @@ use Rattle.stress_run.specs.Stress.{LeavesStress, StressCall}
 use Rattle.stress_run.specs.declared.stress.StressEnd.{StressEnd}
 use Rattle.stress_run.specs.declared.stress.StressEnd.TheVariants as Stress
 use Rattle.command_files.specs.declared.status.End.{End}
-use Rattle.command_files.specs.declared.status.End.TheVariants.{Ended, Living, CannotRead, CannotWriteImage, NoMemory}
+use Rattle.command_files.specs.declared.status.End.TheVariants.{Ended, Living, CannotRead, CannotWriteFile, CannotWriteImage, NoMemory}
 use Rattle.command_files.specs.declared.status.Input.{Input}
 use Rattle.command_files.specs.Stops.{StopsAtRead}
 use Rattle.os9_words.specs.declared.asm_words.AsmWords.{AsmWords}
@@ -42,6 +42,7 @@ use Rattle.os9_boot.specs.Host.{FailsAsTold}
 use Rattle.command_files.specs.Left.{IsSilent}
 use Rattle.command_files.proofs.ChangeLemmas.{same-changes}
 use Rattle.os9_boot.specs.BootLeft.{BootLeavesFiles, LeavesDevices, StressMayEnd}
+use Rattle.os9_boot.specs.History.{output_names, outputs_of}
 use Rattle.os9_boot.specs.Meaning.{meaning}
 use Rattle.os9_boot.specs.TopCall.{CommandReport, GainsLine, LosesLine, Reports, TopCall, words_status}
 use Rattle.os9_boot.specs.FilesNoted.{NotesFiles}
@@ -90,11 +91,12 @@ boot-leaves : (names : List (List ℕ)) (before after : World) (end : End) → a
 boot-leaves names before after Ended same = same-changes names before.files after.files same
 boot-leaves names before after Living same = same-changes names before.files after.files same
 boot-leaves names before after (CannotWriteImage number) same = same-changes names before.files after.files same
+boot-leaves names before after CannotWriteFile same = same-changes names before.files after.files same
 boot-leaves names before after NoMemory same = same-changes names before.files after.files same
 boot-leaves names before after end same = same
 
 pub leaves-same : (command : Command) (before after : World) (end : End) → after.files ≡ before.files → (meaning command).files before after end
-leaves-same (BootCommand boot) before after end same = boot-leaves boot.files before after end same
+leaves-same (BootCommand boot) before after end same = boot-leaves (output_names (outputs_of boot)) before after end same
 leaves-same (RunCommand run) before after end same = same
 leaves-same (CheckCommand image) before after end same = same
 leaves-same (StressCommand seed) before after end same = same

@@ -5,6 +5,7 @@ use Rattle.os9_outer.specs.Host.{Files}
 use Rattle.script_text.specs.declared.script.ScriptKey.{ScriptKey}
 use Rattle.script_text.specs.Script.{keys_of}
 use Rattle.script_text.specs.Slices.{slices_of}
+use Rattle.lock_model.specs.declared.history.Entry.{Entry}
 use Rattle.os9_words.specs.declared.command.Command.TheVariants.{Boot as BootCommand}
 use Rattle.os9_words.specs.declared.command.RunWords.{RunWords}
 use Rattle.boot_images.specs.BootFile.{IsBootFile, IsVolume}
@@ -23,6 +24,7 @@ use Rattle.os9_boot.specs.BootLeft.{BootMayEnd, LeavesDevices}
 use Rattle.os9_boot.specs.Images.{RefusesImages}
 use Rattle.command_files.specs.Reading.{HasBootFiles, RefusesTexts}
 use Rattle.command_files.specs.Setup.{HaveTexts, SetsUpBoot}
+use Rattle.os9_boot.specs.History.{Outputs, output_bytes, outputs_of}
 use Rattle.os9_boot.specs.Written.{EndsBoot}
 use Rattle.os9_boot.proofs.BootCallLemmas.{kept-counts, out-of-memory, still-silent, unchanged}
 use Rattle.os9_boot.proofs.MachineLemmas.{EndsSo, RunFails, IsOfMachine, machine-ends}
@@ -30,7 +32,7 @@ use Rattle.os9_boot.proofs.MachineLemmas.{EndsSo, RunFails, IsOfMachine, machine
 -- ---- a machine that ran with images
 
 module _ (files : Files) (boot : RunWords) (setup : Setup) (before after : World) (sets : SetsUpBoot files boot (length before.devices.terms) setup) where
-  boot-comes : (end : End) → IsOfMachine end → EndsSo setup boot.files before after end → BootComesTo files boot before after end
+  boot-comes : (end : End) → IsOfMachine end → EndsSo setup (outputs_of boot) before after end → BootComesTo files boot before after end
   boot-comes (CannotRead input) of comes = tt
   boot-comes (BadText input line) of comes = absurd of
   boot-comes (BadImage number fault) of comes = absurd of
@@ -39,20 +41,20 @@ module _ (files : Files) (boot : RunWords) (setup : Setup) (before after : World
   boot-comes NoMemory of (inr comes) = inr (setup, sets, comes)
   boot-comes end of comes = (setup, sets, comes)
 
-boot-fails : (boot : RunWords) (before after : World) (end : End) → RunFails boot.files end before after → FailsAsTold (BootCommand boot) end before after
+boot-fails : (boot : RunWords) (before after : World) (end : End) → RunFails (outputs_of boot) end before after → FailsAsTold (BootCommand boot) end before after
 boot-fails boot before after (CannotRead input) failed = absurd failed
 boot-fails boot before after CannotWrite failed = failed
 boot-fails boot before after (CannotWriteImage number) failed = failed
-boot-fails boot before after CannotWriteFile failed = absurd failed
+boot-fails boot before after CannotWriteFile failed = failed
 boot-fails boot before after end kept = kept
 
-boot-may : (end : End) → IsOfMachine end → BootMayEnd end
-boot-may (BadText input line) of = absurd of
-boot-may CannotWriteFile of = absurd of
-boot-may (Refused number) of = absurd of
-boot-may (BadSource line error) of = absurd of
-boot-may (TerminalFailed n) of = absurd of
-boot-may end of = tt
+boot-may : (outputs : Outputs) (before after : World) (end : End) → IsOfMachine end → RunFails outputs end before after → BootMayEnd outputs end
+boot-may outputs before after (BadText input line) of failed = absurd of
+boot-may outputs before after CannotWriteFile of (name, named, failed) = rw named refl
+boot-may outputs before after (Refused number) of failed = absurd of
+boot-may outputs before after (BadSource line error) of failed = absurd of
+boot-may outputs before after (TerminalFailed n) of failed = absurd of
+boot-may outputs before after end of failed = tt
 
 -- ---- the files of the words were read
 
@@ -132,14 +134,15 @@ module _ (before : World) (boot : RunWords) (read : BootFiles) (has : IfSome bef
         file = is;
       }
 
-      pub boot-ended : length read.images ≡ length boot.files → (images : List (List ℕ)) (mid after : World)
-          (end : RunEnd) (answer : End) → RunsImages setup images before mid end → EndsBoot boot.files images end
-          answer mid after → CommandCall (BootCommand boot) before after answer
-      boot-ended many images mid after end answer run ends =
-          let it = machine-ends setup boot.files images before mid after end answer run ends in
+      pub boot-ended : length read.images ≡ length boot.files → (images : List (List ℕ)) (history : List Entry)
+          (mid after : World) (end : RunEnd) (answer : End) → RunsImages setup images history before mid end
+          → EndsBoot (outputs_of boot) (output_bytes (outputs_of boot) images history) end answer mid after
+          → CommandCall (BootCommand boot) before after answer
+      boot-ended many images history mid after end answer run ends =
+          let it = machine-ends setup (outputs_of boot) images history before mid after end answer run ends in
           record {
             comes = of-files (λ files. BootComesTo files boot before after answer) (λ files has. boot-comes files boot setup before after (sets-up files has) answer it.kind it.comes);
-            may = boot-may answer it.kind;
+            may = boot-may (outputs_of boot) before after answer it.kind it.host;
             devices = subst (λ k. LeavesDevices k before after answer) many it.devices;
             host = boot-fails boot before after answer it.host;
             files = it.files;

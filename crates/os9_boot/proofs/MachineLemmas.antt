@@ -1,6 +1,10 @@
 -- From the run of a machine, and what was written behind it, to what a command leaves.
-use Rattle.std.proofs.Common.{◌≡◌, ◌⊎◌, ℕ, Bool, true, false, Option, Some, None, List, [], length, ◌∷◌, refl, ap, subst, ◌∙◌, inl, inr, All, arith}
-use Rattle.std.specs.Prelude.{IsSome}
+use Rattle.std.proofs.Common.{◌≡◌, ◌≢◌, ◌⊎◌, ◌==◌, ℕ, zero, suc, Bool, true, false, Option, Some, None, List, [], length, ◌∷◌, ◌++◌, slice_get, refl, ap, subst, ◌∙◌, inl, inr, All, arith}
+use Rattle.std.specs.Prelude.{IsSome, if◌then◌else◌}
+use Rattle.std.specs.Option.{option_map_or}
+use Rattle.std.proofs.lemmas.Bool.{eq-eqb, eqb-true}
+use Rattle.std.proofs.lemmas.Option.{none-some}
+use Rattle.lock_model.specs.declared.history.Entry.{Entry}
 use Rattle.std.proofs.lemmas.List.Elements.{All-cons, All-head, All-tail}
 use Rattle.os9_outer.specs.Host.{Files, IfObserved}
 use Rattle.os9_outer.specs.TerminalState.{TerminalState}
@@ -14,26 +18,28 @@ use Rattle.boot_images.specs.Images.{WritesAll, WritesUpTo}
 use Rattle.boot_images.specs.Outcome.{EndsWithImages, HasOutcome, RunsImages, with_images_in}
 use Rattle.boot_run.specs.Console.{IsObserved}
 use Rattle.boot_run.specs.Machine.{IsUnrun, RunsFirst, Setup}
-use Rattle.boot_run.specs.World.{World, FailsToWrite, HasNoFault}
+use Rattle.boot_run.specs.World.{World, FailsToWrite, FailsToWriteFile, HasNoFault}
 use Rattle.boot_run.specs.declared.machine.RunEnd.{RunEnd}
 use Rattle.boot_run.specs.declared.machine.RunEnd.TheVariants as Run
 use Rattle.command_files.specs.declared.status.End.{End}
 use Rattle.command_files.specs.declared.status.End.TheVariants.{Ended, Living, CannotRead, CannotWrite, CannotWriteImage, NoMemory, BadImage, BadText, BadBounds, DriveFailed, CannotWriteFile, Refused, BadSource, TerminalFailed}
-use Rattle.os9_boot.specs.Boots.{IsUndone, MachineComesTo, RunsToEnd, RunsUnended, RunsUnwritten}
+use Rattle.os9_boot.specs.Boots.{IsUndone, MachineComesTo, RunsToEnd, RunsUnwritten}
 use Rattle.command_files.specs.Left.{ChangesOnly}
 use Rattle.os9_boot.specs.BootLeft.{BootLeavesFiles, LeavesDevices}
 use Rattle.command_files.specs.End.{boot_end}
-use Rattle.os9_boot.specs.Written.{EndsBoot, StopsAt, WritesBack, ends_run}
+use Rattle.os9_boot.specs.History.{Outputs, no_outputs, output_bytes, output_names}
+use Rattle.os9_boot.specs.Written.{EndsBoot, StopsAt, WritesBack, end_unwritten, ends_run}
 use Rattle.os9_boot.proofs.BootCallLemmas.{kept-counts, still-silent, still-undone}
 use Rattle.command_files.proofs.ChangeLemmas.{all-change, first-change, same-changes}
 
--- the host failed as the end of a machine's run says, whose images have these names
-abbrev pub RunFails : List (List ℕ) → End → World → World → Type 0
-RunFails names (CannotRead input) before after = ⊥
-RunFails names CannotWrite before after = FailsToWrite before after
-RunFails names (CannotWriteImage number) before after = FailsAt number names before after
-RunFails names CannotWriteFile before after = ⊥
-RunFails names end before after = HasNoFault before after
+-- the host failed as the end of a machine's run says, which writes these files
+abbrev pub RunFails : Outputs → End → World → World → Type 0
+RunFails outputs (CannotRead input) before after = ⊥
+RunFails outputs CannotWrite before after = FailsToWrite before after
+RunFails outputs (CannotWriteImage number) before after = FailsAt number outputs.images before after
+RunFails outputs CannotWriteFile before after =
+    (name : List ℕ) × (outputs.history ≡ Some name) × FailsToWriteFile name before after
+RunFails outputs end before after = HasNoFault before after
 
 -- the end is that of a machine, and not of what was read before
 abbrev pub IsOfMachine : End → Type 0
@@ -41,25 +47,24 @@ IsOfMachine (CannotRead input) = ⊥
 IsOfMachine (BadText input line) = ⊥
 IsOfMachine (BadImage number fault) = ⊥
 IsOfMachine BadBounds = ⊥
-IsOfMachine CannotWriteFile = ⊥
 IsOfMachine (Refused number) = ⊥
 IsOfMachine (BadSource line error) = ⊥
 IsOfMachine (TerminalFailed n) = ⊥
 IsOfMachine end = Unit {0}
 
 -- what comes of it; if memory is out nothing may have been run
-abbrev pub EndsSo : Setup → List (List ℕ) → World → World → End → Type 0
-EndsSo setup names before after NoMemory =
-    IsUndone before after ⊎ MachineComesTo setup names before after NoMemory
-EndsSo setup names before after end = MachineComesTo setup names before after end
+abbrev pub EndsSo : Setup → Outputs → World → World → End → Type 0
+EndsSo setup outputs before after NoMemory =
+    IsUndone before after ⊎ MachineComesTo setup outputs before after NoMemory
+EndsSo setup outputs before after end = MachineComesTo setup outputs before after end
 
--- a machine that was set up so has run, its images were written under these names, and the command ends so
-pub record MachineEnds (setup : Setup) (names : List (List ℕ)) (before after : World) (end : End) : Type 0 where
+-- a machine that was set up so has run, its images and its history were written, and the command ends so
+pub record MachineEnds (setup : Setup) (outputs : Outputs) (before after : World) (end : End) : Type 0 where
   pub kind : IsOfMachine end
-  pub comes : EndsSo setup names before after end
+  pub comes : EndsSo setup outputs before after end
   pub devices : LeavesDevices (length setup.images) before after end
-  pub host : RunFails names end before after
-  pub files : BootLeavesFiles names before after end
+  pub host : RunFails outputs end before after
+  pub files : BootLeavesFiles (output_names outputs) before after end
 
 -- the bytes of all terminals are observed, or not
 observed-or-not : (put : Option (List ℕ)) → IsSome put ⊎ (¬ IsSome put)
@@ -81,9 +86,21 @@ all-observed (terminal ∷ terms) =
 no-fault-then : (before mid after : World) → HasNoFault before mid → HasNoFault mid after → HasNoFault before after
 no-fault-then before mid after first second = (second.0 ∙ first.0, second.1 ∙ first.1, second.2 ∙ first.2)
 
-fails-then : (number : ℕ) (names : List (List ℕ)) (before mid after : World) → HasNoFault before mid → FailsAt number names mid after → FailsAt number names before after
-fails-then number names before mid after kept (name, named, failed) =
-    (name, named, (rw (← kept.0) failed.0, failed.1, failed.2))
+fails-then : (name : List ℕ) (before mid after : World) → HasNoFault before mid → FailsToWriteFile name mid after → FailsToWriteFile name before after
+fails-then name before mid after kept failed = (rw (← kept.0) failed.0, failed.1, failed.2)
+
+-- a name is that of an image, or that of the history behind them
+which-name : (files : List (List ℕ)) (told : Option (List ℕ)) (number : ℕ) (name : List ℕ)
+    → slice_get (files ++ option_map_or (λ name. name ∷ []) told []) number ≡ Some name
+    → ((number ≢ length files) × (slice_get files number ≡ Some name)) ⊎ ((number ≡ length files) × (told ≡ Some name))
+which-name [] None number name named = absurd (none-some name named)
+which-name [] (Some last) zero name named = inr (refl, named)
+which-name [] (Some last) (suc number) name named = absurd (none-some name named)
+which-name (first ∷ files) told zero name named = inl (λ e. omega (arith, e), named)
+which-name (first ∷ files) told (suc number) name named = elim (which-name files told number name named) [
+  | inl there ↦ inl (λ e. there.0 (omega (arith, e)), there.1)
+  | inr last ↦ inr (ap suc last.0, last.1)
+]
 
 -- what files are written behind the run are those of before that are written
 files-then : (fact : Files → Files → Type 0) (before mid after : World) → mid.files ≡ before.files → IfObserved fact mid.files after.files → IfObserved fact before.files after.files
@@ -105,10 +122,19 @@ outcome-after setup t written images before mid after same outcome = record {
 
 -- ---- a run that came to its end
 
-module _ (setup : Setup) (names images : List (List ℕ)) (before mid after : World) (lives : Bool) (begun : ℕ)
-    (ran : All IsObserved before.devices.terms → EndsWithImages setup lives begun images before mid)
+-- it has come so by the files that were written
+module _ (setup : Setup) (outputs : Outputs) (images : List (List ℕ)) (history : List Entry)
+    (before mid after : World) (lives : Bool) (begun : ℕ)
+    (ran : All IsObserved before.devices.terms → EndsWithImages setup lives begun images history before mid)
     (still : mid.files ≡ before.files) (out : after.out ≡ mid.out) (devices : after.devices ≡ mid.devices) where
-  to-end : IfObserved (WritesAll names images) mid.files after.files → All IsObserved before.devices.terms → RunsToEnd setup names lives before after
+  abbrev bytes : List (List ℕ)
+  bytes = output_bytes outputs images history
+
+  -- the history is that of the last state
+  of-state : (t : State) → history ≡ t.files.records.history → (fact : List (List ℕ) → Type 0) → fact bytes → fact (output_bytes outputs images t.files.records.history)
+  of-state t is fact wrote = subst (λ (history : List Entry). fact (output_bytes outputs images history)) is wrote
+
+  to-end : IfObserved (WritesAll (output_names outputs) bytes) mid.files after.files → All IsObserved before.devices.terms → RunsToEnd setup outputs lives before after
   to-end wrote observed =
       let it = ran observed in
       record {
@@ -118,10 +144,11 @@ module _ (setup : Setup) (names images : List (List ℕ)) (before mid after : Wo
         outcome = outcome-after setup it.t it.written images before mid after devices it.outcome;
         living = it.living;
         output = out ∙ it.output;
-        files = files-then (WritesAll names images) before mid after still wrote;
+        files = of-state it.t it.recorded (λ bytes. IfObserved (WritesAll (output_names outputs) bytes) before.files after.files)
+            (files-then (WritesAll (output_names outputs) bytes) before mid after still wrote);
       }
 
-  up-to : (number : ℕ) → IfObserved (WritesUpTo number names images) mid.files after.files → All IsObserved before.devices.terms → RunsUnwritten setup names number before after
+  up-to : (number : ℕ) → IfObserved (WritesUpTo number (output_names outputs) bytes) mid.files after.files → All IsObserved before.devices.terms → RunsUnwritten setup outputs number before after
   up-to number wrote observed =
       let it = ran observed in
       record {
@@ -130,95 +157,136 @@ module _ (setup : Setup) (names images : List (List ℕ)) (before mid after : Wo
         images = images;
         outcome = outcome-after setup it.t it.written images before mid after devices it.outcome;
         output = out ∙ it.output;
-        files = files-then (WritesUpTo number names images) before mid after still wrote;
+        files = of-state it.t it.recorded (λ bytes. IfObserved (WritesUpTo number (output_names outputs) bytes) before.files after.files)
+            (files-then (WritesUpTo number (output_names outputs) bytes) before mid after still wrote);
       }
 
   module _ (kept : HasNoFault before mid) where
-    stops : (answer : End) (number : ℕ) → StopsAt names images number answer mid after → MachineEnds setup names before after answer
-    stops answer number (wrote, inl (is, failed)) = rw is (record {
-      kind = tt;
-      comes = up-to number wrote;
-      devices = tt;
-      host = fails-then number names before mid after kept failed;
-      files = first-change number names images before.files after.files (files-then (WritesUpTo number names images) before mid after still wrote);
-    })
+    first-changed : (number : ℕ) → IfObserved (WritesUpTo number (output_names outputs) bytes) mid.files after.files → IfObserved (ChangesOnly (output_names outputs)) before.files after.files
+    first-changed number wrote =
+        first-change number (output_names outputs) bytes before.files after.files (files-then (WritesUpTo number (output_names outputs) bytes) before mid after still wrote)
+
+    -- a write failed
+    unwritten : (number : ℕ) → IfObserved (WritesUpTo number (output_names outputs) bytes) mid.files after.files
+        → FailsAt number (output_names outputs) mid after → MachineEnds setup outputs before after (end_unwritten outputs number)
+    unwritten number wrote (name, named, failed) = by (number == length outputs.images) refl
+      where
+        failed_then : FailsToWriteFile name before after
+        failed_then = fails-then name before mid after kept failed
+
+        of-image : number ≢ length outputs.images → slice_get outputs.images number ≡ Some name
+        of-image other = elim (which-name outputs.images outputs.history number name named) [
+          | inl there ↦ there.1
+          | inr behind ↦ absurd (other behind.0)
+        ]
+
+        of-history : number ≡ length outputs.images → outputs.history ≡ Some name
+        of-history is = elim (which-name outputs.images outputs.history number name named) [
+          | inl there ↦ absurd (there.0 is)
+          | inr behind ↦ behind.1
+        ]
+
+        by : (is_last : Bool) → (number == length outputs.images) ≡ is_last → MachineEnds setup outputs before after (if is_last then CannotWriteFile else CannotWriteImage number)
+        by true is =
+            let number_is : number ≡ length outputs.images = eqb-true number (length outputs.images) is in
+            record {
+              kind = tt;
+              comes = λ observed. subst (λ number. RunsUnwritten setup outputs number before after) number_is (up-to number wrote observed);
+              devices = tt;
+              host = (name, of-history number_is, failed_then);
+              files = first-changed number wrote;
+            }
+        by false is =
+            let other : number ≢ length outputs.images = λ e. let same : (number == length outputs.images) ≡ true = eq-eqb number (length outputs.images) e in cc in
+            record {
+              kind = tt;
+              comes = up-to number wrote;
+              devices = tt;
+              host = (name, of-image other, failed_then);
+              files = first-changed number wrote;
+            }
+
+    stops : (answer : End) (number : ℕ) → StopsAt outputs bytes number answer mid after → MachineEnds setup outputs before after answer
+    stops answer number (wrote, inl (is, failed)) = rw is (unwritten number wrote failed)
     stops answer number (wrote, inr (is, sure)) = rw is (record {
       kind = tt;
       comes = inr (λ observed. inr (number, up-to number wrote observed));
       devices = tt;
       host = no-fault-then before mid after kept sure;
-      files = first-change number names images before.files after.files (files-then (WritesUpTo number names images) before mid after still wrote);
+      files = first-changed number wrote;
     })
 
-    changed : IfObserved (WritesAll names images) mid.files after.files → IfObserved (ChangesOnly names) before.files after.files
-    changed wrote = all-change names images before.files after.files (files-then (WritesAll names images) before mid after still wrote)
+    changed : IfObserved (WritesAll (output_names outputs) bytes) mid.files after.files → IfObserved (ChangesOnly (output_names outputs)) before.files after.files
+    changed wrote = all-change (output_names outputs) bytes before.files after.files (files-then (WritesAll (output_names outputs) bytes) before mid after still wrote)
 
-pub ended : (setup : Setup) (names images : List (List ℕ)) (before mid after : World) (begun : ℕ) (answer : End)
-    → RunsImages setup images before mid (Run.Ended begun) → WritesBack names images Ended answer mid after
-    → MachineEnds setup names before after answer
-ended setup names images before mid after begun answer run wrote = by wrote.files
+pub ended : (setup : Setup) (outputs : Outputs) (images : List (List ℕ)) (history : List Entry)
+    (before mid after : World) (begun : ℕ) (answer : End) → RunsImages setup images history before mid
+    (Run.Ended begun) → WritesBack outputs (output_bytes outputs images history) Ended answer mid after
+    → MachineEnds setup outputs before after answer
+ended setup outputs images history before mid after begun answer run wrote = by wrote.files
   where
     kept : HasNoFault before mid
     kept = run.no_fault (λ is. cc is)
 
-    by : ((answer ≡ Ended) × HasNoFault mid after × IfObserved (WritesAll names images) mid.files after.files) ⊎
-        ((number : ℕ) × StopsAt names images number answer mid after) → MachineEnds setup names before after answer
+    by : ((answer ≡ Ended) × HasNoFault mid after × IfObserved (WritesAll (output_names outputs) (output_bytes outputs images history)) mid.files after.files) ⊎
+        ((number : ℕ) × StopsAt outputs (output_bytes outputs images history) number answer mid after) → MachineEnds setup outputs before after answer
     by (inl (is, sure, all)) = rw is (record {
       kind = tt;
-      comes = to-end setup names images before mid after false begun run.gives run.files_kept wrote.out_kept wrote.devices_kept all;
+      comes = to-end setup outputs images history before mid after false begun run.gives run.files_kept wrote.out_kept wrote.devices_kept all;
       devices = tt;
       host = no-fault-then before mid after kept sure;
-      files = changed setup names images before mid after false begun run.gives run.files_kept wrote.out_kept wrote.devices_kept kept all;
+      files = changed setup outputs images history before mid after false begun run.gives run.files_kept wrote.out_kept wrote.devices_kept kept all;
     })
     by (inr (number, stopped)) =
-        stops setup names images before mid after false begun run.gives run.files_kept wrote.out_kept wrote.devices_kept kept answer number stopped
+        stops setup outputs images history before mid after false begun run.gives run.files_kept wrote.out_kept wrote.devices_kept kept answer number stopped
 
-pub living : (setup : Setup) (names images : List (List ℕ)) (before mid after : World) (begun : ℕ) (answer : End)
-    → RunsImages setup images before mid (Run.Living begun) → WritesBack names images Living answer mid after
-    → MachineEnds setup names before after answer
-living setup names images before mid after begun answer run wrote = by wrote.files
+pub living : (setup : Setup) (outputs : Outputs) (images : List (List ℕ)) (history : List Entry)
+    (before mid after : World) (begun : ℕ) (answer : End) → RunsImages setup images history before mid
+    (Run.Living begun) → WritesBack outputs (output_bytes outputs images history) Living answer mid after
+    → MachineEnds setup outputs before after answer
+living setup outputs images history before mid after begun answer run wrote = by wrote.files
   where
     kept : HasNoFault before mid
     kept = run.no_fault (λ is. cc is)
 
-    by : ((answer ≡ Living) × HasNoFault mid after × IfObserved (WritesAll names images) mid.files after.files) ⊎
-        ((number : ℕ) × StopsAt names images number answer mid after) → MachineEnds setup names before after answer
+    by : ((answer ≡ Living) × HasNoFault mid after × IfObserved (WritesAll (output_names outputs) (output_bytes outputs images history)) mid.files after.files) ⊎
+        ((number : ℕ) × StopsAt outputs (output_bytes outputs images history) number answer mid after) → MachineEnds setup outputs before after answer
     by (inl (is, sure, all)) = rw is (record {
       kind = tt;
-      comes = to-end setup names images before mid after true begun run.gives run.files_kept wrote.out_kept wrote.devices_kept all;
+      comes = to-end setup outputs images history before mid after true begun run.gives run.files_kept wrote.out_kept wrote.devices_kept all;
       devices = tt;
       host = no-fault-then before mid after kept sure;
-      files = changed setup names images before mid after true begun run.gives run.files_kept wrote.out_kept wrote.devices_kept kept all;
+      files = changed setup outputs images history before mid after true begun run.gives run.files_kept wrote.out_kept wrote.devices_kept kept all;
     })
     by (inr (number, stopped)) =
-        stops setup names images before mid after true begun run.gives run.files_kept wrote.out_kept wrote.devices_kept kept answer number stopped
+        stops setup outputs images history before mid after true begun run.gives run.files_kept wrote.out_kept wrote.devices_kept kept answer number stopped
 
 -- ---- a machine that did not start, or not run to its end
 
-refused : (setup : Setup) (names images : List (List ℕ)) (before mid : World) (fault : BootFault)
-    → RunsImages setup images before mid (Run.Refused fault) → MachineEnds setup names before mid (boot_end fault)
-refused setup names images before mid OutOfMemory run = record {
+refused : (setup : Setup) (outputs : Outputs) (images : List (List ℕ)) (history : List Entry) (before mid : World) (fault : BootFault)
+    → RunsImages setup images history before mid (Run.Refused fault) → MachineEnds setup outputs before mid (boot_end fault)
+refused setup outputs images history before mid OutOfMemory run = record {
   kind = tt;
   comes = inl (still-undone before mid run.unrun);
   devices = tt;
   host = kept-counts before mid run.unrun;
-  files = same-changes names before.files mid.files run.files_kept;
+  files = same-changes (output_names outputs) before.files mid.files run.files_kept;
 }
-refused setup names images before mid (BadModuleFault at error) run = record {
+refused setup outputs images history before mid (BadModuleFault at error) run = record {
   kind = tt;
   comes = (BadModuleFault at error, run.judged, refl);
   devices = still-silent before mid run.unrun;
   host = kept-counts before mid run.unrun;
   files = run.files_kept;
 }
-refused setup names images before mid NoFirstFault run = record {
+refused setup outputs images history before mid NoFirstFault run = record {
   kind = tt;
   comes = (NoFirstFault, run.judged, refl);
   devices = still-silent before mid run.unrun;
   host = kept-counts before mid run.unrun;
   files = run.files_kept;
 }
-refused setup names images before mid TooLargeFault run = record {
+refused setup outputs images history before mid TooLargeFault run = record {
   kind = tt;
   comes = (TooLargeFault, run.judged, refl);
   devices = still-silent before mid run.unrun;
@@ -226,10 +294,10 @@ refused setup names images before mid TooLargeFault run = record {
   files = run.files_kept;
 }
 
-failed-to-mount : (setup : Setup) (names images : List (List ℕ)) (before mid : World) (drive number : ℕ)
-    → RunsImages setup images before mid (Run.DriveFailed drive number) → MachineEnds setup names before mid
+failed-to-mount : (setup : Setup) (outputs : Outputs) (images : List (List ℕ)) (history : List Entry) (before mid : World) (drive number : ℕ)
+    → RunsImages setup images history before mid (Run.DriveFailed drive number) → MachineEnds setup outputs before mid
     (DriveFailed drive number)
-failed-to-mount setup names images before mid drive number run = record {
+failed-to-mount setup outputs images history before mid drive number run = record {
   kind = tt;
   comes = run.judged;
   devices = run.unrun;
@@ -237,8 +305,9 @@ failed-to-mount setup names images before mid drive number run = record {
   files = run.files_kept;
 }
 
-unwritten-output : (setup : Setup) (names images : List (List ℕ)) (before mid : World) → RunsImages setup images before mid Run.OutputFailed → MachineEnds setup names before mid CannotWrite
-unwritten-output setup names images before mid run = record {
+unwritten-output : (setup : Setup) (outputs : Outputs) (images : List (List ℕ)) (history : List Entry)
+    (before mid : World) → RunsImages setup images history before mid Run.OutputFailed → MachineEnds setup outputs before mid CannotWrite
+unwritten-output setup outputs images history before mid run = record {
   kind = tt;
   comes = λ observed. record { first = record { images = images; first = run.gives observed }; files = run.files_kept };
   devices = tt;
@@ -246,8 +315,9 @@ unwritten-output setup names images before mid run = record {
   files = run.files_kept;
 }
 
-out-of-memory-then : (setup : Setup) (names images : List (List ℕ)) (before mid : World) → RunsImages setup images before mid Run.NoMemory → MachineEnds setup names before mid NoMemory
-out-of-memory-then setup names images before mid run = record {
+out-of-memory-then : (setup : Setup) (outputs : Outputs) (images : List (List ℕ)) (history : List Entry)
+    (before mid : World) → RunsImages setup images history before mid Run.NoMemory → MachineEnds setup outputs before mid NoMemory
+out-of-memory-then setup outputs images history before mid run = record {
   kind = tt;
   comes = elim (all-observed before.devices.terms) [
     | inl observed ↦ by (run.gives observed)
@@ -255,52 +325,53 @@ out-of-memory-then setup names images before mid run = record {
   ];
   devices = tt;
   host = run.no_fault (λ is. cc is);
-  files = same-changes names before.files mid.files run.files_kept;
+  files = same-changes (output_names outputs) before.files mid.files run.files_kept;
 }
   where
-    by : IsUnrun before mid ⊎ RunsFirst setup before (with_images_in images mid) → IsUndone before mid ⊎ MachineComesTo setup names before mid NoMemory
+    by : IsUnrun before mid ⊎ RunsFirst setup before (with_images_in images mid) → IsUndone before mid ⊎ MachineComesTo setup outputs before mid NoMemory
     by (inl unrun) = inl (record { unrun = unrun; files = run.files_kept })
     by (inr first) = inr (λ observed. inl (record { first = record { images = images; first = first }; files = run.files_kept }))
 
 -- a machine has run, and its images were written where it came to its end
-pub machine-ends : (setup : Setup) (names images : List (List ℕ)) (before mid after : World) (end : RunEnd)
-    (answer : End) → RunsImages setup images before mid end → EndsBoot names images end answer mid after
-    → MachineEnds setup names before after answer
-machine-ends setup names images before mid after (Run.Ended begun) answer run ends =
-    ended setup names images before mid after begun answer run ends
-machine-ends setup names images before mid after (Run.Living begun) answer run ends =
-    living setup names images before mid after begun answer run ends
-machine-ends setup names images before mid after (Run.Refused fault) answer run (is, same) =
-    rw (is, same) (refused setup names images before mid fault run)
-machine-ends setup names images before mid after (Run.DriveFailed drive number) answer run (is, same) =
-    rw (is, same) (failed-to-mount setup names images before mid drive number run)
-machine-ends setup names images before mid after Run.OutputFailed answer run (is, same) =
-    rw (is, same) (unwritten-output setup names images before mid run)
-machine-ends setup names images before mid after Run.NoMemory answer run (is, same) =
-    rw (is, same) (out-of-memory-then setup names images before mid run)
+pub machine-ends : (setup : Setup) (outputs : Outputs) (images : List (List ℕ)) (history : List Entry) (before mid after : World) (end : RunEnd)
+    (answer : End) → RunsImages setup images history before mid end → EndsBoot outputs (output_bytes outputs images history) end answer mid after
+    → MachineEnds setup outputs before after answer
+machine-ends setup outputs images history before mid after (Run.Ended begun) answer run ends =
+    ended setup outputs images history before mid after begun answer run ends
+machine-ends setup outputs images history before mid after (Run.Living begun) answer run ends =
+    living setup outputs images history before mid after begun answer run ends
+machine-ends setup outputs images history before mid after (Run.Refused fault) answer run (is, same) =
+    rw (is, same) (refused setup outputs images history before mid fault run)
+machine-ends setup outputs images history before mid after (Run.DriveFailed drive number) answer run (is, same) =
+    rw (is, same) (failed-to-mount setup outputs images history before mid drive number run)
+machine-ends setup outputs images history before mid after Run.OutputFailed answer run (is, same) =
+    rw (is, same) (unwritten-output setup outputs images history before mid run)
+machine-ends setup outputs images history before mid after Run.NoMemory answer run (is, same) =
+    rw (is, same) (out-of-memory-then setup outputs images history before mid run)
 
-none-written : (images : List (List ℕ)) (files : Option Files) → IfObserved (WritesAll [] images) files files
-none-written images None = refl
-none-written images (Some files) = λ name. refl
+-- without names nothing is written
+none-written : (texts : List (List ℕ)) (files : Option Files) → IfObserved (WritesAll [] texts) files files
+none-written texts None = refl
+none-written texts (Some files) = λ name. refl
 
-nothing-written : (images : List (List ℕ)) (end : End) (world : World) → WritesBack [] images end end world world
-nothing-written images end world = record {
-  files = inl (refl, (refl, refl, refl), none-written images world.files);
+nothing-written : (texts : List (List ℕ)) (end : End) (world : World) → WritesBack no_outputs texts end end world world
+nothing-written texts end world = record {
+  files = inl (refl, (refl, refl, refl), none-written texts world.files);
   out_kept = refl;
   devices_kept = refl;
 }
 
--- without names nothing is to be written
-pub ends-alone : (images : List (List ℕ)) (end : RunEnd) (world : World) → EndsBoot [] images end (ends_run end) world world
-ends-alone images (Run.Ended begun) world = nothing-written images Ended world
-ends-alone images (Run.Living begun) world = nothing-written images Living world
-ends-alone images (Run.Refused fault) world = (refl, refl)
-ends-alone images (Run.DriveFailed drive number) world = (refl, refl)
-ends-alone images Run.OutputFailed world = (refl, refl)
-ends-alone images Run.NoMemory world = (refl, refl)
+pub ends-alone : (texts : List (List ℕ)) (end : RunEnd) (world : World) → EndsBoot no_outputs texts end (ends_run end) world world
+ends-alone texts (Run.Ended begun) world = nothing-written texts Ended world
+ends-alone texts (Run.Living begun) world = nothing-written texts Living world
+ends-alone texts (Run.Refused fault) world = (refl, refl)
+ends-alone texts (Run.DriveFailed drive number) world = (refl, refl)
+ends-alone texts Run.OutputFailed world = (refl, refl)
+ends-alone texts Run.NoMemory world = (refl, refl)
 
 -- a run that begins in the same world
-pub runs-after : (setup : Setup) (images : List (List ℕ)) (before between after : World) (end : RunEnd)
-    → between ≡ before → RunsImages setup images between after end → RunsImages setup images before after end
-runs-after setup images before between after end same run =
-    subst (λ world. RunsImages setup images world after end) same run
+pub runs-after : (setup : Setup) (images : List (List ℕ)) (history : List Entry) (before between after : World)
+    (end : RunEnd) → between ≡ before → RunsImages setup images history between after end
+    → RunsImages setup images history before after end
+runs-after setup images history before between after end same run =
+    subst (λ world. RunsImages setup images history world after end) same run

@@ -1,5 +1,8 @@
 -- The names of the files that a command reads and writes.
-use Rattle.std.proofs.Common.{◌≡◌, ◌⊎◌, ℕ, suc, List, [], take, drop, refl, sym, ap, subst, ◌∙◌, inl, inr, append-nil, take-append-drop}
+use Rattle.std.proofs.Common.{◌≡◌, ◌⊎◌, ◌==◌, ℕ, Bool, true, false, Option, Some, Err, List, [], ◌∷◌, ◌++◌, length, take, drop, refl, sym, ap, ◌∙◌, inl, inr, append_assoc, append-nil, take-append-drop}
+use Rattle.std.specs.Prelude.{if◌then◌else◌}
+use Rattle.std.specs.Option.{option_map_or}
+use Rattle.lock_model.specs.declared.history.Entry.{Entry}
 use Rattle.os9_words.specs.Notes.{HasRead, HasWritten, Notes, having_read, having_written}
 use Rattle.os9_words.specs.declared.command.Command.{Command}
 use Rattle.os9_words.specs.declared.command.Command.TheVariants.{Run as RunCommand, Boot as BootCommand, Check as CheckCommand, Stress as StressCommand, Vol as VolCommand, Asm as AsmCommand, Debug as DebugCommand}
@@ -12,7 +15,7 @@ use Rattle.event_rules.specs.declared.ends.BootFault.TheVariants.{OutOfMemory, B
 use Rattle.stress_run.specs.declared.stress.StressEnd.{StressEnd}
 use Rattle.stress_run.specs.declared.stress.StressEnd.TheVariants as Stress
 use Rattle.command_files.specs.declared.status.End.{End}
-use Rattle.command_files.specs.declared.status.End.TheVariants.{Ended, Living, CannotRead, CannotWrite, CannotWriteImage, NoMemory, BadImage, BadText, BadBounds, DriveFailed}
+use Rattle.command_files.specs.declared.status.End.TheVariants.{Ended, Living, CannotRead, CannotWrite, CannotWriteFile, CannotWriteImage, NoMemory, BadImage, BadText, BadBounds}
 use Rattle.command_files.specs.declared.status.Input.{Input}
 use Rattle.command_files.specs.declared.status.Input.TheVariants.{Script, Slices}
 use Rattle.command_files.specs.Reading.{RefusesTexts}
@@ -23,11 +26,11 @@ use Rattle.vol_command.specs.Vol.{vol_outputs}
 use Rattle.os9_boot.specs.Check.{PrintsAs, PrintsLine}
 use Rattle.os9_boot.specs.End.{stress_end}
 use Rattle.os9_boot.specs.FileNames.{BootWrites}
-use Rattle.os9_boot.specs.FilesNoted.{NotesBack, NotesFiles, Reads}
+use Rattle.os9_boot.specs.FilesNoted.{NotesBack, NotesFiles, NotesHistory, Reads}
+use Rattle.os9_boot.specs.History.{Outputs, output_names, outputs_of}
 use Rattle.os9_boot.specs.Images.{RefusesImages}
 use Rattle.os9_boot.specs.Meaning.{meaning}
-use Rattle.os9_boot.specs.Written.{EndsBoot, StopsAt, ends_run}
-use Rattle.os9_boot.proofs.WriteLemmas.{CameToEnd}
+use Rattle.os9_boot.specs.Written.{EndsBoot, StopsAt, WritesHistory, end_unwritten, ends_run}
 
 -- ---- a command
 
@@ -42,7 +45,7 @@ no-file-written (DebugCommand debug) input = refl
 
 no-file-written-then : (command : Command) → (meaning command).writes NoMemory []
 no-file-written-then (RunCommand run) = refl
-no-file-written-then (BootCommand boot) = (boot.files, refl)
+no-file-written-then (BootCommand boot) = (output_names (outputs_of boot), refl)
 no-file-written-then (CheckCommand image) = refl
 no-file-written-then (StressCommand seed) = refl
 no-file-written-then (VolCommand vol) = (vol_outputs vol, refl)
@@ -109,11 +112,11 @@ behind-texts terminals script slices (BadText Script line) refused = tt
 behind-texts terminals script slices (BadText Slices line) refused = tt
 behind-texts terminals script slices end refused = absurd refused
 
-pub texts-unwritten : (names : List (List ℕ)) (terminals : ℕ) (script slices : List ℕ) (end : End) → RefusesTexts terminals script slices end → BootWrites names end []
-texts-unwritten names terminals script slices NoMemory refused = (names, refl)
-texts-unwritten names terminals script slices (BadText Script line) refused = refl
-texts-unwritten names terminals script slices (BadText Slices line) refused = refl
-texts-unwritten names terminals script slices end refused = absurd refused
+pub texts-unwritten : (outputs : Outputs) (terminals : ℕ) (script slices : List ℕ) (end : End) → RefusesTexts terminals script slices end → BootWrites outputs end []
+texts-unwritten outputs terminals script slices NoMemory refused = (output_names outputs, refl)
+texts-unwritten outputs terminals script slices (BadText Script line) refused = refl
+texts-unwritten outputs terminals script slices (BadText Slices line) refused = refl
+texts-unwritten outputs terminals script slices end refused = absurd refused
 
 -- the images were
 pub behind-images : (images : List (List ℕ)) (end : End) → RefusesImages images end → IsBehindReads end
@@ -122,11 +125,11 @@ behind-images images (BadImage number fault) refused = tt
 behind-images images BadBounds refused = tt
 behind-images images end refused = absurd refused
 
-pub images-unwritten : (names images : List (List ℕ)) (end : End) → RefusesImages images end → BootWrites names end []
-images-unwritten names images NoMemory refused = (names, refl)
-images-unwritten names images (BadImage number fault) refused = refl
-images-unwritten names images BadBounds refused = refl
-images-unwritten names images end refused = absurd refused
+pub images-unwritten : (outputs : Outputs) (images : List (List ℕ)) (end : End) → RefusesImages images end → BootWrites outputs end []
+images-unwritten outputs images NoMemory refused = (output_names outputs, refl)
+images-unwritten outputs images (BadImage number fault) refused = refl
+images-unwritten outputs images BadBounds refused = refl
+images-unwritten outputs images end refused = absurd refused
 
 -- the counts were printed
 pub behind-print : (line : List ℕ) (before after : World) (end : End) → PrintsLine line before after end → IsBehindReads end
@@ -150,18 +153,6 @@ behind-run (Run.DriveFailed drive number) = tt
 behind-run Run.OutputFailed = tt
 behind-run Run.NoMemory = tt
 
--- and stopped
-pub run-unwritten : (names : List (List ℕ)) (end : RunEnd) → ((begun : ℕ) → end ≡ Run.Ended begun → ⊥) → ((begun : ℕ) → end ≡ Run.Living begun → ⊥) → BootWrites names (ends_run end) []
-run-unwritten names (Run.Ended begun) ended living = absurd (ended begun refl)
-run-unwritten names (Run.Living begun) ended living = absurd (living begun refl)
-run-unwritten names (Run.Refused OutOfMemory) ended living = (names, refl)
-run-unwritten names (Run.Refused (BadModuleFault at error)) ended living = refl
-run-unwritten names (Run.Refused NoFirstFault) ended living = refl
-run-unwritten names (Run.Refused TooLargeFault) ended living = refl
-run-unwritten names (Run.DriveFailed drive number) ended living = refl
-run-unwritten names Run.OutputFailed ended living = refl
-run-unwritten names Run.NoMemory ended living = (names, refl)
-
 -- a stress names no file
 pub stress-names : (seed : ℕ) (end : StressEnd) (first next : Notes) → next ≡ first → NotesFiles (StressCommand seed) (stress_end end) first next
 stress-names seed end first next same =
@@ -174,43 +165,74 @@ stress-names seed end first next same =
     behind Stress.OutputFailed = tt
     behind Stress.NoMemory = tt
 
-behind-writes : (names images : List (List ℕ)) (end answer : End) (before after : World) → IsBehindReads end
-    → ((answer ≡ end) × HasNoFault before after × IfObserved (WritesAll names images) before.files after.files) ⊎
-    ((number : ℕ) × StopsAt names images number answer before after) → IsBehindReads answer
-behind-writes names images end answer before after behind (inl (is, sure, all)) = rw is behind
-behind-writes names images end answer before after behind (inr (number, (wrote, inl (is, failed)))) = rw is tt
-behind-writes names images end answer before after behind (inr (number, (wrote, inr (is, sure)))) = rw is tt
+-- a file was not written
+behind-unwritten : (outputs : Outputs) (number : ℕ) → IsBehindReads (end_unwritten outputs number)
+behind-unwritten outputs number = by (number == length outputs.images)
+  where
+    by : (last : Bool) → IsBehindReads (if last then CannotWriteFile else CannotWriteImage number)
+    by true = tt
+    by false = tt
+
+behind-writes : (outputs : Outputs) (bytes : List (List ℕ)) (end answer : End) (before after : World)
+    → IsBehindReads end → ((answer ≡ end) × HasNoFault before after
+    × IfObserved (WritesAll (output_names outputs) bytes) before.files after.files) ⊎
+    ((number : ℕ) × StopsAt outputs bytes number answer before after) → IsBehindReads answer
+behind-writes outputs bytes end answer before after behind (inl (is, sure, all)) = rw is behind
+behind-writes outputs bytes end answer before after behind (inr (number, (wrote, inl (is, failed)))) = rw is (behind-unwritten outputs number)
+behind-writes outputs bytes end answer before after behind (inr (number, (wrote, inr (is, sure)))) = rw is tt
 
 -- how a boot ended behind its run
-pub behind-end : (names images : List (List ℕ)) (end : RunEnd) (answer : End) (before after : World) → EndsBoot names images end answer before after → IsBehindReads answer
-behind-end names images (Run.Ended begun) answer before after ends = behind-writes names images Ended answer before after tt ends.files
-behind-end names images (Run.Living begun) answer before after ends = behind-writes names images Living answer before after tt ends.files
-behind-end names images (Run.Refused fault) answer before after (is, same) = rw is (behind-run (Run.Refused fault))
-behind-end names images (Run.DriveFailed drive number) answer before after (is, same) = rw is tt
-behind-end names images Run.OutputFailed answer before after (is, same) = rw is tt
-behind-end names images Run.NoMemory answer before after (is, same) = rw is tt
+pub behind-end : (outputs : Outputs) (bytes : List (List ℕ)) (end : RunEnd) (answer : End) (before after : World) → EndsBoot outputs bytes end answer before after → IsBehindReads answer
+behind-end outputs bytes (Run.Ended begun) answer before after ends = behind-writes outputs bytes Ended answer before after tt ends.files
+behind-end outputs bytes (Run.Living begun) answer before after ends = behind-writes outputs bytes Living answer before after tt ends.files
+behind-end outputs bytes (Run.Refused fault) answer before after (is, same) = rw is (behind-run (Run.Refused fault))
+behind-end outputs bytes (Run.DriveFailed drive number) answer before after (is, same) = rw is tt
+behind-end outputs bytes Run.OutputFailed answer before after (is, same) = rw is tt
+behind-end outputs bytes Run.NoMemory answer before after (is, same) = rw is tt
 
--- ---- the images of a boot
+-- ---- the images and the history of a boot
 
-module _ (names : List (List ℕ)) (before after : Notes) where
-  pub back-all : (end : RunEnd) (answer : End) → CameToEnd end → answer ≡ ends_run end → HasWritten names before after → NotesBack names answer before after
-  back-all end answer (inl (begun, is)) told noted =
-      let ended : answer ≡ Ended = told ∙ ap ends_run is in
-      subst (λ answer. NotesBack names answer before after) (sym ended) (record { written = names; writes = refl; noted = noted })
-  back-all end answer (inr (begun, is)) told noted =
-      let lives : answer ≡ Living = told ∙ ap ends_run is in
-      subst (λ answer. NotesBack names answer before after) (sym lives) (record { written = names; writes = refl; noted = noted })
+-- one list of names after another
+written-then : (one other : List (List ℕ)) (first mid next : Notes) → HasWritten one first mid → HasWritten other mid next → HasWritten (one ++ other) first next
+written-then one other first mid next before behind = record {
+  is = behind.is ∙ ap (λ (notes : Notes). having_written other notes) before.is
+      ∙ ap (λ (names : List (List ℕ)). record first { written = names }) (append_assoc first.written one other);
+}
 
-  pub back-failed : (number : ℕ) → HasWritten (take (suc number) names) before after → NotesBack names (CannotWriteImage number) before after
-  back-failed number noted = record { written = take (suc number) names; writes = refl; noted = noted }
+-- those of a boot whose history was not written, or not wholly
+module _ (files : List (List ℕ)) (before : Notes) where
+  -- a boot that writes its history in the file of this name, or none
+  abbrev Back : Option (List ℕ) → End → Notes → Type 0
+  Back told answer after = NotesBack (record { images = files; history = told }) answer before after
 
-  pub back-memory : (count : ℕ) × HasWritten (take count names) before after → NotesBack names NoMemory before after
-  back-memory (count, noted) =
-      record { written = take count names; writes = (drop count names, sym (take-append-drop count names)); noted = noted }
+  pub back-memory : (told : Option (List ℕ)) (after : Notes) → (count : ℕ) × HasWritten (take count files) before after → Back told NoMemory after
+  back-memory told after (count, noted) =
+      let more : List (List ℕ) = option_map_or (λ name. name ∷ []) told [] in
+      record {
+        written = take count files;
+        writes =
+            (drop count files ++ more, ap (λ names. names ++ more) (sym (take-append-drop count files)) ∙ append_assoc (take count files) (drop count files) more);
+        noted = noted;
+      }
 
--- none was written
-pub back-none : (names : List (List ℕ)) (notes : Notes) (end : RunEnd) (answer : End)
-    → ((begun : ℕ) → end ≡ Run.Ended begun → ⊥) → ((begun : ℕ) → end ≡ Run.Living begun → ⊥) → answer ≡ ends_run end
-    → NotesBack names answer notes notes
-back-none names notes end answer ended living told =
-    subst (λ answer. NotesBack names answer notes notes) (sym told) (record { written = []; writes = run-unwritten names end ended living; noted = written-none notes })
+  module _ (told : Option (List ℕ)) (name : List ℕ) (named : told ≡ Some name) (mid after : Notes)
+      (images : HasWritten files before mid) where
+    pub back-unwritten : (first last : World) (history : List Entry) (answer : End)
+        → WritesHistory {Value = Unit {0}} name history (Err answer) first last
+        → NotesHistory {Value = Unit {0}} name (Err answer) mid after → Back told answer after
+    back-unwritten first last history CannotWriteFile wrote noted = rw named (record {
+      written = files ++ name ∷ [];
+      writes = refl;
+      noted = written-then files (name ∷ []) before mid after images noted;
+    })
+    back-unwritten first last history NoMemory wrote (inl noted) = rw named (record {
+      written = files ++ [];
+      writes = (name ∷ [], ap (λ names. names ++ name ∷ []) (sym (append-nil files)));
+      noted = written-then files [] before mid after images noted;
+    })
+    back-unwritten first last history NoMemory wrote (inr noted) = rw named (record {
+      written = files ++ name ∷ [];
+      writes = ([], sym (append-nil (files ++ name ∷ [])));
+      noted = written-then files (name ∷ []) before mid after images noted;
+    })
+    back-unwritten first last history answer wrote noted = absurd wrote.stopped

@@ -1,10 +1,12 @@
 -- A run whose files were read.
-use Rattle.std.proofs.Common.{◌≡◌, ℕ, Option, Some, None, List, [], Ok, Err, length, refl, inl, inr, All, arith}
+use Rattle.std.proofs.Common.{◌≡◌, ℕ, Option, Some, None, List, [], Ok, Err, length, refl, inl, inr, arith}
 use Rattle.std.specs.Prelude.{IfSome}
 use Rattle.os9_outer.specs.Host.{Files}
 use Rattle.script_text.specs.declared.script.ScriptKey.{ScriptKey}
 use Rattle.script_text.specs.Script.{keys_of}
 use Rattle.script_text.specs.Slices.{slices_of}
+use Rattle.std.proofs.lemmas.Option.{none-some}
+use Rattle.lock_model.specs.declared.history.Entry.{Entry}
 use Rattle.os9_words.specs.declared.command.Command.TheVariants.{Run as RunCommand}
 use Rattle.os9_words.specs.declared.command.RunWords.{RunWords}
 use Rattle.boot_images.specs.Outcome.{RunsImages}
@@ -21,6 +23,7 @@ use Rattle.os9_boot.specs.BootLeft.{LeavesDevices, RunMayEnd}
 use Rattle.os9_boot.specs.Host.{FailsAsTold}
 use Rattle.command_files.specs.Reading.{HasRunFiles, RefusesTexts}
 use Rattle.command_files.specs.Setup.{SetsUpRun}
+use Rattle.os9_boot.specs.History.{no_outputs, output_bytes}
 use Rattle.os9_boot.specs.Written.{ends_run}
 use Rattle.os9_boot.proofs.BootCallLemmas.{kept-counts, out-of-memory, still-silent, unchanged}
 use Rattle.os9_boot.proofs.MachineLemmas.{EndsSo, RunFails, ends-alone, IsOfMachine, machine-ends}
@@ -28,30 +31,30 @@ use Rattle.os9_boot.proofs.MachineLemmas.{EndsSo, RunFails, ends-alone, IsOfMach
 -- ---- a machine that ran without images
 
 module _ (files : Files) (run : RunWords) (setup : Setup) (before after : World) (sets : SetsUpRun files run (length before.devices.terms) setup) where
-  run-comes : (end : End) → IsOfMachine end → EndsSo setup [] before after end → RunComesTo files run before after end
+  run-comes : (end : End) → IsOfMachine end → EndsSo setup no_outputs before after end → RunComesTo files run before after end
   run-comes (CannotRead input) of comes = tt
   run-comes (BadText input line) of comes = absurd of
   run-comes NoMemory of (inl undone) = inl undone
   run-comes NoMemory of (inr comes) = inr (setup, sets, comes)
   run-comes end of comes = (setup, sets, comes)
 
-run-may : (before after : World) (end : End) → IsOfMachine end → RunFails [] end before after → LeavesDevices 0 before after end → RunMayEnd end
+run-may : (before after : World) (end : End) → IsOfMachine end → RunFails no_outputs end before after → LeavesDevices 0 before after end → RunMayEnd end
 run-may before after (BadImage number fault) of failed left = absurd of
 run-may before after (BadText input line) of failed left = absurd of
 run-may before after BadBounds of failed left = absurd of
 run-may before after (CannotWriteImage number) of failed left = absurd (cc failed.1)
 run-may before after (DriveFailed drive number) of failed left = absurd (omega (arith, left.among))
-run-may before after CannotWriteFile of failed left = absurd of
+run-may before after CannotWriteFile of failed left = absurd (none-some failed.0 failed.1)
 run-may before after (Refused number) of failed left = absurd of
 run-may before after (BadSource line error) of failed left = absurd of
 run-may before after (TerminalFailed n) of failed left = absurd of
 run-may before after end of failed left = tt
 
-run-fails : (run : RunWords) (before after : World) (end : End) → RunFails [] end before after → FailsAsTold (RunCommand run) end before after
+run-fails : (run : RunWords) (before after : World) (end : End) → RunFails no_outputs end before after → FailsAsTold (RunCommand run) end before after
 run-fails run before after (CannotRead input) failed = absurd failed
 run-fails run before after CannotWrite failed = failed
 run-fails run before after (CannotWriteImage number) failed = absurd (cc failed.1)
-run-fails run before after CannotWriteFile failed = absurd failed
+run-fails run before after CannotWriteFile failed = absurd (none-some failed.0 failed.1)
 run-fails run before after end kept = kept
 
 -- ---- the files of the words were read
@@ -122,9 +125,10 @@ module _ (before : World) (run : RunWords) (read : RunFiles) (has : IfSome befor
       none = refl;
     }
 
-    pub run-ended : (images : List (List ℕ)) (after : World) (end : RunEnd) → RunsImages setup images before after end → CommandCall (RunCommand run) before after (ends_run end)
-    run-ended images after end run_call =
-        let it = machine-ends setup [] images before after after end (ends_run end) run_call (ends-alone images end after) in
+    pub run-ended : (images : List (List ℕ)) (history : List Entry) (after : World) (end : RunEnd)
+        → RunsImages setup images history before after end → CommandCall (RunCommand run) before after (ends_run end)
+    run-ended images history after end run_call =
+        let it = machine-ends setup no_outputs images history before after after end (ends_run end) run_call (ends-alone (output_bytes no_outputs images history) end after) in
         record {
           comes = of-files (λ files. RunComesTo files run before after (ends_run end)) (λ files has. run-comes files run setup before after (sets-up files has) (ends_run end) it.kind it.comes);
           may = run-may before after (ends_run end) it.kind it.host it.devices;

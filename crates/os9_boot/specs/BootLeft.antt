@@ -1,5 +1,5 @@
 -- How a command may end, and what it leaves of the output, the devices and the files (this project's own).
-use Rattle.std.specs.Prelude.{◌≡◌, ℕ, ⊤, List}
+use Rattle.std.specs.Prelude.{◌≡◌, ℕ, ⊤, IsSome, List}
 use Rattle.os9_outer.specs.Host.{IfObserved}
 use Rattle.boot_run.specs.Machine.{FailsToMount}
 use Rattle.boot_run.specs.World.{World}
@@ -8,6 +8,7 @@ use Rattle.command_files.specs.declared.status.End.{End}
 use Rattle.command_files.specs.declared.status.End.TheVariants.{Ended, Living, CannotRead, CannotWrite, CannotWriteImage, NoMemory, BadImage, BadText, BadBounds, DriveFailed, CannotWriteFile, Refused, BadSource, TerminalFailed}
 use Rattle.command_files.specs.declared.status.Input.{Input}
 use Rattle.command_files.specs.declared.status.Input.TheVariants.{Script, Slices}
+use Rattle.os9_boot.specs.History.{Outputs}
 
 -- ---- how it may end
 
@@ -30,14 +31,14 @@ RunMayEnd (BadSource line error) = ⊥
 RunMayEnd (TerminalFailed n) = ⊥
 RunMayEnd end = ⊤
 
--- those of a boot: it makes no file, uses no tool, and reads no source
-abbrev pub BootMayEnd : End → Type 0
-BootMayEnd (BadText input line) = IsText input
-BootMayEnd CannotWriteFile = ⊥
-BootMayEnd (Refused number) = ⊥
-BootMayEnd (BadSource line error) = ⊥
-BootMayEnd (TerminalFailed n) = ⊥
-BootMayEnd end = ⊤
+-- those of a boot: it makes no file but that of its history, uses no tool, and reads no source
+abbrev pub BootMayEnd : Outputs → End → Type 0
+BootMayEnd outputs (BadText input line) = IsText input
+BootMayEnd outputs CannotWriteFile = IsSome outputs.history
+BootMayEnd outputs (Refused number) = ⊥
+BootMayEnd outputs (BadSource line error) = ⊥
+BootMayEnd outputs (TerminalFailed n) = ⊥
+BootMayEnd outputs end = ⊤
 
 -- those of a check: it has one image, and runs nothing
 abbrev pub CheckMayEnd : End → Type 0
@@ -66,15 +67,17 @@ LeavesDevices images before after Ended = ⊤
 LeavesDevices images before after Living = ⊤
 LeavesDevices images before after CannotWrite = ⊤
 LeavesDevices images before after (CannotWriteImage number) = ⊤
+LeavesDevices images before after CannotWriteFile = ⊤
 LeavesDevices images before after NoMemory = ⊤
 LeavesDevices images before after (DriveFailed drive number) = FailsToMount images drive number before after
 LeavesDevices images before after end = IsSilent before after
 
--- what a boot leaves of the files: it writes images only after its run
+-- what a boot leaves of the files: it writes those of these names only after its run
 abbrev pub BootLeavesFiles : List (List ℕ) → World → World → End → Type 0
 BootLeavesFiles names before after Ended = IfObserved (ChangesOnly names) before.files after.files
 BootLeavesFiles names before after Living = IfObserved (ChangesOnly names) before.files after.files
 BootLeavesFiles names before after (CannotWriteImage number) = IfObserved (ChangesOnly names) before.files after.files
+BootLeavesFiles names before after CannotWriteFile = IfObserved (ChangesOnly names) before.files after.files
 BootLeavesFiles names before after NoMemory = IfObserved (ChangesOnly names) before.files after.files
 BootLeavesFiles names before after end = after.files ≡ before.files
 

@@ -1,6 +1,6 @@
 -- The outcome of a command that runs a machine on what its files hold (Level Two manual, "Booting"; the order of the
 -- tests is this project's own).
-use Rattle.std.specs.Prelude.{◌≡◌, ◌⊎◌, ℕ, ⊤, Bool, true, false, Err, List, [], length, All}
+use Rattle.std.specs.Prelude.{◌≡◌, ◌⊎◌, ℕ, ⊤, Bool, true, false, Err, List, length, All}
 use Rattle.os9_outer.specs.Host.{Files, file_contents, IfObserved}
 use Rattle.os9_outer.specs.Stream.{stream_with}
 use Rattle.script_text.specs.declared.script.ScriptKey.{ScriptKey}
@@ -16,35 +16,38 @@ use Rattle.boot_run.specs.Console.{IsObserved}
 use Rattle.boot_run.specs.Machine.{IsUnrun, Setup}
 use Rattle.boot_run.specs.World.{World}
 use Rattle.command_files.specs.declared.status.End.{End}
-use Rattle.command_files.specs.declared.status.End.TheVariants.{Ended, Living, CannotRead, CannotWrite, CannotWriteImage, NoMemory, BadImage, BadText, BadBounds, DriveFailed}
+use Rattle.command_files.specs.declared.status.End.TheVariants.{Ended, Living, CannotRead, CannotWrite, CannotWriteFile, CannotWriteImage, NoMemory, BadImage, BadText, BadBounds, DriveFailed}
 use Rattle.command_files.specs.declared.status.Input.{Input}
 use Rattle.command_files.specs.declared.status.Input.TheVariants.{Script}
 use Rattle.command_files.specs.End.{boot_end}
 use Rattle.os9_boot.specs.Images.{LackBootFile}
 use Rattle.command_files.specs.Reading.{BreaksSlices}
 use Rattle.command_files.specs.Setup.{HaveTexts, SetsUpBoot, SetsUpRun, script_of}
+use Rattle.os9_boot.specs.History.{Outputs, no_outputs, output_bytes, output_names, outputs_of}
 
 -- ---- the outcome of a machine with a setup
 
--- it ran to its end: a process lives then or none does, the output has gained what it wrote, and its images are
--- written under these names
-pub record RunsToEnd (setup : Setup) (names : List (List ℕ)) (lives : Bool) (before after : World) : Type 0 where
+-- it ran to its end: a process lives then or none does, the output has gained what it wrote, and its images and its
+-- history are written
+pub record RunsToEnd (setup : Setup) (outputs : Outputs) (lives : Bool) (before after : World) : Type 0 where
   pub t : State
   pub written : List ℕ
   pub images : List (List ℕ)
   pub outcome : HasOutcome setup t written images before after
   pub living : has_living t ≡ lives
   pub output : after.out ≡ stream_with before.out written
-  pub files : IfObserved (WritesAll names images) before.files after.files
+  pub files : IfObserved (WritesAll (output_names outputs) (output_bytes outputs images t.files.records.history))
+      before.files after.files
 
--- it ran to its end, and its images are written up to that of this number, whose write failed
-pub record RunsUnwritten (setup : Setup) (names : List (List ℕ)) (number : ℕ) (before after : World) : Type 0 where
+-- it ran to its end, and its images and its history are written up to the file of this number, which is not written
+pub record RunsUnwritten (setup : Setup) (outputs : Outputs) (number : ℕ) (before after : World) : Type 0 where
   pub t : State
   pub written : List ℕ
   pub images : List (List ℕ)
   pub outcome : HasOutcome setup t written images before after
   pub output : after.out ≡ stream_with before.out written
-  pub files : IfObserved (WritesUpTo number names images) before.files after.files
+  pub files : IfObserved (WritesUpTo number (output_names outputs)
+      (output_bytes outputs images t.files.records.history)) before.files after.files
 
 -- nothing was run, and nothing observable has changed but the number of calls of drives
 pub record IsUndone (before after : World) : Type 0 where
@@ -61,21 +64,23 @@ pub record RunsUnended (setup : Setup) (before after : World) : Type 0 where
 abbrev pub IfAllObserved : World → Type 0 → Type 0
 IfAllObserved before fact = All IsObserved before.devices.terms → fact
 
--- Its outcome, by the end of the command, which writes its images under these names. What it ran is said if all
--- terminals are observed, and why its boot file is refused in any case. That memory may be out before anything is run
--- is said of the command.
-abbrev pub MachineComesTo : Setup → List (List ℕ) → World → World → End → Type 0
-MachineComesTo setup names before after Ended = IfAllObserved before (RunsToEnd setup names false before after)
-MachineComesTo setup names before after Living = IfAllObserved before (RunsToEnd setup names true before after)
-MachineComesTo setup names before after CannotWrite = IfAllObserved before (RunsUnended setup before after)
-MachineComesTo setup names before after (CannotWriteImage number) =
-    IfAllObserved before (RunsUnwritten setup names number before after)
-MachineComesTo setup names before after NoMemory =
+-- Its outcome, by the end of the command, which writes these files: the images, then the history. What it ran is said
+-- if all terminals are observed, and why its boot file is refused in any case. That memory may be out before anything
+-- is run is said of the command.
+abbrev pub MachineComesTo : Setup → Outputs → World → World → End → Type 0
+MachineComesTo setup outputs before after Ended = IfAllObserved before (RunsToEnd setup outputs false before after)
+MachineComesTo setup outputs before after Living = IfAllObserved before (RunsToEnd setup outputs true before after)
+MachineComesTo setup outputs before after CannotWrite = IfAllObserved before (RunsUnended setup before after)
+MachineComesTo setup outputs before after (CannotWriteImage number) =
+    IfAllObserved before (RunsUnwritten setup outputs number before after)
+MachineComesTo setup outputs before after CannotWriteFile =
+    IfAllObserved before (RunsUnwritten setup outputs (length outputs.images) before after)
+MachineComesTo setup outputs before after NoMemory =
     IfAllObserved before (RunsUnended setup before after
-    ⊎ ((number : ℕ) × RunsUnwritten setup names number before after))
-MachineComesTo setup names before after (DriveFailed drive number) =
+    ⊎ ((number : ℕ) × RunsUnwritten setup outputs number before after))
+MachineComesTo setup outputs before after (DriveFailed drive number) =
     (fault : BootFault) → ¬ Refuses setup.file setup.blocks fault
-MachineComesTo setup names before after end =
+MachineComesTo setup outputs before after end =
     (fault : BootFault) × Refuses setup.file setup.blocks fault × (end ≡ boot_end fault)
 
 -- ---- of a run and of a boot
@@ -92,9 +97,9 @@ AcceptsTexts files run terminals =
     (keys : List ScriptKey) × (slices : List ℕ) × HaveTexts files run terminals keys slices
 
 -- a machine has this setup, and this outcome
-abbrev pub SetUpComesTo : (Setup → Type 0) → List (List ℕ) → World → World → End → Type 0
-SetUpComesTo is_so names before after end =
-    (setup : Setup) × is_so setup × MachineComesTo setup names before after end
+abbrev pub SetUpComesTo : (Setup → Type 0) → Outputs → World → World → End → Type 0
+SetUpComesTo is_so outputs before after end =
+    (setup : Setup) × is_so setup × MachineComesTo setup outputs before after end
 
 -- the outcome of a run, by its end; if memory is out nothing was run, or the machine was
 abbrev pub RunComesTo : Files → RunWords → World → World → End → Type 0
@@ -103,9 +108,9 @@ RunComesTo files run before after (BadText input line) =
     RefusesText files run (length before.devices.terms) input line
 RunComesTo files run before after NoMemory =
     IsUndone before after
-    ⊎ SetUpComesTo (SetsUpRun files run (length before.devices.terms)) [] before after NoMemory
+    ⊎ SetUpComesTo (SetsUpRun files run (length before.devices.terms)) no_outputs before after NoMemory
 RunComesTo files run before after end =
-    SetUpComesTo (SetsUpRun files run (length before.devices.terms)) [] before after end
+    SetUpComesTo (SetsUpRun files run (length before.devices.terms)) no_outputs before after end
 
 -- the outcome of a boot
 abbrev pub BootComesTo : Files → RunWords → World → World → End → Type 0
@@ -118,6 +123,6 @@ BootComesTo files boot before after BadBounds =
     AcceptsTexts files boot (length before.devices.terms) × LackBootFile (images_of files boot.files)
 BootComesTo files boot before after NoMemory =
     IsUndone before after
-    ⊎ SetUpComesTo (SetsUpBoot files boot (length before.devices.terms)) boot.files before after NoMemory
+    ⊎ SetUpComesTo (SetsUpBoot files boot (length before.devices.terms)) (outputs_of boot) before after NoMemory
 BootComesTo files boot before after end =
-    SetUpComesTo (SetsUpBoot files boot (length before.devices.terms)) boot.files before after end
+    SetUpComesTo (SetsUpBoot files boot (length before.devices.terms)) (outputs_of boot) before after end

@@ -2,16 +2,18 @@
 use Rattle.std.specs.Prelude.{◌≡◌, ℕ, suc, List, [], take}
 use Rattle.command_files.specs.FileNames.{IsFront}
 use Rattle.command_files.specs.declared.status.End.{End}
-use Rattle.command_files.specs.declared.status.End.TheVariants.{Ended, Living, CannotWriteImage, NoMemory}
+use Rattle.command_files.specs.declared.status.End.TheVariants.{Ended, Living, CannotWriteFile, CannotWriteImage, NoMemory}
+use Rattle.os9_boot.specs.History.{Outputs, output_names}
 
--- a boot with this end has written these of the images of these names: all after a run to its end, up to the one that
+-- a boot with this end has written these of its images and its history: all after a run to its end, up to the file that
 -- could not be written, some if memory was out, and else none
-abbrev pub BootWrites : List (List ℕ) → End → List (List ℕ) → Type 0
-BootWrites names Ended written = written ≡ names
-BootWrites names Living written = written ≡ names
-BootWrites names (CannotWriteImage number) written = written ≡ take (suc number) names
-BootWrites names NoMemory written = IsFront written names
-BootWrites names end written = written ≡ []
+abbrev pub BootWrites : Outputs → End → List (List ℕ) → Type 0
+BootWrites outputs Ended written = written ≡ output_names outputs
+BootWrites outputs Living written = written ≡ output_names outputs
+BootWrites outputs (CannotWriteImage number) written = written ≡ take (suc number) outputs.images
+BootWrites outputs CannotWriteFile written = written ≡ output_names outputs
+BootWrites outputs NoMemory written = IsFront written (output_names outputs)
+BootWrites outputs end written = written ≡ []
 
 -- no file was written
 abbrev pub WritesNone : End → List (List ℕ) → Type 0

@@ -18,6 +18,7 @@ use Rattle.command_files.specs.End.{status_number}
 use Rattle.command_files.specs.FileNames.{IsFront}
 use Rattle.command_files.specs.Setup.{SetsUpBoot}
 use Rattle.os9_boot.specs.Boots.{BootComesTo}
+use Rattle.os9_boot.specs.History.{output_bytes, output_names, outputs_of}
 
 -- the texts and the images are accepted, the first image has a boot file, and that is not refused
 pub record IsAccepted (files : Files) (boot : RunWords) (terminals : ℕ) : Type 0 where
@@ -26,8 +27,9 @@ pub record IsAccepted (files : Files) (boot : RunWords) (terminals : ℕ) : Type
   pub starts : (fault : BootFault) → ¬ Refuses setup.file setup.blocks fault
 
 -- A boot is one run of the machine: the output has gained what the run writes, its images hold the volumes of the last
--- state, and the status says whether a process lives then. An image is unchanged, byte for byte, if no event of the run
--- asks for a change of the volume in its drive. The terminals and the states of the drives are those of the last state.
+-- state, the file that is named for the history has that of the last state, and the status says whether a process lives
+-- then. An image is unchanged, byte for byte, if no event of the run asks for a change of the volume in its drive. The
+-- terminals and the states of the drives are those of the last state.
 pub record IsOneRun (files : Files) (boot : RunWords) (before after : World) (status : ℕ) : Type 0 where
   pub setup : Setup
   pub sets : SetsUpBoot files boot (length before.devices.terms) setup
@@ -41,7 +43,8 @@ pub record IsOneRun (files : Files) (boot : RunWords) (before after : World) (st
   pub images : List (List ℕ)
   pub volumes : AreImagesOf t setup.images images
   pub unchanged : KeepsUnchanged setup s states images
-  pub disks : IfObserved (WritesAll boot.files images) before.files after.files
+  pub disks : IfObserved (WritesAll (output_names (outputs_of boot))
+      (output_bytes (outputs_of boot) images t.files.records.history)) before.files after.files
   pub terminals : after.devices.terms ≡ t.terms
   pub drives : drive_states after.devices.drives ≡ t.files.drives
   pub lives : status ≡ status_of t
@@ -71,8 +74,9 @@ BootIsOneRun files boot before after status =
 abbrev pub IsOfWholeRun : ℕ → Type 0
 IsOfWholeRun status = (status ≡ status_number Ended) ⊎ (status ≡ status_number Living)
 
--- A boot of images of these names has written each once and in their order if its machine ran to the end. Else it has
--- written the first of them, all, some or none, each once, and no file unless a write failed or memory was out.
+-- A boot that writes files of these names, its images and its history, has written each once and in their order if its
+-- machine ran to the end. Else it has written the first of them, all, some or none, each once, and no file unless a
+-- write failed or memory was out.
 pub record WritesByStatus (names : List (List ℕ)) (status : ℕ) (noted notes : Notes) : Type 0 where
   pub whole : IsOfWholeRun status → notes.written ≡ noted.written ++ names
   pub none : ¬ IsOfWholeRun status → status ≢ status_number CannotWrite → status ≢ status_number NoMemory

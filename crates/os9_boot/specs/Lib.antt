@@ -12,6 +12,7 @@ pub mod EndLines
 pub mod FileNames
 pub mod FilesNoted
 pub mod Headline
+pub mod History
 pub mod Host
 pub mod Images
 pub mod BootLeft

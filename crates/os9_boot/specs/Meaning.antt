@@ -25,6 +25,7 @@ use Rattle.command_files.specs.End.{run_file_name}
 use Rattle.os9_boot.specs.End.{stress_end}
 use Rattle.command_files.specs.FileNames.{run_inputs}
 use Rattle.os9_boot.specs.FileNames.{BootWrites, WritesNone}
+use Rattle.os9_boot.specs.History.{output_names, outputs_of}
 use Rattle.os9_boot.specs.BootLeft.{BootLeavesFiles, BootMayEnd, CheckLeaves, CheckMayEnd, KeepsFiles, LeavesDevices, RunMayEnd, StressMayEnd}
 
 pub record Meaning : Type 1 where
@@ -58,12 +59,12 @@ run_meaning run = record {
 abbrev pub boot_meaning : RunWords → Meaning
 boot_meaning boot = record {
   comes = λ before after end. IfSome before.files (λ files. BootComesTo files boot before after end);
-  may = BootMayEnd;
+  may = BootMayEnd (outputs_of boot);
   devices = LeavesDevices (length boot.files);
-  files = BootLeavesFiles boot.files;
+  files = BootLeavesFiles (output_names (outputs_of boot));
   file_name = run_file_name boot;
   inputs = run_inputs boot;
-  writes = BootWrites boot.files;
+  writes = BootWrites (outputs_of boot);
   drives = length boot.files;
 }
 

@@ -26,7 +26,7 @@ use std::alloc::Global;
 
 /// `boot IMAGE.. --script SCRIPT --slices SLICES`: reads the files and their texts, runs the
 /// program of the first image's boot file with the images in the drives, and writes the images
-/// back.
+/// back, and the history of its record locks if a file is named for it.
 pub fn boot_images<H: Host>(
     alloc: Global,
     boot: &RunWords,
@@ -72,8 +72,8 @@ pub fn boot_images<H: Host>(
         keys: texts.keys,
         slices: texts.slices,
     };
-    let end = run_images(alloc, &start, &mut images, host, devices);
-    write_back(&boot.files, &images, end, host)
+    let outcome = run_images(alloc, &start, &mut images, host, devices);
+    write_back(alloc, boot, &images, &outcome, host)
 }
 
 /// `run MODULES --slices SLICES`, with or without a script: reads the files and their texts, and
@@ -119,5 +119,6 @@ pub fn run_modules<H: Host>(
         keys: texts.keys,
         slices: texts.slices,
     };
-    end_of_run(run_images(alloc, &start, &mut images, host, devices))
+    let outcome = run_images(alloc, &start, &mut images, host, devices);
+    end_of_run(outcome.end)
 }

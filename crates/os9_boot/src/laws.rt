@@ -19,6 +19,7 @@ ghost use Rattle.os9_debug.specs.OneCourse.{IsFaultless, ShowsOneCourse};
 ghost use Rattle.os9_boot.specs.Commands.{CommandCall};
 ghost use Rattle.os9_boot.specs.Completeness.{IsNoFault, NoneRose, TellsNoFault};
 ghost use Rattle.os9_boot.specs.Headline.{BootIsOneRun, IsAccepted, WritesByStatus};
+ghost use Rattle.os9_boot.specs.History.{output_names, outputs_of};
 ghost use Rattle.os9_boot.specs.TopCall.{TopCall};
 
 /// A call in which no count of faults rose, neither the host's nor a drive's, ends as the words,
@@ -48,14 +49,14 @@ pub fn a_boot_is_one_run()
 {}
 
 /// The files that a boot writes, on any host, files and terminals observed or not: with status 0 or
-/// 5 each image once, in the order of the words, and no other file; with 3 and 4 the first of the
-/// images, each once; with any other none.
+/// 5 each image once, in the order of the words, then the history if a file is named for it, and no
+/// other file; with 3 and 4 the first of these, each once; with any other none.
 pub fn a_boot_writes_its_images_once()
     ensures { (words : List (List ℕ)) (boot : RunWords) (before after : World)
         (noted notes : Notes) (status : ℕ)
         → command_of words ≡ Some (Boot boot)
         → TopCall words before after noted notes status
-        → WritesByStatus boot.files status noted notes }
+        → WritesByStatus (output_names (outputs_of boot)) status noted notes }
 {}
 
 /// A `debug` with status 0, over observed files, in which no count of faults rose and before which

@@ -37,14 +37,15 @@ const NO_COMMAND: u8 = 1;
 /// reads the script, the slice text and one to four images, checks these, puts them into the
 /// drives, loads each terminal with its keys of the script, runs the program `SysGo` of the boot
 /// file of the first with their volumes mounted, passes what it puts on the terminals to the output
-/// stream, and writes the images back. `run MODULES --slices SLICES`, with or without
-/// `--script SCRIPT`, does so with a file of modules and without images. Both take `--blocks N` and
-/// `--time T`. `check IMAGE` reads the image of a disk and passes the counts of its volume to the
-/// output stream. `stress N` boots a disk that it makes from the seed N, and passes the counts of
-/// its end to the output stream. `vol VERB IMAGE ..` makes the image of a disk, looks into it,
-/// changes it or repairs it, by the tools of `vol_tools`. `asm SOURCE OUT` assembles a source to
-/// the module in a file. `debug`, with the words of a run and a file of commands, goes to any event
-/// of that run, and passes what the commands show to the output stream.
+/// stream, and writes the images back, and with `--history FILE` the history of its record locks.
+/// `run MODULES --slices SLICES`, with or without `--script SCRIPT`, does so with a file of
+/// modules, without images and without a history. Both take `--blocks N` and `--time T`. `check
+/// IMAGE` reads the image of a disk and passes the counts of its volume to the output stream.
+/// `stress N` boots a disk that it makes from the seed N, and passes the counts of its end to the
+/// output stream. `vol VERB IMAGE ..` makes the image of a disk, looks into it, changes it or
+/// repairs it, by the tools of `vol_tools`. `asm SOURCE OUT` assembles a source to the module in a
+/// file. `debug`, with the words of a run and a file of commands, goes to any event of that run,
+/// and passes what the commands show to the output stream.
 ///
 /// There are one to four terminals, and none has keys; at most four drives, none with an image, and
 /// at least one for each booted image, and one for `vol`.

@@ -1,9 +1,13 @@
 -- In every state of a run the chosen process may attempt its call on paths, files and directories.
 use Rattle.std.proofs.Common.{◌≡◌, ℕ, ◌<◌, Option, Some, None, List, length, refl, sym, ◌∙◌, subst}
+use Rattle.std.specs.Prelude.{IfSome}
 use Rattle.std.proofs.lemmas.Option.{none-some, same_Some}
 use Rattle.os9_base.specs.declared.registers.Pid.{Pid}
 use Rattle.os9_outer.specs.TerminalState.{TerminalState}
 use Rattle.call_rules.specs.Ready.{attempts, act_of}
+use Rattle.lock_model.specs.Locks.{request_of}
+use Rattle.lock_model.specs.Records.{Records}
+use Rattle.lock_model.specs.declared.lock.Request.{Request}
 use Rattle.io_model.specs.declared.kept.Kept.{Kept}
 use Rattle.io_rules.specs.Codes.{io_call_of}
 use Rattle.io_rules.specs.Io.{Io, kept_at}
@@ -17,6 +21,7 @@ use Rattle.touch_laws.specs.Devices.{device_call}
 use Rattle.file_dispatch.specs.Attempts.{MayAttempt, MayAttemptAs}
 use Rattle.file_rules.specs.Codes.{path_call_of}
 use Rattle.file_rules.specs.declared.path_call.PathCall.{PathCall}
+use Rattle.file_state.specs.Asking.{IsKeptRequest, KeepsRequest}
 use Rattle.file_state.specs.declared.state.FileState.{FileState}
 use Rattle.machine_model.specs.State.{State}
 use Rattle.wait_laws.specs.Running.{IsRunning}
@@ -40,9 +45,24 @@ module _ (s : State) (p code : ℕ) (call : PathCall) (running : IsRunning s) (n
           let here : io_call_of code ≡ Some it.call = subst (λ (c : ℕ). io_call_of c ≡ Some it.call) (sym same) it.again.code in
           absurd (none-some it.call (sym alone ∙ sym (code-there code call coded) ∙ here))
 
-  pub may-attempt-call : (processes : ProcState) (state : FileState) → p < 33 → Represents processes s.inner → s.files.io ≡ state.io → MayAttempt call processes state p (length s.terms)
-  may-attempt-call processes state process tied same =
-      subst (λ (io : Io). MayAttemptAs (device_call call) processes io p (length s.terms)) same (by_device (device_call call) refl)
+  -- a request of the process, if it waits in one, is kept with its call
+  kept-request : KeepsRequest s.files.io s.files.records.locks p
+  kept-request = by_request (request_of s.files.records.locks p) refl
+    where
+      by_request : (request : Option Request) → request_of s.files.records.locks p ≡ request → IfSome request (IsKeptRequest s.files.io p)
+      by_request None is = tt
+      by_request (Some request) is =
+          let it = running.requested p request is in record { kept = it.kept; owner = it.owner; covers = it.covers }
+
+  pub may-attempt-call : (processes : ProcState) (state : FileState) → p < 33 → Represents processes s.inner
+      → s.files.io ≡ state.io → s.files.records ≡ state.records → MayAttempt call processes state p (length s.terms)
+  may-attempt-call processes state process tied same records = record {
+    attempt =
+        subst (λ (io : Io). MayAttemptAs (device_call call) processes io p (length s.terms)) same (by_device (device_call call) refl);
+    kept =
+        subst (λ (io : Io). KeepsRequest io state.records.locks p) same
+        (subst (λ (records : Records). KeepsRequest s.files.io records.locks p) records kept-request);
+  }
     where
       by_device : (device : Option IoCall) → device_call call ≡ device → MayAttemptAs device processes s.files.io p (length s.terms)
       by_device None is = none-kept is
@@ -55,4 +75,4 @@ pub may-attempt-here : (old : Kernel) (p : Pid) (code : ℕ) → DoesNext old p 
     → MayAttempt call old.processes old.files p.0 (length before.terms)
 may-attempt-here old p code next before s tied call is_call =
     subst (λ (terms : List TerminalState). MayAttempt call old.processes old.files p.0 (length terms)) (terms-are old p (Attempt code) next before s tied)
-    (may-attempt-call s p.0 code call tied.running (acts-so old p (Attempt code) next before s tied) is_call old.processes old.files next.process.1 tied.inner tied.files.io)
+    (may-attempt-call s p.0 code call tied.running (acts-so old p (Attempt code) next before s tied) is_call old.processes old.files next.process.1 tied.inner tied.files.io tied.files.records)

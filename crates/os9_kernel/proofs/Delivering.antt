@@ -16,8 +16,8 @@ use Rattle.call_rules.specs.Delivery.{delivered, after_delivery, interrupted, ro
 use Rattle.call_rules.specs.Inner.{Inner, no_own, own_at, regs_at, with_records}
 use Rattle.call_rules.specs.Ready.{next_act, delivers}
 use Rattle.proc_state.specs.Delivery.{delivery_end as call_end}
-use Rattle.io_rules.specs.Waiting.{io_interrupted}
-use Rattle.file_rules.specs.Files.{Files, with_io}
+use Rattle.file_rules.specs.Files.{Files}
+use Rattle.file_rules.specs.Locking.{files_interrupted}
 use Rattle.file_rules.specs.Processes.{files_ended}
 use Rattle.event_rules.specs.declared.ends.EventEnd.TheVariants.{Ran, Ended}
 use Rattle.event_rules.specs.Event.{broken_off, delivery_end}
@@ -45,7 +45,7 @@ files-ended-so (Ok t) end is ended files p = let no : CallEnd.Done ≡ CallEnd.E
 files-ended-so (Err status) end is ended files p = refl
 
 -- and where its routine has begun
-pub files-goes-so : (d : Result Inner ℕ) (end : CallEnd) → end ≡ call_end d → end ≢ CallEnd.Ended → (files : Files) (p : ℕ) → with_io files (io_interrupted files.io p) ≡ files_after_delivery files p d
+pub files-goes-so : (d : Result Inner ℕ) (end : CallEnd) → end ≡ call_end d → end ≢ CallEnd.Ended → (files : Files) (p : ℕ) → files_interrupted files p ≡ files_after_delivery files p d
 files-goes-so (Ok t) end is other files p = refl
 files-goes-so (Err status) end is other files p = absurd (other is)
 

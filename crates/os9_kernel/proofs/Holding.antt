@@ -4,7 +4,7 @@ use Rattle.std.proofs.lemmas.Option.{same_Some, slice_get-get_or}
 use Rattle.rbf_model.specs.Volume.{DiskVolume}
 use Rattle.rbf_access.specs.Mounted.{Represents as MediaRepresents}
 use Rattle.rbf_access.specs.declared.volume.Volume.{Volume}
-use Rattle.file_drives.specs.Drives.{DriveView, unused_drive}
+use Rattle.file_drives.specs.Drives.{DriveView, drive_states, unused_drive}
 use Rattle.file_drives.specs.Mounted.{AgreesOnDrive, AreMounted, DriveHolds, kept_at, mounted_at}
 use Rattle.file_drives.proofs.MountedLemmas.{mounted-below}
 use Rattle.machine_model.specs.State.{State}
@@ -32,6 +32,11 @@ drive-holds disks views volumes mounted n v is =
       is = there;
       on = on-drive (kept_at disks n) view (mounted_at volumes n) v is (mounted.each n view there);
     }
+
+-- a state whose volumes are mounted on the drives
+pub holds-mounted : (s : State) (views : List DriveView) → s.files.drives ≡ drive_states views → (disks : List (Option Volume)) → AreMounted disks views s.files.volumes → HoldsVolumes s views
+holds-mounted s views counts disks mounted =
+    record { counts = counts; volumes = λ drive v is. drive-holds disks views s.files.volumes mounted drive v is }
 
 module _ (kernel : Kernel) (devices : Outside) (s : State) (tied : Represents kernel devices s) where
   pub holds-volumes : HoldsVolumes s devices.drives

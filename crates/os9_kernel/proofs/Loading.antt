@@ -20,7 +20,7 @@ use Rattle.call_rules.specs.declared.proc_call.ProcCall.TheVariants as Call
 use Rattle.call_rules.specs.Link.{links_at, mapped_group}
 use Rattle.io_model.specs.declared.kept.Kept.{Kept}
 use Rattle.io_rules.specs.Io.{Io, kept_at}
-use Rattle.io_rules.specs.Waiting.{io_waits_for}
+use Rattle.file_rules.specs.Locking.{call_wait}
 use Rattle.os9_sched.specs.Members.{member_of, wait_at}
 use Rattle.os9_sched.specs.declared.member.Wait.{Wait as Waiting}
 use Rattle.call_laws.proofs.OthersKept.{free-is, living-record}
@@ -174,7 +174,7 @@ rests-by : (kernel : Kernel) (code p : ℕ) (call : ProcCall) → call_of code �
 rests-by kernel code p call coded none =
     subst (λ (wait : Option Waiting). IfSome wait (λ wait. wait_at (member_of kernel.processes.sched.members p) ≡ Some
     wait)) (sym (ap (λ (call : Option ProcCall). wait_by call (slice_index_or kernel.processes.own.items p no_own)
-    (io_waits_for kernel.files.io p)) coded ∙ none)) tt
+    (call_wait kernel.files.io kernel.files.records.locks p)) coded ∙ none)) tt
 
 pub rests-there : (kernel : Kernel) (code p : ℕ) (call : LoadCall) → service_of code ≡ load_in_machine call
     → call ≢ Load → IfSome (wait_for kernel code p) (λ wait. wait_at (member_of kernel.processes.sched.members p) ≡

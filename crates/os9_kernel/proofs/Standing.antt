@@ -1,24 +1,17 @@
--- The files of the kernel stand for those of the machine where a call is broken off and where a process ends.
-use Rattle.std.proofs.Common.{◌≡◌, ℕ, List, sym, ap, ◌∙◌}
+-- The files of the kernel stand for those of the machine where a process ends whose call was broken off.
+use Rattle.std.proofs.Common.{◌≡◌, ℕ, None, ap, ◌∙◌}
 use Rattle.io_rules.specs.Io.{Io}
-use Rattle.io_rules.specs.Waiting.{io_interrupted}
-use Rattle.file_rules.specs.Files.{Files, no_directories, with_directories_of, with_io}
-use Rattle.file_rules.specs.Processes.{files_ended}
-use Rattle.file_drives.specs.Drives.{DriveView}
-use Rattle.file_state.proofs.StateLemmas.{stands-with_io}
-use Rattle.file_state.specs.Tie.{StandsFor}
-use Rattle.file_state.specs.declared.state.FileState.{FileState}
+use Rattle.io_rules.specs.Processes.{io_ended}
+use Rattle.lock_model.specs.Records.{Records, with_waiting}
+use Rattle.file_rules.specs.Files.{Files, no_directories, with_directories_of, with_io, with_records}
+use Rattle.file_rules.specs.Locking.{files_interrupted}
+use Rattle.file_rules.specs.Processes.{files_ended, without_locks_of}
+use Rattle.touch_laws.proofs.Requests.{forgets-again}
 use Rattle.os9_kernel.proofs.Ending.{ended-interrupted}
 
--- the call of a process is broken off
-pub stands-interrupted : (state : FileState) (views : List DriveView) (files : Files) (p : ℕ) (new : Io)
-    → new ≡ io_interrupted state.io p → StandsFor state views files
-    → StandsFor (record { io = new; disks = state.disks; directories = state.directories }) views
-    (with_io files (io_interrupted files.io p))
-stands-interrupted state views files p new is stands =
-    stands-with_io state views files (io_interrupted files.io p) new (ap (λ (io : Io). io_interrupted io p) stands.io ∙ sym is) stands
-
 -- the end of a process whose call was broken off is its end
-pub ended-so : (files : Files) (p : ℕ) → files_ended (with_io files (io_interrupted files.io p)) p ≡ files_ended files p
+pub ended-so : (files : Files) (p : ℕ) → files_ended (files_interrupted files p) p ≡ files_ended files p
 ended-so files p =
-    ap (λ (io : Io). with_directories_of (with_io files io) p no_directories) (ended-interrupted files.io p)
+    let left : Io → Records → Files = λ io records. with_directories_of (without_locks_of (with_records (with_io files io) records) p) p no_directories in
+    ap (λ (io : Io). left io (with_waiting (with_waiting files.records p None) p None)) (ended-interrupted files.io p)
+    ∙ ap (left (io_ended files.io p)) (forgets-again p files.records)

@@ -21,7 +21,7 @@ use Rattle.wait_laws.proofs.RunningLaws.{tick-running}
 
 -- the kernel's files with this input and output
 abbrev pub with_keys : FileState → Io → FileState
-with_keys files io = record { io = io; disks = files.disks; directories = files.directories }
+with_keys files io = record files { io = io }
 
 module _ (old : Kernel) (before : Outside) (s : State) (tied : Represents old before s) where
   -- the processes at the next tick

@@ -1,13 +1,12 @@
 -- What a process waits for since an attempt of its call.
 use Rattle.std.proofs.Common.{◌≡◌, ◌∙◌, ℕ, ◌<◌, Bool, true, false, Option, Some, None, is_some, length, refl, sym, ap, inl, inr}
-use Rattle.std.specs.Prelude.{IfSome, option_map}
+use Rattle.std.specs.Prelude.{IfSome}
 use Rattle.std.proofs.lemmas.Bool.{cases_lt, false≢true}
 use Rattle.std.proofs.lemmas.List.{get_or-set_same, get_or_past}
 use Rattle.os9_base.specs.declared.call.CallEnd.{CallEnd}
 use Rattle.os9_base.specs.declared.call.CallEnd.TheVariants.{Done, Error, Wait, Ended, NoMemory}
 use Rattle.os9_sched.specs.Members.{member_at, member_of, wait_at}
 use Rattle.os9_sched.specs.Schedule.{Schedule, after_wait}
-use Rattle.os9_sched.specs.declared.member.Cause.{Cause}
 use Rattle.os9_sched.specs.declared.member.Standing.TheVariants.{Resting}
 use Rattle.os9_sched.specs.declared.member.Wait.{Wait as Waiting}
 use Rattle.proc_rules.specs.Records.{IsLiving, record_at, is_waiting}
@@ -60,15 +59,6 @@ rests-so None before after p lives first waits = tt
 rests-so (Some wait) before after p lives first waits =
     ap (λ (s : Schedule). wait_at (member_of s.members p)) (waits.first first)
     ∙ rests-at before.sched p wait (member-within before p lives)
-
-pub cause-so : (cause : Option Cause) (before after : ProcState) (p : ℕ) → IsLiving before.table p
-    → is_waiting (record_at before.table p).life ≡ false → IfSome cause (λ cause. WaitsFor before after p
-    (record { cause = cause; until = None }))
-    → IfSome (option_map (λ (cause : Cause). record { cause = cause; until = None }) cause)
-    (λ (wait : Waiting). wait_at (member_of after.sched.members p) ≡ Some wait)
-cause-so None before after p lives first waits = tt
-cause-so (Some cause) before after p lives first waits =
-    rests-so (Some (record { cause = cause; until = None })) before after p lives first waits
 
 -- an attempt of a call on a path that waits leaves the records
 pub records-kept : (m : Inner) (p : ℕ) (effect : IoEffect) (processes : ProcState) → Comes m p (result_of m p effect) Wait processes → processes.table ≡ m.records

@@ -1,8 +1,7 @@
 -- What a process waits for after an attempt of its call.
-use Rattle.std.specs.Prelude.{◌≡◌, ℕ, false, Option, None, Some, IfSome, option_map, slice_index_or}
+use Rattle.std.specs.Prelude.{◌≡◌, ℕ, false, Option, None, Some, IfSome, slice_index_or}
 use Rattle.os9_base.specs.declared.registers.Pid.{Pid}
 use Rattle.os9_sched.specs.Members.{member_of, wait_at}
-use Rattle.os9_sched.specs.declared.member.Cause.{Cause}
 use Rattle.os9_sched.specs.declared.member.Wait.{Wait}
 use Rattle.proc_rules.specs.Records.{record_at, is_waiting}
 use Rattle.proc_rules.specs.declared.own.Own.{Own}
@@ -10,18 +9,24 @@ use Rattle.call_rules.specs.Codes.{call_of}
 use Rattle.call_rules.specs.Inner.{no_own}
 use Rattle.call_rules.specs.declared.proc_call.ProcCall.{ProcCall}
 use Rattle.call_dispatch.specs.Waits.{waits_for}
-use Rattle.io_rules.specs.Waiting.{io_waits_for}
+use Rattle.file_rules.specs.Locking.{call_wait}
+use Rattle.file_state.specs.declared.state.FileState.{FileState}
 use Rattle.os9_kernel.specs.declared.kernel.Kernel.{Kernel}
 
--- what a call on processes waits for, or a call on a path that has this cause
-abbrev pub wait_by : Option ProcCall → Own → Option Cause → Option Wait
-wait_by None own cause = option_map (λ (cause : Cause). record { cause = cause; until = None }) cause
-wait_by (Some call) own cause = waits_for call own
+-- what a call on processes waits for, or a call on a path that waits so
+abbrev pub wait_by : Option ProcCall → Own → Option Wait → Option Wait
+wait_by None own wait = wait
+wait_by (Some call) own wait = waits_for call own
+
+-- what a process waits for, if a call on a path of it waits
+abbrev pub awaited : FileState → ℕ → Option Wait
+awaited files p = call_wait files.io files.records.locks p
 
 -- what the call of this code waits for, for a process that waits in it
 abbrev pub wait_for : Kernel → ℕ → ℕ → Option Wait
 wait_for kernel code p =
-    wait_by (call_of code) (slice_index_or kernel.processes.own.items p no_own) (io_waits_for kernel.files.io p)
+    wait_by (call_of code) (slice_index_or kernel.processes.own.items p no_own)
+    (awaited kernel.files p)
 
 -- The chosen process waits in its call. Since the first attempt of the call, the scheduler has what it waits for.
 pub record WaitsInCall (old new : Kernel) : Type 0 where

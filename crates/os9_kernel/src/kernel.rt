@@ -82,7 +82,7 @@ impl Kernel {
         ensures count { ticks self.new ≡ ticks self.old }
         ensures executed { executed self.new ≡ 0 }
     {
-        let ready = self.files.io.ready_set();
+        let ready = self.files.ready_set(self.processes.tick);
         self.chosen = self.processes.choose(&ready);
         self.executed = 0;
         self.chosen

@@ -6,10 +6,11 @@ ghost use Rattle.proc_state.specs.Tie.{Comes, Represents};
 ghost use Rattle.call_rules.specs.Attempts.{after_attempt, attempt_end};
 ghost use Rattle.call_rules.specs.CallResult.{CallResult};
 ghost use Rattle.call_rules.specs.Inner.{Inner};
-ghost use Rattle.io_rules.specs.Waiting.{io_waits_for};
 ghost use Rattle.file_dispatch.specs.Dates.{sets_date as sets_date_lem};
+ghost use Rattle.file_state.specs.Attempt.{records_settled};
 ghost use Rattle.machine_model.specs.Services.{on_paths, service_of};
 ghost use Rattle.os9_kernel.specs.Calls.{HasEvent};
+ghost use Rattle.os9_kernel.specs.Causes.{awaited};
 ghost use Rattle.os9_kernel.specs.Next.{DoesNext};
 ghost use Rattle.os9_kernel.specs.Outside.{OnDevices, outside};
 ghost use Rattle.os9_kernel.specs.Tie.{Stands, executed, pending};
@@ -28,7 +29,14 @@ use os9_outer::drive::BlockDriver;
 use os9_outer::terminal::CharDriver;
 use os9_sched::{Cause, Wait};
 use proc_calls::telling::tell;
+use record_locks::records::Records;
 use time_calls::clock::now;
+
+/// What is told of a call that does not wait.
+const NO_WAIT: Wait = Wait {
+    cause: Cause::Child,
+    until: None,
+};
 
 impl Kernel {
     /// An attempt of a call on paths, files and directories.
@@ -54,6 +62,7 @@ impl Kernel {
     {
         let time = self.time_for(call);
         let end = attempt(&mut self.processes, &mut self.files, p, call, time, devices);
+        forget_request(&mut self.files.records, p, end);
         self.tell_end(p, end);
         event_end(end)
     }
@@ -79,16 +88,25 @@ impl Kernel {
         ensures told { (m : Inner) (call : CallResult) → Comes m p.0 call end self.old.processes
             → Represents self.new.processes (after_attempt m p.0 call) × (end ≡ attempt_end call) }
         ensures lives { LivesOn end self.new.processes.table p.0 }
-        ensures waits { end ≡ CallEnd.Wait → IfSome (io_waits_for self.old.files.io p.0)
-            (λ cause. WaitsFor self.old.processes self.new.processes p.0
-            (record { cause = cause; until = None })) }
+        ensures waits { end ≡ CallEnd.Wait → IfSome (awaited self.old.files p.0)
+            (λ wait. WaitsFor self.old.processes self.new.processes p.0 wait) }
         ensures files { self.new.files ≡ self.old.files }
         ensures clock { self.new.clock ≡ self.old.clock }
         ensures chosen { self.new.chosen ≡ self.old.chosen }
         ensures executed { executed self.new ≡ executed self.old }
     {
-        let cause = self.files.io.waits_for(p).unwrap_or(Cause::Child);
-        let until = None;
-        tell(&mut self.processes, p, end, Wait { cause, until });
+        let wait = self.files.waits_for(p).unwrap_or(NO_WAIT);
+        tell(&mut self.processes, p, end, wait);
+    }
+}
+
+/// Forgets the request in which a process waited for a record, if its call waits no longer.
+fn forget_request(records: &mut Records, p: Pid, end: CallEnd)
+    requires { p.0 < 33 }
+    ensures { records.new ≡ records_settled p.0 end records.old }
+{
+    match end {
+        CallEnd::Wait => {}
+        CallEnd::Done | CallEnd::Error(_) | CallEnd::Ended | CallEnd::NoMemory => records.cancel(p),
     }
 }

@@ -5,9 +5,10 @@ ghost use Rattle.proc_rules.specs.Records.{IsLiving, record_at};
 ghost use Rattle.proc_state.specs.Tie.{Represents};
 ghost use Rattle.call_rules.specs.End.{ended};
 ghost use Rattle.call_rules.specs.Inner.{Inner, own_at, with_own};
-ghost use Rattle.io_rules.specs.Waiting.{interrupted_count, io_interrupted};
+ghost use Rattle.io_rules.specs.Waiting.{interrupted_count};
 ghost use Rattle.file_drives.specs.Drives.{DriveView};
-ghost use Rattle.file_rules.specs.Files.{Files, with_io};
+ghost use Rattle.file_rules.specs.Files.{Files};
+ghost use Rattle.file_rules.specs.Locking.{files_interrupted};
 ghost use Rattle.file_rules.specs.Processes.{files_ended};
 ghost use Rattle.file_state.specs.Tie.{StandsFor};
 ghost use Rattle.event_rules.specs.Event.{broken_off};
@@ -41,15 +42,15 @@ impl Kernel {
         );
     }
 
-    /// Breaks off the call of a process that waits on a terminal or a pipe, if it does: Y has what
-    /// the call has moved, if it answers a count.
+    /// Breaks off the call of a process that waits on a terminal or a pipe or for a record, if it
+    /// does: Y has what the call has moved, if it answers a count.
     pub(crate) fn break_off(&mut self, p: Pid)
         requires lives { IsLiving self.old.processes.table p.0 }
         ensures tied { (m : Inner) → Represents self.old.processes m → Represents self.new.processes
             (broken_off m p.0 (interrupted_count self.old.files.io p.0)) }
         ensures files { (views : List DriveView) (files : Files)
-            → StandsFor self.old.files views files → StandsFor self.new.files views
-            (with_io files (io_interrupted files.io p.0)) }
+            → StandsFor self.old.files views files
+            → StandsFor self.new.files views (files_interrupted files p.0) }
         ensures clock { self.new.clock ≡ self.old.clock }
         ensures chosen { self.new.chosen ≡ self.old.chosen }
         ensures lives { IsLiving self.new.processes.table p.0 }
@@ -58,7 +59,7 @@ impl Kernel {
             ≡ (record_at self.old.processes.table p.0).signal }
     {
         let regs = self.processes.regs(p);
-        if let Some(y) = self.files.io.interrupt(p) {
+        if let Some(y) = self.files.interrupt(p) {
             self.processes.set_regs(p, Regs { y, ..regs });
         }
     }

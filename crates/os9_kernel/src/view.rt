@@ -1,19 +1,23 @@
-//! The observable part of a kernel: the chosen process, its executed instructions, and the
-//! registers, the bytes and the sleep of each process.
+//! The observable part of a kernel: the chosen process, its executed instructions, the history of
+//! record locks, and of each process the registers, the bytes and whether a tick ends its wait.
 
 ghost use Rattle.std.specs.Prelude.{◌≡◌, ◌<◌, option_map};
 ghost use Rattle.call_rules.specs.Inner.{cells_at};
 ghost use Rattle.call_rules.specs.Send.{is_call as is_call_lem};
+ghost use Rattle.lock_model.specs.History.{AtomicPairs};
 ghost use Rattle.machine_model.specs.State.{State};
 ghost use Rattle.os9_kernel.specs.Outside.{Outside};
 ghost use Rattle.os9_kernel.specs.Tie.{Represents, executed};
-ghost use Rattle.os9_kernel.specs.View.{living_regs, wakes_by_clock as wakes_by_clock_lem};
+ghost use Rattle.os9_kernel.specs.View.{has_limit as has_limit_lem, living_regs, sleeps_by_clock as sleeps_by_clock_lem, wakes_by_clock as wakes_by_clock_lem};
 ghost use Rattle.user_names.specs.UserNames.{user_cell};
 
 use crate::kernel::Kernel;
+use lock_model::history::Entry;
+use lock_model::lock::Request;
 use os9_base::calls::F_SLEEP;
 use os9_base::registers::{Pid, Regs};
 use proc_rules::record::Life;
+use record_locks::records::Records;
 
 impl Kernel {
     /// The process that was chosen last, if one was Ready. None before the first choice.
@@ -52,15 +56,54 @@ impl Kernel {
         self.processes.memory.byte(p, at, 0)
     }
 
-    /// Does a process sleep until a tick that is set?
+    /// The history of reads and writes under record locks, oldest entry first. Each read for update
+    /// in it and the write of that update are one step of their file's history.
+    pub fn history(&self) -> &[Entry]
+        ensures history { (devices : Outside) (s : State) → Represents self.now devices s
+            → result.now ≡ s.files.records.history }
+        ensures atomic { AtomicPairs result.now }
+    {
+        self.files.records.history()
+    }
+
+    /// The record locks with their history, of a kernel that is not used any more.
+    pub fn into_records(self) -> Records
+        ensures { (devices : Outside) (s : State) → Represents self devices s
+            → result ≡ s.files.records }
+    {
+        let files = self.files;
+        files.records
+    }
+
+    /// Does a tick end what a process waits for: a sleep until a tick that is set, or a wait for a
+    /// record, for a limited number of ticks (SS.Ticks)?
     pub fn wakes_by_clock(&self, p: Pid) -> bool
         requires { p.0 < 33 }
         ensures { (devices : Outside) (s : State) → Represents self.now devices s
-            → result ≡ wakes_by_clock_lem s.inner p.0 }
+            → result ≡ wakes_by_clock_lem s p.0 }
+    {
+        self.sleeps_by_clock(p) || has_limit(self.files.records.locks().request_of(p))
+    }
+
+    /// Does a process sleep until a tick that is set?
+    fn sleeps_by_clock(&self, p: Pid) -> bool
+        requires { p.0 < 33 }
+        ensures { (devices : Outside) (s : State) → Represents self.now devices s
+            → result ≡ sleeps_by_clock_lem s.inner p.0 }
     {
         let waits = matches!(self.processes.table.life(p), Some(Life::Waiting));
         let own = self.processes.own(p);
         waits && is_call(own.call, F_SLEEP) && own.until.is_some()
+    }
+}
+
+/// Does a request for a record wait for a limited number of ticks?
+fn has_limit(request: Option<Request>) -> bool
+    ensures { result ≡ has_limit_lem request }
+{
+    match request {
+        None => false,
+        Some(request) => 1 < request.ticks,
     }
 }
 

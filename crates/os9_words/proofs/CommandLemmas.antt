@@ -14,7 +14,7 @@ use Rattle.os9_words.specs.declared.command.Command.{Command}
 use Rattle.os9_words.specs.declared.command.Command.TheVariants.{Asm, Boot, Check, Debug, Run, Stress, Vol}
 use Rattle.os9_words.specs.declared.command.RunWords.{RunWords}
 use Rattle.os9_words.specs.declared.debug_words.DebugWords.{DebugWords}
-use Rattle.os9_words.specs.Command.{boot_of, boot_with, check_of, check_options, command_of, most_images, most_seed, run_of, seed_of, stress_of, stress_options, IsCommand, IsRun}
+use Rattle.os9_words.specs.Command.{boot_of, boot_options, boot_words_with, check_of, check_options, command_of, most_images, most_seed, run_of, seed_of, stress_of, stress_options, with_history, IsBoot, IsCommand, IsRun}
 use Rattle.os9_words.specs.Debug.{debug_of, debug_options, debug_with}
 use Rattle.os9_words.specs.Run.{blocks_of, run_options, run_words_of, run_words_with}
 use Rattle.os9_words.specs.Asm.{asm_of, asm_options}
@@ -71,25 +71,31 @@ run-complete (Some modules) script (Some slices) (Some n) None run bounded civil
 run-complete (Some modules) script (Some slices) (Some n) (Some t) run bounded civil is =
     subst IsRun (some-is _ run is) (record {
       files = refl;
+      no_history = refl;
       machine = record { blocks = bounded n refl; time = civil t refl };
     })
 
 boot-complete : (images : List (List ℕ)) (script slices : Option (List ℕ)) (blocks : Option ℕ)
-    (start : Option TimePacket) (command : Command) → IsBounded blocks → IsTime start → boot_with images script slices
-    blocks start ≡ Some command → IsCommand command
-boot-complete images None slices blocks start command bounded civil is = absurd (cc is)
-boot-complete images (Some script) None blocks start command bounded civil is = absurd (cc is)
-boot-complete images (Some script) (Some slices) None start command bounded civil is = absurd (cc is)
-boot-complete images (Some script) (Some slices) (Some n) None command bounded civil is = absurd (cc is)
-boot-complete images (Some script) (Some slices) (Some n) (Some t) command bounded civil is =
+    (start : Option TimePacket) (boot : RunWords) → IsBounded blocks → IsTime start → boot_words_with images script
+    slices blocks start ≡ Some boot → IsBoot boot
+boot-complete images None slices blocks start boot bounded civil is = absurd (cc is)
+boot-complete images (Some script) None blocks start boot bounded civil is = absurd (cc is)
+boot-complete images (Some script) (Some slices) None start boot bounded civil is = absurd (cc is)
+boot-complete images (Some script) (Some slices) (Some n) None boot bounded civil is = absurd (cc is)
+boot-complete images (Some script) (Some slices) (Some n) (Some t) boot bounded civil is =
     by (nat_le 1 (length images)) (nat_le (length images) most_images) refl refl is
   where
     by : (some few : Bool) → nat_le 1 (length images) ≡ some → nat_le (length images) most_images ≡ few
-        → (if some && few then Some
-        (Boot (record { files = images; script = Some script; slices = slices; blocks = n; start = t })) else None) ≡
-        Some command → IsCommand command
+        → (if some && few then Some (record {
+          files = images;
+          script = Some script;
+          slices = slices;
+          blocks = n;
+          start = t;
+          history = None;
+        }) else None) ≡ Some boot → IsBoot boot
     by true true some few is =
-        subst IsCommand (some-is _ command is) (record {
+        subst IsBoot (some-is _ boot is) (record {
           files = record {
             some = leb-true 1 (length images) some;
             few = leb-true (length images) most_images few;
@@ -99,6 +105,13 @@ boot-complete images (Some script) (Some slices) (Some n) (Some t) command bound
         })
     by true false some few is = absurd (cc is)
     by false few some fewer is = absurd (cc is)
+
+-- a history makes no difference to that
+history-complete : (boot : RunWords) (history : Option (List ℕ)) → IsBoot boot → IsBoot (with_history boot history)
+history-complete boot history is = record {
+  files = record { some = is.files.some; few = is.files.few; script = is.files.script };
+  machine = record { blocks = is.machine.blocks; time = is.machine.time };
+}
 
 check-complete : (image : Option (List ℕ)) (command : Command) → option_map Check image ≡ Some command → IsCommand command
 check-complete None command is = absurd (cc is)
@@ -136,8 +149,22 @@ runs-complete given command is = by (run_words_of given) refl is
     by (Some run) same is = subst IsCommand (some-is (Run run) command is) (run-words-complete given run same)
 
 boots-complete : (given : Given) (command : Command) → boot_of given ≡ Some command → IsCommand command
-boots-complete given command is =
-    boot-complete given.arguments (value_of given (codes "script")) (value_of given (codes "slices")) (blocks_of given) (time_of given) command (blocks-are given) (time-is given) is
+boots-complete given command is = by words refl is
+  where
+    history : Option (List ℕ)
+    history = value_of given (codes "history")
+
+    words : Option RunWords
+    words =
+        boot_words_with given.arguments (value_of given (codes "script")) (value_of given (codes "slices")) (blocks_of given) (time_of given)
+
+    by : (boot : Option RunWords) → words ≡ boot → option_map (λ (boot : RunWords). Boot (with_history boot history)) boot ≡ Some command → IsCommand command
+    by None same is = absurd (cc is)
+    by (Some boot) same is =
+        subst IsCommand (some-is (Boot (with_history boot history)) command is)
+        (history-complete boot history (boot-complete given.arguments (value_of given (codes "script"))
+        (value_of given (codes "slices")) (blocks_of given) (time_of given) boot (blocks-are given)
+        (time-is given) same))
 
 checks-complete : (given : Given) (command : Command) → check_of given ≡ Some command → IsCommand command
 checks-complete given command is = check-complete (only_argument given) command is
@@ -172,11 +199,13 @@ debugs-complete (Some words) command complete is = subst IsCommand (some-is (Deb
 pub is-complete : (words : List (List ℕ)) (command : Command) → command_of words ≡ Some command → IsCommand command
 is-complete [] command is = absurd (cc is)
 is-complete (first ∷ words) command is =
-    by (bytes_eq first (codes "run")) (bytes_eq first (codes "boot")) (bytes_eq first (codes "check")) (bytes_eq first (codes "stress")) (bytes_eq first (codes "vol")) (bytes_eq first (codes "asm")) (bytes_eq first (codes "debug")) is
+    by (bytes_eq first (codes "run")) (bytes_eq first (codes "boot")) (bytes_eq first (codes "check"))
+    (bytes_eq first (codes "stress")) (bytes_eq first (codes "vol")) (bytes_eq first (codes "asm"))
+    (bytes_eq first (codes "debug")) is
   where
     by : (run boot check stress vol asm debug : Bool)
         → (if run then option_and_then run_of (words_give run_options words) else (if boot then option_and_then
-        boot_of (words_give run_options words) else (if check then option_and_then check_of
+        boot_of (words_give boot_options words) else (if check then option_and_then check_of
         (words_give check_options words) else (if stress then option_and_then stress_of
         (words_give stress_options words) else (if vol then option_map Vol
         (option_and_then vol_of (words_give vol_options words)) else (if asm then option_map Asm
@@ -186,7 +215,7 @@ is-complete (first ∷ words) command is =
     by true boot check stress vol asm debug is =
         given-complete (words_give run_options words) run_of command (λ given e. runs-complete given command e) is
     by false true check stress vol asm debug is =
-        given-complete (words_give run_options words) boot_of command (λ given e. boots-complete given command e) is
+        given-complete (words_give boot_options words) boot_of command (λ given e. boots-complete given command e) is
     by false false true stress vol asm debug is =
         given-complete (words_give check_options words) check_of command (λ given e. checks-complete given command e) is
     by false false false true vol asm debug is =

@@ -109,7 +109,8 @@ tool-complete verb image start arguments None vol other civil is = by (nat_eq (l
         })
 
 -- another verb than `format`
-pub other-verb : (verb : Verb) (image : List ℕ) (start : TimePacket) (words : Given) → verb ≢ Format → verb_with verb image start words ≡ tool_with verb image start words.arguments (value_of words (codes "cluster"))
+pub other-verb : (verb : Verb) (image : List ℕ) (start : TimePacket) (words : Given) → verb ≢ Format
+    → verb_with verb image start words ≡ tool_with verb image start words.arguments (value_of words (codes "cluster"))
 other-verb Format image start words other = absurd (other refl)
 other-verb Put image start words other = refl
 other-verb Get image start words other = refl
@@ -182,6 +183,17 @@ differs word name other = by (bytes_eq word name) refl
     by true same = absurd (other ((bytes_eq-Decides word name).0 same))
 
 -- a word that is none of them
-pub no-verb : (word : List ℕ) → word ≢ codes "format" → word ≢ codes "put" → word ≢ codes "get" → word ≢ codes "mkdir" → word ≢ codes "delete" → word ≢ codes "dir" → word ≢ codes "repair" → verb_of word ≡ None
+pub no-verb : (word : List ℕ) → word ≢ codes "format" → word ≢ codes "put" → word ≢ codes "get" → word ≢ codes "mkdir"
+    → word ≢ codes "delete" → word ≢ codes "dir" → word ≢ codes "repair" → verb_of word ≡ None
 no-verb word format put get mkdir delete dir repair =
-    rw (differs word (codes "format") format, differs word (codes "put") put, differs word (codes "get") get, differs word (codes "mkdir") mkdir, differs word (codes "delete") delete, differs word (codes "dir") dir, differs word (codes "repair") repair) refl
+    rw (
+      differs word (codes "format") format,
+      differs word (codes "put") put,
+      differs word (codes "get") get,
+      differs
+          word (codes "mkdir") mkdir,
+      differs word (codes "delete") delete,
+      differs word (codes "dir") dir,
+      differs word
+          (codes "repair") repair,
+    ) refl

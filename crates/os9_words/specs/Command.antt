@@ -1,5 +1,5 @@
 -- The words of a command line (this project's own).
-use Rattle.std.specs.Prelude.{◌≡◌, ℕ, ◌<◌, ◌≤◌, true, nat_le, ◌&&◌, length, Option, Some, None, IsSome, option_and_then, option_map, Result, Ok, Err, ⊤, List, [], ◌∷◌, bytes_eq, codes, if◌then◌else◌}
+use Rattle.std.specs.Prelude.{◌≡◌, ℕ, ◌<◌, ◌≤◌, true, nat_le, ◌&&◌, length, Option, Some, None, IsSome, option_and_then, option_map, Result, Ok, Err, ⊤, List, [], ◌∷◌, ◌++◌, bytes_eq, codes, if◌then◌else◌}
 use Rattle.std.specs.Option.{option_map_or}
 use Rattle.os9_base.specs.declared.registers.TimePacket.{TimePacket}
 use Rattle.civil_time.specs.CivilTime.{is_time_packet}
@@ -32,31 +32,41 @@ run_with modules script slices blocks start = option_map Run (run_words_with mod
 abbrev pub run_of : Given → Option Command
 run_of words = option_map Run (run_words_of words)
 
+-- the options of `boot`: those of `run`, and `--history`
+abbrev pub boot_options : List (List ℕ)
+boot_options = run_options ++ codes "history" ∷ []
+
 -- a boot takes one to four images
 abbrev pub most_images : ℕ
 most_images = 4
 
--- `boot` of these images, with this script, these slices and blocks, and this start; defined if one to four images, a
--- script, slices, a number of blocks and a time are given
-abbrev pub boot_with : List (List ℕ) → (script slices : Option (List ℕ)) (blocks : Option ℕ) (start : Option TimePacket)
-    → Option Command
-boot_with images (Some script) (Some slices) (Some blocks) (Some start) =
+-- a boot of these images, with this script, these slices and blocks, and this start, which writes no history; defined
+-- if one to four images, a script, slices, a number of blocks and a time are given
+abbrev pub boot_words_with : List (List ℕ) → (script slices : Option (List ℕ)) (blocks : Option ℕ)
+    (start : Option TimePacket) → Option RunWords
+boot_words_with images (Some script) (Some slices) (Some blocks) (Some start) =
     if nat_le 1 (length images) && nat_le (length images) most_images
-    then Some (Boot (record {
+    then Some (record {
       files = images;
       script = Some script;
       slices = slices;
       blocks = blocks;
       start = start;
-    }))
+      history = None;
+    })
     else None
-boot_with _ _ _ _ _ = None
+boot_words_with _ _ _ _ _ = None
 
--- `boot IMAGE.. --script SCRIPT --slices SLICES`, optionally with `--blocks N` and `--time T`
+-- a boot that writes its history in this file, if one is given
+abbrev pub with_history : RunWords → Option (List ℕ) → RunWords
+with_history boot history = record boot { history = history }
+
+-- `boot IMAGE.. --script SCRIPT --slices SLICES`, optionally with `--blocks N`, `--time T` and `--history FILE`
 abbrev pub boot_of : Given → Option Command
 boot_of words =
-    boot_with words.arguments (value_of words (codes "script")) (value_of words (codes "slices")) (blocks_of words)
-    (time_of words)
+    option_map (λ boot. Boot (with_history boot (value_of words (codes "history"))))
+    (boot_words_with words.arguments (value_of words (codes "script")) (value_of words (codes "slices"))
+    (blocks_of words) (time_of words))
 
 -- `check IMAGE`
 abbrev pub check_of : Given → Option Command
@@ -81,7 +91,7 @@ command_of (command ∷ words) =
     if bytes_eq command (codes "run")
     then option_and_then run_of (words_give run_options words)
     else (if bytes_eq command (codes "boot")
-    then option_and_then boot_of (words_give run_options words)
+    then option_and_then boot_of (words_give boot_options words)
     else (if bytes_eq command (codes "check")
     then option_and_then check_of (words_give check_options words)
     else (if bytes_eq command (codes "stress")
@@ -105,9 +115,10 @@ pub record SetsMachine (run : RunWords) : Type 0 where
   pub blocks : (8 ≤ run.blocks) × (run.blocks ≤ 256)
   pub time : is_time_packet run.start ≡ true
 
--- a run names one file of modules
+-- a run names one file of modules, and writes no history
 pub record IsRun (run : RunWords) : Type 0 where
   pub files : length run.files ≡ 1
+  pub no_history : run.history ≡ None
   pub machine : SetsMachine run
 
 -- a boot names its images and a script

@@ -7,7 +7,7 @@ use Rattle.option_reader.specs.Given.{Given, only_argument, value_of}
 use Rattle.os9_words.specs.Times.{time_of}
 use Rattle.os9_words.specs.declared.command.RunWords.{RunWords}
 
--- the options of `run` and of `boot`
+-- the options of `run`
 abbrev pub run_options : List (List ℕ)
 run_options = codes "slices" ∷ codes "script" ∷ codes "blocks" ∷ codes "time" ∷ []
 
@@ -21,7 +21,14 @@ blocks_of words =
 abbrev pub run_words_with : (modules script slices : Option (List ℕ)) (blocks : Option ℕ) (start : Option TimePacket)
     → Option RunWords
 run_words_with (Some modules) script (Some slices) (Some blocks) (Some start) =
-    Some (record { files = modules ∷ []; script = script; slices = slices; blocks = blocks; start = start })
+    Some (record {
+      files = modules ∷ [];
+      script = script;
+      slices = slices;
+      blocks = blocks;
+      start = start;
+      history = None;
+    })
 run_words_with _ _ _ _ _ = None
 
 -- `MODULES --slices SLICES`, optionally with `--script SCRIPT`, `--blocks N` and `--time T`

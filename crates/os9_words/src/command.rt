@@ -1,7 +1,7 @@
-ghost use Rattle.std.specs.Prelude.{◌≡◌, ◌≢◌, ◌<◌, ◌≤◌, ◌&&◌, nat_le, true, None, Some, IfOk, IfSome, [], ◌∷◌, length, map, option_and_then, option_map, string_bytes, take};
+ghost use Rattle.std.specs.Prelude.{◌≡◌, ◌≢◌, ◌<◌, ◌≤◌, ◌&&◌, nat_le, true, None, Some, IfOk, IfSome, [], ◌∷◌, codes, length, map, option_and_then, option_map, string_bytes, take};
 ghost use Rattle.std.specs.List.{All};
 ghost use Rattle.civil_time.specs.CivilTime.{is_time_packet};
-ghost use Rattle.os9_words.specs.Command.{command_of, check_options, most_images, stress_options, IsCommand, IsRun, OnRefused};
+ghost use Rattle.os9_words.specs.Command.{boot_options, command_of, check_options, most_images, stress_options, IsCommand, IsRun, OnRefused};
 ghost use Rattle.os9_words.specs.Command.{boot_of as boot_of_lem, check_of as check_of_lem, run_of as run_of_lem};
 ghost use Rattle.os9_words.specs.Command.{seed_of as seed_of_lem, stress_of as stress_of_lem};
 ghost use Rattle.os9_words.specs.Times.{time_of as time_of_lem};
@@ -10,7 +10,7 @@ ghost use Rattle.os9_words.specs.Debug.{debug_of as debug_of_lem, debug_options}
 ghost use Rattle.os9_words.specs.Run.{blocks_of as blocks_of_lem, run_options, run_words_of};
 ghost use Rattle.os9_words.specs.Vol.{vol_of as vol_of_lem, vol_options};
 ghost use Rattle.os9_words.specs.declared.command.Command.TheVariants.{Asm, Debug, Vol};
-ghost use Rattle.option_reader.specs.Given.{words_give};
+ghost use Rattle.option_reader.specs.Given.{value_of, words_give};
 
 use crate::asm_words::{AsmWords, read_asm};
 use crate::debug_words::{DebugWords, read_debug};
@@ -36,6 +36,8 @@ pub struct RunWords {
     pub blocks: u16,
     /// The date and time at the start.
     pub start: TimePacket,
+    /// The file in which a boot writes the history of its record locks, if one is given.
+    pub history: Option<Word>,
 }
 
 /// A command line.
@@ -44,8 +46,8 @@ pub enum Command {
     /// `run MODULES --slices SLICES`, optionally with `--script SCRIPT`, `--blocks N` and
     /// `--time T`: runs the program of a file of modules.
     Run(RunWords),
-    /// `boot IMAGE.. --script SCRIPT --slices SLICES`, optionally with `--blocks N` and `--time T`:
-    /// runs the program of the boot file of the first of one to four images.
+    /// `boot IMAGE.. --script SCRIPT --slices SLICES`, optionally with `--blocks N`, `--time T` and
+    /// `--history FILE`: runs the program of the boot file of the first of one to four images.
     Boot(RunWords),
     /// `check IMAGE`: tests the image in a file.
     Check(Word),
@@ -138,12 +140,12 @@ fn read_run(alloc: Global, words: &[String]) -> Result<Command, WordsFault>
 // Reads the words after `boot`.
 fn read_boot(alloc: Global, words: &[String]) -> Result<Command, WordsFault>
     ensures command { IfOk result (λ read. option_and_then boot_of_lem
-        (words_give run_options (map string_bytes words.now)) ≡ Some read) }
+        (words_give boot_options (map string_bytes words.now)) ≡ Some read) }
     ensures complete { IfOk result IsCommand }
     ensures refused { OnRefused result (option_and_then boot_of_lem
-        (words_give run_options (map string_bytes words.now)) ≡ None) }
+        (words_give boot_options (map string_bytes words.now)) ≡ None) }
 {
-    let options = ["slices", "script", "blocks", "time"];
+    let options = ["slices", "script", "blocks", "time", "history"];
     let given = read_options(alloc, &options, words)?;
     boot_of(alloc, &given)
 }
@@ -264,7 +266,8 @@ pub(crate) fn run_given(alloc: Global, given: &GivenWords<'_>) -> Result<RunWord
     }
 }
 
-// `boot IMAGE.. --script SCRIPT --slices SLICES`, optionally with `--blocks N` and `--time T`.
+// `boot IMAGE.. --script SCRIPT --slices SLICES`, optionally with `--blocks N`, `--time T` and
+// `--history FILE`.
 fn boot_of(alloc: Global, given: &GivenWords<'_>) -> Result<Command, WordsFault>
     ensures command { IfOk result (λ read. boot_of_lem given.now ≡ Some read) }
     ensures complete { IfOk result IsCommand }
@@ -309,6 +312,7 @@ fn boot_words(
       slices = slices.now;
       blocks = blocks;
       start = start;
+      history = value_of given.now (codes "history");
     }) }
 {
     Ok(RunWords {
@@ -317,6 +321,7 @@ fn boot_words(
         slices: Word::copy_of(alloc, slices)?,
         blocks,
         start,
+        history: copy_if_given(alloc, given.value("history"))?,
     })
 }
 
@@ -378,6 +383,7 @@ fn run_words(
       slices = slices.now;
       blocks = blocks;
       start = start;
+      history = None;
     }) }
 {
     let modules = Word::copy_of(alloc, modules)?;
@@ -387,6 +393,7 @@ fn run_words(
         slices: Word::copy_of(alloc, slices)?,
         blocks,
         start,
+        history: None,
     })
 }
 

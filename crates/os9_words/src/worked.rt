@@ -2,10 +2,10 @@
 
 ghost use Rattle.std.specs.Prelude.{◌≡◌, [], ◌∷◌, Some, None, codes, option_map};
 ghost use Rattle.civil_time.specs.Rows.{at};
-ghost use Rattle.os9_words.specs.Command.{boot_with, command_of, run_with};
+ghost use Rattle.os9_words.specs.Command.{boot_words_with, command_of, run_with, with_history};
 ghost use Rattle.os9_words.specs.Debug.{debug_with};
 ghost use Rattle.os9_words.specs.Run.{run_words_with};
-ghost use Rattle.os9_words.specs.declared.command.Command.TheVariants.{Asm, Debug, Stress};
+ghost use Rattle.os9_words.specs.declared.command.Command.TheVariants.{Asm, Boot, Debug, Stress};
 
 /// Command lines with both forms of an option, in any order.
 pub fn runs_are_read()
@@ -34,19 +34,31 @@ pub fn scripts_are_read()
 pub fn boots_are_read()
     ensures one_image { command_of (codes "boot" ∷ codes "a" ∷ codes "--script=t"
         ∷ codes "--slices=s" ∷ [])
-        ≡ boot_with (codes "a" ∷ []) (Some (codes "t")) (Some (codes "s")) (Some 64)
-        (Some (at 90 1 1 0 0 0)) }
+        ≡ option_map Boot (boot_words_with (codes "a" ∷ []) (Some (codes "t"))
+        (Some (codes "s")) (Some 64) (Some (at 90 1 1 0 0 0))) }
     ensures some_images { command_of (codes "boot" ∷ codes "b" ∷ codes "--slices=s" ∷ codes "a"
         ∷ codes "--script" ∷ codes "t" ∷ codes "b" ∷ codes "--blocks=8" ∷ [])
-        ≡ boot_with (codes "b" ∷ codes "a" ∷ codes "b" ∷ []) (Some (codes "t")) (Some (codes "s"))
-        (Some 8) (Some (at 90 1 1 0 0 0)) }
+        ≡ option_map Boot (boot_words_with (codes "b" ∷ codes "a" ∷ codes "b" ∷ [])
+        (Some (codes "t")) (Some (codes "s")) (Some 8) (Some (at 90 1 1 0 0 0))) }
 {}
 
-/// Words of a boot without a script, without an image, and with one image too many.
+/// A command line of a boot with a history.
+pub fn histories_are_read()
+    ensures history { command_of (codes "boot" ∷ codes "a" ∷ codes "--history" ∷ codes "h"
+        ∷ codes "--script=t" ∷ codes "--slices=s" ∷ [])
+        ≡ option_map (λ boot. Boot (with_history boot (Some (codes "h"))))
+        (boot_words_with (codes "a" ∷ []) (Some (codes "t")) (Some (codes "s")) (Some 64)
+        (Some (at 90 1 1 0 0 0))) }
+{}
+
+/// Words of a boot without a script, without an image, and with one image too many, and of a run
+/// with a history.
 pub fn boots_are_refused()
     ensures no_script { command_of (codes "boot" ∷ codes "a" ∷ codes "--slices=s" ∷ []) ≡ None }
     ensures no_image { command_of (codes "boot" ∷ codes "--script=t" ∷ codes "--slices=s" ∷ [])
         ≡ None }
+    ensures run_with_history { command_of (codes "run" ∷ codes "m" ∷ codes "--slices=s"
+        ∷ codes "--history=h" ∷ []) ≡ None }
     ensures five_images { command_of (codes "boot" ∷ codes "a" ∷ codes "b" ∷ codes "c" ∷ codes "d"
         ∷ codes "e" ∷ codes "--script=t" ∷ codes "--slices=s" ∷ []) ≡ None }
 {}
@@ -59,8 +71,8 @@ pub fn times_are_read()
         (Some (at 100 2 29 23 59 59)) }
     ensures one_word { command_of (codes "boot" ∷ codes "--time=2155-12-31T23:59:59" ∷ codes "a"
         ∷ codes "--script=t" ∷ codes "--slices=s" ∷ [])
-        ≡ boot_with (codes "a" ∷ []) (Some (codes "t")) (Some (codes "s")) (Some 64)
-        (Some (at 255 12 31 23 59 59)) }
+        ≡ option_map Boot (boot_words_with (codes "a" ∷ []) (Some (codes "t"))
+        (Some (codes "s")) (Some 64) (Some (at 255 12 31 23 59 59))) }
     ensures no_leap_day { command_of (codes "run" ∷ codes "h" ∷ codes "--slices=s"
         ∷ codes "--time=1900-02-29T00:00:00" ∷ []) ≡ None }
     ensures day_alone { command_of (codes "run" ∷ codes "h" ∷ codes "--slices=s"

@@ -1,10 +1,16 @@
--- A descriptor whose first fields are written over keeps its segments.
-use Rattle.std.proofs.Common.{◌≡◌, ℕ, ◌+◌, ◌≤◌, zero, suc, List, ◌∷◌, length, refl, sym, ap, ap₂, ◌∙◌, inr, arith, slice_index}
+-- Descriptors whose fields are written over.
+use Rattle.std.proofs.Common.{◌≡◌, ℕ, ◌+◌, ◌-◌, ◌<◌, ◌≤◌, zero, suc, List, [], ◌∷◌, ◌++◌, length, take, drop, get_or, refl, sym, ap, ap₂, ◌∙◌, inl, inr, arith, slice_index, ⊎_elim, length-take, length-drop}
 use Rattle.std.specs.Prelude.{map, take_while}
 use Rattle.std.specs.List.{range_with_len}
+use borrow.Rule.Slice.PartMut.{put_mid}
+use Rattle.std.proofs.lemmas.Bool.{cases_lt}
+use Rattle.std.proofs.lemmas.List.{get_or_append_left, get_or-append_right, get_or-take, get_or-drop, drop_all, get_or_past}
 use Rattle.rbf_model.specs.Fields.{segment_field, segments_field, has_sectors}
 use Rattle.rbf_sector.specs.Parts.{KeepsBeside}
+use Rattle.rbf_sector.specs.declared.fd.Fd.{Fd}
+use Rattle.rbf_sector.proofs.Written.{number_kept, bytes_kept}
 use Rattle.rbf_sector.proofs.Pairs.{pair_kept}
+use Rattle.rbf_write.specs.Changed.{HasFields}
 
 -- segment lists of descriptors that agree from 16 on
 map_same : {X : Type 0} (f h : ℕ → X) (a n : ℕ) → ((i : ℕ) → f i ≡ h i) → map f (range_with_len a n) ≡ map h (range_with_len a n)

@@ -25,6 +25,11 @@ pub record IsLoaded (media : Option (List ℕ)) (n : ℕ) (loaded : Loaded) : Ty
   pub list_is : segments_field loaded.descriptor ≡ loaded.file.segs
   pub says : OnFile media n (λ file. IsFdOf file loaded.file)
 
+-- it was read from the descriptor of a data file
+pub record IsLoadedFile (media : Option (List ℕ)) (loaded : Loaded) : Type 0 where
+  pub file : HasDataFile media loaded.number
+  pub read : IsLoaded media loaded.number loaded
+
 -- `count` clusters hold bytes up to an end that a descriptor can name
 pub record IsClusterCount (k : ℕ) (segments : List (ℕ × ℕ)) (end count : ℕ) : Type 0 where
   pub fits : end < 2 ^ 32

@@ -24,6 +24,9 @@ pub record Laying : Type 0 where
   pub bytes : List ℕ
   pub now : TimePacket
 
+abbrev pub laying_of : ℕ → ℕ → List ℕ → TimePacket → Laying
+laying_of n at bytes now = record { number = n; at = at; bytes = bytes; now = now }
+
 -- the resulting contents
 abbrev pub laid_contents : List ℕ → Laying → List ℕ
 laid_contents contents laying = put_at (extended contents laying.at) laying.at laying.bytes

@@ -3,9 +3,9 @@ ghost use Rattle.rbf_access.specs.Cached.{IsCacheOf};
 ghost use Rattle.rbf_access.specs.Drive.{Counts};
 ghost use Rattle.rbf_access.specs.Faults.{file_fault};
 ghost use Rattle.rbf_access.specs.Mounted.{IsMounted, kept};
-ghost use Rattle.rbf_write.specs.Files.{HasDataFile, IsClusterCount, IsLoaded, OnVolumeFile};
+ghost use Rattle.rbf_write.specs.Files.{HasDataFile, IsClusterCount, IsLoaded, IsLoadedFile, OnVolumeFile};
 ghost use Rattle.rbf_write.specs.Finished.{IsFinished, MayFinish};
-ghost use Rattle.rbf_write.specs.Laying.{AnswersLaying};
+ghost use Rattle.rbf_write.specs.Laying.{AnswersLaying, laying_of};
 ghost use Rattle.rbf_write.specs.Outcomes.{IsRefusal, OnMarked, laying_calls};
 
 use crate::clusters::clusters_for;
@@ -38,8 +38,7 @@ pub fn lay_over(
     requires loaded { IsLoaded (media d.old) loaded.now.number loaded.now }
     requires some { min loaded.now.file.size at < at + length from.now }
     ensures answer { OnVolumeFile (media d.old) loaded.now.number (λ v file. AnswersLaying v file
-        (record { number = loaded.now.number; at = at; bytes = from.now; now = now })
-        (media d.old) (media d.new) result) }
+        (laying_of loaded.now.number at from.now now) (media d.old) (media d.new) result) }
     ensures calls_kept { OnErr result (IsRefusal result → drive_calls d.new ≡ drive_calls d.old) }
     ensures mounted { IsMounted volume.new (media d.new) }
     ensures counts { OnMarked (media d.old) (media d.new) loaded.now.number result (λ v file marks.
@@ -69,14 +68,12 @@ fn lay_longer(
     now: TimePacket,
 ) -> Result<(), FileFault>
     requires mounted { IsMounted volume.old (media d.old) }
-    requires file { HasDataFile (media d.old) loaded.now.number }
-    requires loaded { IsLoaded (media d.old) loaded.now.number loaded.now }
+    requires loaded { IsLoadedFile (media d.old) loaded.now }
     requires some { min loaded.now.file.size at < at + length from.now }
     requires count { IsClusterCount
         volume.old.ident.cluster loaded.now.file.segs (at + length from.now) count }
     ensures answer { OnVolumeFile (media d.old) loaded.now.number (λ v file. AnswersLaying v file
-        (record { number = loaded.now.number; at = at; bytes = from.now; now = now })
-        (media d.old) (media d.new) result) }
+        (laying_of loaded.now.number at from.now now) (media d.old) (media d.new) result) }
     ensures calls_kept { OnErr result (IsRefusal result → drive_calls d.new ≡ drive_calls d.old) }
     ensures mounted { IsMounted volume.new (media d.new) }
     ensures counts { OnMarked (media d.old) (media d.new) loaded.now.number result (λ v file marks.

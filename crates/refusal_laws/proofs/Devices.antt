@@ -25,7 +25,7 @@ use Rattle.file_rules.specs.Open.{is_for_execution}
 use Rattle.file_rules.specs.Way.{list_of}
 use Rattle.file_rules.specs.declared.path_call.PathCall.{PathCall}
 use Rattle.file_rules.specs.declared.path_call.PathCall.TheVariants as Call
-use Rattle.file_rules.specs.declared.places.FilePlace.{FilePlace}
+use Rattle.lock_model.specs.declared.place.FilePlace.{FilePlace}
 use Rattle.file_laws.specs.Kinds.{AreKinds, IsOnTarget}
 use Rattle.file_laws.proofs.Named.{path-desc}
 use Rattle.refusal_laws.specs.Causes.{HasNoDevice, IsBadName, IsNoDrive, IsOn, IsOnDisk, IsUnreadable, ListBreaksOff, LooksFor, StatedCause, device_at, search_of}

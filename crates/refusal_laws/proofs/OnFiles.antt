@@ -22,8 +22,8 @@ use Rattle.touch_laws.proofs.Attempts.{ends-refused, on-device, step-splits}
 use Rattle.touch_laws.proofs.Caused.{Caused, StepCaused}
 use Rattle.touch_laws.proofs.CausedDeletes.{delete-caused, deletx-caused}
 use Rattle.touch_laws.proofs.CausedNames.{chgdir-caused, create-caused, makdir-caused, open-caused}
-use Rattle.touch_laws.proofs.CausedNumbers.{getstt-caused, made, perr-caused, read-caused, readln-caused, seek-caused, setstt-caused, write-caused, writln-caused}
-use Rattle.touch_laws.proofs.Splits.{Splits, not-refused}
+use Rattle.touch_laws.proofs.CausedNumbers.{close-caused, getstt-caused, made, perr-caused, read-caused, readln-caused, seek-caused, setstt-caused, write-caused, writln-caused}
+use Rattle.touch_laws.proofs.Splits.{EndsSo, Splits, not-refused}
 use Rattle.machine_model.specs.State.{State}
 use Rattle.refusal_laws.specs.RefusedEvents.{FailsOnDrive, made_by, step_of}
 
@@ -42,7 +42,7 @@ step-caused Call.ReadLn asker files terms = readln-caused asker files terms
 step-caused Call.WritLn asker files terms = writln-caused asker files terms
 step-caused Call.GetStt asker files terms = getstt-caused asker files terms
 step-caused Call.SetStt asker files terms = setstt-caused asker files terms
-step-caused Call.Close asker files terms = inl (record { device = Device.Close; device_is = refl; is = refl }, tt)
+step-caused Call.Close asker files terms = close-caused asker files terms
 step-caused Call.PErr asker files terms = perr-caused asker files terms
 
 same-fails : (n m : ℕ) → fails n ≡ fails m → n ≡ m
@@ -72,12 +72,17 @@ module _ (s t : State) (p : ℕ) (now : TimePacket) (call : PathCall) (number : 
     why-so : (it : FileEffect) → it.files.volumes ≡ s.files.volumes → FileCause (made_by s p now call) number → Why (files_after p (with_drives_after it drives))
     why-so it volumes cause = (record { volumes = volumes; none_failed = none }, cause)
 
+    ends-volumes : (it : FileEffect) → EndsSo call asker s.files (length s.terms) it → it.files.volumes ≡ s.files.volumes
+    ends-volumes it (inl left) = left.volumes
+    ends-volumes it (inr (inl device)) = ap (λ (it : FileEffect). it.files.volumes) device.same
+    ends-volumes it (inr (inr waiting)) = ap (λ (it : FileEffect). it.files.volumes) waiting.same
+
     by-deed : (deed : Deed) → deed_of (step_of s p now call) s.files ≡ deed → (reached : Option ℕ) → Splits call asker
         s.files (length s.terms) reached deed → Caused (made_by s p now call) deed → (it : FileEffect)
         → DoesDeed deed asker s.files it s.terms t.terms → it.end ≡ fails number → On (with_drives_after it drives) ⊎
         Why (files_after p (with_drives_after it drives))
     by-deed (leaves_so effect) deed_is reached splits caused it (is, same) ended =
-        inr (why-so it (ap (λ (it : FileEffect). it.files.volumes) is ∙ splits.volumes) (caused number (sym (ap (λ (it : FileEffect). it.end) is) ∙ ended)))
+        inr (why-so it (ap (λ (it : FileEffect). it.files.volumes) is ∙ ends-volumes effect splits) (caused number (sym (ap (λ (it : FileEffect). it.end) is) ∙ ended)))
     by-deed (as_io io) deed_is reached splits (inl on) it (effect, does, is) ended =
         inl (subst (λ (it : FileEffect). On (with_drives_after it drives)) (sym is) (on-device call s.inner s.files now p s.terms t.terms io effect drives none on.0 does, on.1))
     by-deed (as_io io) deed_is reached splits (inr why) it (effect, does, is) ended =

@@ -5,7 +5,7 @@ use Rattle.std.proofs.lemmas.Bool.{false≢true}
 use Rattle.os9_base.specs.declared.errors.TheConstants.{E_BADTIME, E_BPADDR, E_UNKSVC}
 use Rattle.os9_base.specs.declared.registers.TimePacket.{TimePacket}
 use Rattle.call_rules.specs.Attempts.{attempted}
-use Rattle.call_rules.specs.CallResult.{refused}
+use Rattle.call_rules.specs.CallResult.{refused, waits}
 use Rattle.call_rules.specs.Chain.{f_chain}
 use Rattle.call_rules.specs.Fork.{f_fork}
 use Rattle.call_rules.specs.Inner.{Inner, cells_at, regs_at}
@@ -37,7 +37,7 @@ use Rattle.refusal_laws.proofs.Refusing.{Comes, refusal, same-refusal}
 use Rattle.touch_laws.specs.Causes.{FileCause}
 use Rattle.touch_laws.specs.Devices.{IsOnDevice, IsOnNoFile}
 use Rattle.touch_laws.specs.LoadCauses.{ChainCause, ForkCause, LoadCause}
-use Rattle.touch_laws.specs.Touch.{FaultAnswers, LeavesDevices, LeavesFiles, NoVolumeChanges}
+use Rattle.touch_laws.specs.Touch.{FaultAnswers, LeavesDevices, LeavesFiles, NoVolumeChanges, WaitsForRecord}
 use Rattle.touch_laws.proofs.Attempts.{attempt-splits}
 use Rattle.touch_laws.proofs.Caused.{is_nothing}
 use Rattle.touch_laws.proofs.CausedLoads.{chain-caused, fork-caused, load-caused}
@@ -82,6 +82,10 @@ time-caused m now p number Time.STime answer =
     by_bytes None none is = no_packet (sym (same-refusal number E_BPADDR is)) none
     by_bytes (Some bytes) there is = by_time bytes there (is_time_packet (packet_of bytes)) refl is
 
+-- a call that is refused does not wait
+not-waiting : (m : Inner) (number : ℕ) → refused number ≡ waits m → ⊥
+not-waiting m number is = cc
+
 module _ (s t : State) (code number : ℕ) where
   pub is-event : IsRefused s code number t → Event s Ran t
   is-event it = (
@@ -117,6 +121,7 @@ module _ (s t : State) (code number : ℕ) where
             io = ap (λ (files : Files). files.io) same ∙ left.io;
             directories = ap (λ (files : Files). files.directories) same ∙ left.directories;
             volumes = ap (λ (files : Files). files.volumes) same ∙ left.volumes;
+            records = ap (λ (files : Files). files.records) same ∙ left.records;
             terminals = ap (λ (rest : Rest). rest.terms) is;
             clock = ap (λ (rest : Rest). rest.clock) is;
             why = subst Why-load (sym same) (why-load files left.drives why);
@@ -181,6 +186,7 @@ module _ (s t : State) (code number : ℕ) where
         on = none;
         left =
             by_answer (refusal on.device s.inner s.files.io t.files.io (length s.files.drives) p number s.terms t.terms on.attempted);
+        locks = on.locks;
         directories = on.directories;
         volumes = on.volumes;
         none_failed = on.none_failed;
@@ -196,6 +202,7 @@ module _ (s t : State) (code number : ℕ) where
       file-left : LeavesDevices call s.inner s.files now p (refused number) t.files s.terms t.terms → Why → RefusedOnFile s p now call number t
       file-left left why = record {
         io = (left.refusal number refl).io;
+        records = (left.refusal number refl).records;
         directories = (left.refusal number refl).directories;
         terminals = left.terminals;
         clock = clock;
@@ -211,9 +218,11 @@ module _ (s t : State) (code number : ℕ) where
           by_cause left (inl on) = inl (device-left on)
           by_cause left (inr why) = inr (file-left left why)
 
-          by_touch : OnDevice ⊎ LeavesDevices call s.inner s.files now p (refused number) t.files s.terms t.terms → Comes-so
+          by_touch : OnDevice ⊎ LeavesDevices call s.inner s.files now p (refused number) t.files s.terms t.terms ⊎
+              WaitsForRecord call s.inner s.files now p (refused number) t.files s.terms t.terms → Comes-so
           by_touch (inl on) = inl (device-left on)
-          by_touch (inr left) = by_cause left (file-refused s t p now call number it)
+          by_touch (inr (inl left)) = by_cause left (file-refused s t p now call number it)
+          by_touch (inr (inr waiting)) = absurd (not-waiting s.inner number waiting.result_is)
 
     -- ---- any call
 

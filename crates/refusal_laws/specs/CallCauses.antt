@@ -29,7 +29,7 @@ use Rattle.file_rules.specs.Files.{Files, file_in, place_of_target}
 use Rattle.file_rules.specs.Load.{Loaded}
 use Rattle.file_rules.specs.Program.{named_program}
 use Rattle.file_rules.specs.ProgramFile.{ProgramFile}
-use Rattle.file_rules.specs.declared.places.FilePlace.{FilePlace}
+use Rattle.lock_model.specs.declared.place.FilePlace.{FilePlace}
 use Rattle.time_rules.specs.Packet.{packet_of}
 use Rattle.time_rules.specs.declared.clock.TheConstants.{PACKET_BYTES}
 use Rattle.time_rules.specs.declared.time_call.TimeCall.{TimeCall}

@@ -5,12 +5,14 @@ use Rattle.os9_base.specs.declared.registers.TimePacket.{TimePacket}
 use Rattle.proc_rules.specs.Records.{IsLiving}
 use Rattle.call_rules.specs.Attempts.{after_attempt, attempted}
 use Rattle.call_rules.specs.CallResult.{refused}
+use Rattle.call_rules.specs.Inner.{regs_at}
 use Rattle.call_rules.specs.Ready.{attempts, act_of}
 use Rattle.call_rules.specs.declared.proc_call.ProcCall.{ProcCall}
 use Rattle.call_rules.specs.declared.proc_call.ProcCall.TheVariants as Call
 use Rattle.io_rules.specs.Attempts.{caller_of}
 use Rattle.io_rules.specs.Io.{with_call}
 use Rattle.io_rules.specs.declared.io_call.IoCall.{IoCall}
+use Rattle.lock_model.specs.Records.{with_waiting}
 use Rattle.rbf_model.specs.Volume.{DiskVolume}
 use Rattle.file_rules.specs.Attempts.{asker_of, file_step}
 use Rattle.file_rules.specs.Files.{NoneFailed, OneFailed, volume_at, with_volume}
@@ -21,8 +23,9 @@ use Rattle.file_rules.specs.declared.path_call.PathCall.{PathCall}
 use Rattle.time_rules.specs.Clock.{IsNow}
 use Rattle.time_rules.specs.declared.time_call.TimeCall.{TimeCall}
 use Rattle.refusal_laws.specs.Refusals.{ChangesNothing, LeavesProcesses, LeftAtEnd, LeftAtFault}
-use Rattle.touch_laws.specs.Causes.{FileCause, Made}
-use Rattle.touch_laws.specs.Devices.{IsOnNoFile, device_call}
+use Rattle.touch_laws.specs.Causes.{FileCause}
+use Rattle.touch_laws.specs.Claims.{Made}
+use Rattle.touch_laws.specs.Devices.{IsOnNoFile, LocksStay, device_call}
 use Rattle.touch_laws.specs.LoadCauses.{ChainCause, ForkCause, LoadCause}
 use Rattle.touch_laws.specs.Touch.{FaultAnswers, NoVolumeChanges, may_change_volume}
 use Rattle.machine_model.specs.Services.{Attempts, loads, no_call, on_paths, on_processes, on_time, service_of}
@@ -57,6 +60,7 @@ pub record RefusedOnDevice (s : State) (p : ℕ) (now : TimePacket) (call : Path
   pub device_is : device_call call ≡ Some device
   pub on : IsOnNoFile call (asker_of s.inner p now) s.files (length s.terms)
   pub left : LeftOnDevice s p device number t
+  pub locks : LocksStay call s.files p (regs_at s.inner p).a t.files.records
   pub directories : t.files.directories ≡ s.files.directories
   pub volumes : t.files.volumes ≡ s.files.volumes
   pub none_failed : NoneFailed s.files.drives t.files.drives
@@ -92,12 +96,13 @@ pub record FailsOnDrive (s : State) (p : ℕ) (now : TimePacket) (call : PathCal
   pub mounted : volume_at t.files drive ≡ Some left
   pub others : (other : ℕ) → other ≢ drive → volume_at t.files other ≡ volume_at s.files other
 
--- the call is on a file or a directory, or on nothing: everything is unchanged but what is kept of a call, which is
--- removed. The volumes are unchanged, and the number has its cause; or the drive that it reached has failed. A call
--- that changes no volume leaves them unchanged even then
+-- the call is on a file or a directory, or on nothing: everything is unchanged, record locks and their history too, but
+-- what is kept of a call and its request, which are removed. The volumes are unchanged, and the number has its cause;
+-- or the drive that it reached has failed. A call that changes no volume leaves them unchanged even then
 pub record RefusedOnFile (s : State) (p : ℕ) (now : TimePacket) (call : PathCall) (number : ℕ) (t : State)
     : Type 0 where
   pub io : t.files.io ≡ with_call s.files.io p None
+  pub records : t.files.records ≡ with_waiting s.files.records p None
   pub directories : t.files.directories ≡ s.files.directories
   pub terminals : t.terms ≡ s.terms
   pub clock : t.clock ≡ s.clock
@@ -114,6 +119,7 @@ pub record RefusedLoad (s : State) (p : ℕ) (now : TimePacket) (test : Step Pro
   pub io : t.files.io ≡ s.files.io
   pub directories : t.files.directories ≡ s.files.directories
   pub volumes : t.files.volumes ≡ s.files.volumes
+  pub records : t.files.records ≡ s.files.records
   pub terminals : t.terms ≡ s.terms
   pub clock : t.clock ≡ s.clock
   pub why : FaultAnswers (drive_of (program_file (asker_of s.inner p now) s.files (length s.terms) test)) s.files

@@ -9,7 +9,7 @@ use Rattle.proc_rules.proofs.EldestLaws.{chosen_if}
 use Rattle.call_rules.specs.Choice.{after_choice, choice_of}
 use Rattle.call_rules.specs.Inner.{Inner}
 use Rattle.call_rules.specs.Ready.{Act, act_of, attempts, delivers, executes, is_ready}
-use Rattle.io_rules.specs.Waiting.{io_may_go}
+use Rattle.file_rules.specs.Locking.{files_may_go}
 use Rattle.event_rules.specs.Console.{console_bytes, terminals_emptied}
 use Rattle.event_rules.specs.Event.{cost_of}
 use Rattle.event_rules.specs.declared.ends.EventEnd.{EventEnd}
@@ -79,8 +79,8 @@ chosen-lives io m pid is =
 
 abbrev begun : State → State
 begun s = record s {
-  inner = after_choice (io_may_go s.files.io) s.inner;
-  chosen = option_map (λ (p : Pid). p.0) (choice_of (io_may_go s.files.io) s.inner).chosen;
+  inner = after_choice (files_may_go s.files s.inner.tick) s.inner;
+  chosen = option_map (λ (p : Pid). p.0) (choice_of (files_may_go s.files s.inner.tick) s.inner).chosen;
 }
 
 -- the events of a slice, where this process is chosen or none is
@@ -169,7 +169,7 @@ module _ (Good : State → Type 0) (Still : State → State → Type 0) (builds 
       still-begun it =
           builds.then s it.last (begun it.last) (builds.ticked s it.last it.tick) (builds.chose it.last (begun it.last) refl)
 
-      by_chosen : (it : SomeTick s) → Good (begun it.last) → (chosen : Option Pid) → (choice_of (io_may_go it.last.files.io) it.last.inner).chosen ≡ chosen → SomeSlice n s
+      by_chosen : (it : SomeTick s) → Good (begun it.last) → (chosen : Option Pid) → (choice_of (files_may_go it.last.files it.last.inner.tick) it.last.inner).chosen ≡ chosen → SomeSlice n s
       by_chosen it good None is = record {
         states = [];
         end = SliceEnd.Idle;
@@ -188,7 +188,7 @@ module _ (Good : State → Type 0) (Still : State → State → Type 0) (builds 
       by_chosen it good (Some pid) is =
           let who : (begun it.last).chosen ≡ Some pid.0 = ap (option_map (λ (p : Pid). p.0)) is in
           let ending : SomeSteps n (begun it.last) = steps-end (3 * n + rank (act_of (begun it.last).inner pid.0) + 1) n (begun it.last) pid.0 (omega arith) who
-          (chosen-lives (io_may_go it.last.files.io) it.last.inner pid is) good in
+          (chosen-lives (files_may_go it.last.files it.last.inner.tick) it.last.inner pid is) good in
           record {
             states = ending.states;
             end = SliceEnd.Ran;
@@ -207,7 +207,7 @@ module _ (Good : State → Type 0) (Still : State → State → Type 0) (builds 
 
       by_tick : SomeTick s → SomeSlice n s
       by_tick it =
-          by_chosen it (builds.choice it.last (begun it.last) refl (builds.tick s it.last it.tick good)) (choice_of (io_may_go it.last.files.io) it.last.inner).chosen refl
+          by_chosen it (builds.choice it.last (begun it.last) refl (builds.tick s it.last it.tick good)) (choice_of (files_may_go it.last.files it.last.inner.tick) it.last.inner).chosen refl
 
   -- ---- a run
 

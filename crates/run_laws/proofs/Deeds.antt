@@ -198,7 +198,7 @@ module _ (call : PathCall) (asker : Asker) (files : Files) (reached : Option ℕ
   deed-one terms (as_io step) one two effect other splits (it, does, is) (second, does_too, is_too) effect_is other_is =
       let same : OneEffect it second after others = does-one asker.caller files.io before after others none none_too step it second does does_too in
       inr (record {
-        effects = effect_is ∙ ap (λ (effect : FileEffect). with_drives_after effect files.drives) (is ∙ ap (on_files files) same.effects ∙ sym is_too) ∙ sym other_is;
+        effects = effect_is ∙ ap (λ (effect : FileEffect). with_drives_after effect files.drives) (is ∙ ap (on_files asker.caller.process.0 files) same.effects ∙ sym is_too) ∙ sym other_is;
         terminals = same.terminals;
       })
   deed-one terms (changes it) one two effect other splits (is, same) (is_too, same_too) effect_is other_is =

@@ -1,11 +1,12 @@
 -- An attempt of a call on paths, files and directories has an end: one where nothing fails, or where it makes a file or a
 -- directory one with a fault of the drive that it reaches.
-use Rattle.std.proofs.Common.{◌≡◌, ◌⊎◌, ℕ, ◌+◌, ◌^◌, ◌-◌, ◌%◌, ◌<◌, ◌≤◌, ◌==◌, not, Bool, true, false, Option, Some, None, is_some, List, length, refl, sym, ap, subst, inl, inr, arith}
+use Rattle.std.proofs.Common.{◌≡◌, ◌⊎◌, ℕ, ◌+◌, ◌^◌, ◌-◌, ◌%◌, ◌<◌, ◌≤◌, ◌==◌, not, Bool, true, false, Option, Some, None, is_some, List, [], length, refl, sym, ap, subst, inl, inr, arith}
 use Rattle.std.specs.Prelude.{◌&&◌, if◌then◌else◌, is_none, min, nat_le, nat_lt, option_map, slice_set, take}
 use Rattle.std.proofs.lemmas.Bool.{ltb-false}
 use Rattle.std.proofs.lemmas.List.{get_or-set_other, get_or-set_same, length-set}
 use Rattle.os9_base.specs.Count.{Rose}
-use Rattle.os9_base.specs.declared.errors.TheConstants.{E_BMODE, E_BPADDR, E_BPNAM, E_BPNUM, E_CEF, E_EOF, E_FNA, E_FULL, E_MNF, E_PNNF, E_PTHFUL, E_SHARE, E_SLF, E_UNKSVC}
+use Rattle.os9_base.specs.declared.calls.TheConstants.{F_PERR, I_WRITE, I_WRITLN}
+use Rattle.os9_base.specs.declared.errors.TheConstants.{E_BMODE, E_BPADDR, E_BPNAM, E_BPNUM, E_CEF, E_DEADLK, E_EOF, E_FNA, E_FULL, E_LOCK, E_MNF, E_PNNF, E_PTHFUL, E_SHARE, E_SLF, E_UNKSVC}
 use Rattle.os9_base.specs.declared.registers.Regs.{Regs}
 use Rattle.os9_outer.specs.Drive.{drive_error}
 use Rattle.os9_outer.specs.TerminalState.{TerminalState, fault_counts}
@@ -19,9 +20,15 @@ use Rattle.rbf_change.specs.Faults.{before}
 use Rattle.rbf_change.specs.Growth.{clusters_needed}
 use Rattle.rbf_change.specs.Names.{may_change, may_delete}
 use Rattle.rbf_change.specs.NewFiles.{entry_clusters, owns_file}
-use Rattle.io_model.specs.Line.{first_line}
+use Rattle.io_model.specs.declared.terminal.ReadKind.{ReadKind}
+use Rattle.io_model.specs.declared.terminal.ReadKind.TheVariants.{Bytes, WholeLine}
+use Rattle.lock_model.specs.Records.{holding, without_lock, written_by}
+use Rattle.lock_model.specs.declared.lock.Grant.{Grant}
+use Rattle.lock_model.specs.declared.lock.Grant.TheVariants.{Granted, Locked, Deadlock, Wait}
+use Rattle.lock_model.specs.declared.lock.Request.{Request}
 use Rattle.io_model.specs.Path.{new_number, paths_after_begin}
 use Rattle.io_rules.specs.Attempts.{io_step}
+use Rattle.io_rules.specs.Close.{i_close as closes_device}
 use Rattle.io_rules.specs.Io.{OpenPath, new_desc, open_path}
 use Rattle.io_rules.specs.Modes.{can_read, can_write, is_mode}
 use Rattle.io_rules.specs.Open.{opened_regs}
@@ -29,8 +36,7 @@ use Rattle.io_rules.specs.PathList.{PathList}
 use Rattle.io_rules.specs.Pipes.{count_regs}
 use Rattle.io_rules.specs.Read.{i_read as reads_device, i_readln as reads_device_line}
 use Rattle.io_rules.specs.Status.{i_getstt as gets_of_device, i_setstt as sets_of_device, options}
-use Rattle.io_rules.specs.Step.{IoStep, answers, done as io_done, needs as io_needs, refused as io_refused}
-use Rattle.io_rules.specs.Transfer.{line_at}
+use Rattle.io_rules.specs.Step.{IoStep, answers, keeps, done as io_done, needs as io_needs, refused as io_refused}
 use Rattle.io_rules.specs.Write.{error_line, f_perr as tells_device, i_write as writes_device, i_writln as writes_device_line}
 use Rattle.io_rules.specs.declared.io_call.IoCall.{IoCall}
 use Rattle.io_rules.specs.declared.io_call.IoCall.TheVariants as Device
@@ -41,21 +47,23 @@ use Rattle.file_rules.specs.Change.{Change, creates, deletes, makes_directory, s
 use Rattle.file_rules.specs.ChgDir.{goes_on_way, goes_to, may_go_to}
 use Rattle.file_rules.specs.Create.{clusters_for, creates_in, creates_on_way, creates_with_path, has_room_for, opens_new}
 use Rattle.file_rules.specs.Delete.{deletes_by, deletes_file, deletes_in, deletes_named}
-use Rattle.file_rules.specs.Files.{Asker, DriveState, Files, NoneFailed, OneFailed, OpenFile, directories_at, drive_at, new_drive, open_file, target_on, volume_at, with_directories_of, with_directory, with_drives, with_path_table, with_position, with_volume}
+use Rattle.file_rules.specs.Files.{Asker, DriveState, Files, NoneFailed, OneFailed, OpenFile, directories_at, drive_at, new_drive, open_file, target_on, volume_at, with_directories_of, with_directory, with_drives, with_path_table, with_position, with_records, with_ticks, with_volume}
+use Rattle.file_rules.specs.Close.{files_after_close}
+use Rattle.file_rules.specs.Locking.{answer_to, asks, asks_by, call_of, is_for_update, request_kept, request_now, waiting_in}
 use Rattle.file_rules.specs.MakDir.{makes_in, makes_on_way, new_directory_size, past_list}
 use Rattle.file_rules.specs.OnFile.{by_kind, moves_bytes, on_file}
 use Rattle.file_rules.specs.Open.{begins_on, is_for_execution, may_open, opens_found, opens_on_way, says_directory, tests_mode}
-use Rattle.file_rules.specs.Read.{answers_bytes, bytes_here, reads_file, reads_on}
+use Rattle.file_rules.specs.Read.{answers_bytes, bytes_at, lock_by, read_claim, read_start, reads_at, reads_file, reads_freely, reads_locked, reads_on}
 use Rattle.file_rules.specs.Seek.{long_of, seeks_nothing}
 use Rattle.file_rules.specs.Sharing.{is_not_shared, is_open}
-use Rattle.file_rules.specs.Status.{asked_bytes, descriptor_front, gets_bytes, gets_descriptor, gets_end, gets_size, gets_status, long_regs, sets_attributes_of, sets_size}
-use Rattle.file_rules.specs.Step.{Deed, DoesDeed, FileDoes, FileEffect, FileStep, MayBeLeft, VolumeChange, as_io, changes, comes, deed_of, done, leaves, leaves_so, needs, reaches, refused, refuses, refuses_so, stores, with_drives_after}
+use Rattle.file_rules.specs.Status.{asked_bytes, descriptor_front, gets_bytes, gets_descriptor, gets_end, gets_size, gets_status, after_size, lock_claim, locks_bytes, locks_range, long_regs, sets_attributes_of, sets_lock, sets_size, sets_ticks, size_claim, sizes_locked}
+use Rattle.file_rules.specs.Step.{Deed, DoesDeed, FileDoes, FileEffect, FileStep, MayBeLeft, VolumeChange, as_io, changes, comes, deed_of, done, leaves, leaves_so, needs, on_files, reaches, refused, refuses, refuses_so, stores, with_drives_after}
 use Rattle.file_rules.specs.Way.{Found, Way, along, before_last, last_of, list_of, nowhere, to_device, walk_ends, walks, way_of, way_to_new}
-use Rattle.file_rules.specs.Write.{changes_file, sends_bytes, writes_bytes}
+use Rattle.file_rules.specs.Write.{changes_file, line_moved, sends_bytes, write_claim, writes_bytes, writes_locked}
 use Rattle.file_rules.specs.declared.path_call.PathCall.{PathCall}
 use Rattle.file_rules.specs.declared.path_call.PathCall.TheVariants as Call
-use Rattle.file_rules.specs.declared.places.FilePlace.{FilePlace}
-use Rattle.file_rules.specs.declared.status.TheConstants.{SS_ATTR, SS_FD, SS_POS, SS_SIZE}
+use Rattle.lock_model.specs.declared.place.FilePlace.{FilePlace}
+use Rattle.file_rules.specs.declared.status.TheConstants.{SS_ATTR, SS_FD, SS_LOCK, SS_POS, SS_SIZE, SS_TICKS}
 use Rattle.file_laws.specs.Kinds.{AreKinds}
 use Rattle.file_laws.proofs.Named.{IsNamed, is-named}
 use Rattle.file_laws.proofs.Steps.{IsFound, list-by, needs-by, refuses-by}
@@ -139,7 +147,7 @@ module _ (call : PathCall) (asker : Asker) (files : Files) (terms : List Termina
   io-ends step there =
       let it : SomeEffect step asker.caller files.io terms = some-effect step asker.caller files.io terms there in
       deed-ends (comes (as_io step)) (record {
-        it = record { end = it.effect.end; at = it.effect.at; bytes = it.effect.bytes; files = record files { io = it.effect.io } };
+        it = on_files asker.caller.process.0 files it.effect;
         after = it.after;
         does = (it.effect, it.does, refl);
         counts = it.counts;
@@ -333,40 +341,74 @@ module _ (call : PathCall) (asker : Asker) (files : Files) (terms : List Termina
           by_count true = leaves-ends (leaves (answers asker.caller.regs) files)
           by_count false = holds
 
-      read-ends : (part : List ℕ → List ℕ) → Ends (reads_file asker files part opened)
-      read-ends part =
-          reaches-ends drive (refuses (nat_le (length opened.file.contents) opened.opened.desc.at) E_EOF (comes (leaves_so (answers_bytes asker files opened (part (bytes_here asker opened))))))
-          (refuses-by (On drive) (none-on drive) (nat_le (length opened.file.contents) opened.opened.desc.at) E_EOF
-          (comes (leaves_so (answers_bytes asker files opened (part (bytes_here asker opened)))))
-          (λ more. leaves-on drive (answers_bytes asker files opened (part (bytes_here asker opened)))))
+      -- a request: the call goes on, is refused or waits
+      asks-by : (grant : Grant) (request : Request) (next : FileStep) → On drive next → On drive (asks_by grant files request next)
+      asks-by Granted request next holds = holds
+      asks-by Locked request next holds = none-on drive E_LOCK
+      asks-by Deadlock request next holds = none-on drive E_DEADLK
+      asks-by Wait request next holds = leaves-on drive (leaves (keeps (call_of request)) (waiting_in files request))
+
+      asks-end : (request : Request) (next : FileStep) → On drive next → On drive (asks asker files request next)
+      asks-end request next holds = asks-by (answer_to asker files request) request next holds
+
+      at-ends : (kind : ReadKind) (at : ℕ) → On drive (reads_at kind asker files opened at)
+      at-ends kind at =
+          refuses-by (On drive) (none-on drive) (nat_le (length opened.file.contents) at) E_EOF
+          (if is_for_update opened.opened.desc.mode then reads_locked kind asker files opened request bytes else reads_freely kind asker files opened)
+          (λ more. by_mode (is_for_update opened.opened.desc.mode))
+        where
+          bytes : List ℕ
+          bytes = bytes_at kind asker opened at
+
+          request : Request
+          request = request_now asker files opened (read_claim kind asker opened at)
+
+          by_mode : (update : Bool) → On drive (if update then reads_locked kind asker files opened request bytes else reads_freely kind asker files opened)
+          by_mode true =
+              asks-end request _
+              (leaves-on drive (answers_bytes asker (with_records files (holding files.records opened.opened.path.0 (lock_by kind request.lock bytes) bytes)) opened request.lock.range.start bytes))
+          by_mode false =
+              leaves-on drive (answers_bytes asker files opened opened.opened.desc.at (bytes_at kind asker opened opened.opened.desc.at))
+
+      read-ends : (kind : ReadKind) → Ends (reads_file kind asker files opened)
+      read-ends kind =
+          reaches-ends drive (reads_at kind asker files opened (read_start asker files opened)) (at-ends kind (read_start asker files opened))
 
       abbrev changing : Change → Regs → Files → VolumeChange
       changing change regs after =
           record { drive = opened.place.drive; change = change; effect = λ n. leaves (answers regs) after }
 
-      change-ends : (change : Change) (size : ℕ) (regs : Regs) (after : Files)
+      change-within : (change : Change) (size : ℕ) (regs : Regs) (after : Files)
           → (clusters_needed (cluster_size opened.volume) opened.file.segments size ≤ free_total opened.volume
-          → SomeChange (changing change regs after) asker files) → Ends (changes_file files opened change size regs
+          → SomeChange (changing change regs after) asker files) → On drive (changes_file opened change size regs
           after)
-      change-ends change size regs after some =
-          reaches-ends drive (refuses (nat_lt (free_total opened.volume) (clusters_needed (cluster_size opened.volume)
-          opened.file.segments size)) E_FULL (comes (changes (changing change regs after))))
-          (refuses-by (On drive) (none-on drive) (nat_lt (free_total opened.volume)
+      change-within change size regs after some =
+          refuses-by (On drive) (none-on drive) (nat_lt (free_total opened.volume)
           (clusters_needed (cluster_size opened.volume) opened.file.segments size)) E_FULL
           (comes (changes (changing change regs after)))
-          (λ room. change-on drive (changing change regs after) (some (ltb-false (free_total opened.volume) (clusters_needed (cluster_size opened.volume) opened.file.segments size) room))))
+          (λ room. change-on drive (changing change regs after) (some (ltb-false (free_total opened.volume) (clusters_needed (cluster_size opened.volume) opened.file.segments size) room)))
 
-      write-ends : (bytes : List ℕ) (regs : Regs) → Ends (writes_bytes files opened bytes regs)
-      write-ends bytes regs =
-          let after = with_position files opened.opened (opened.opened.desc.at + length bytes) in
-          change-ends (writes opened.place.number opened.opened.desc.at bytes) (length (written opened.file.contents opened.opened.desc.at bytes)) regs after
+      write-ends : (code : ℕ) (bytes : List ℕ) (regs : Regs) → Ends (writes_bytes asker files opened code bytes regs)
+      write-ends code bytes regs =
+          reaches-ends drive (writes_locked asker files opened request bytes regs)
+          (asks-end request (changes_file opened (writes opened.place.number at bytes) (length (written opened.file.contents at bytes)) regs after)
+          (change-within (writes opened.place.number at bytes) (length (written opened.file.contents at bytes)) regs after
           (some-write asker files drive opened.volume is (λ n. leaves (answers regs) after) opened.place.number
           opened.file there (mounted.numbers drive opened.volume is opened.place.number opened.file there)
-          (kinds.clusters drive opened.volume is) opened.opened.desc.at bytes)
+          (kinds.clusters drive opened.volume is) at bytes)))
+        where
+          request : Request
+          request = request_now asker files opened (write_claim opened code (length bytes))
 
-      send-ends : (bytes : List ℕ) → Ends (sends_bytes asker files opened bytes)
-      send-ends bytes =
-          moves-ends can_write (writes_bytes files opened bytes (count_regs asker.caller (length bytes))) (write-ends bytes (count_regs asker.caller (length bytes)))
+          at : ℕ
+          at = request.lock.range.start
+
+          after : Files
+          after = with_position (with_records files (written_by files.records opened.opened.path.0 request.lock bytes)) opened.opened (at + length bytes)
+
+      send-ends : (code : ℕ) (bytes : List ℕ) → Ends (sends_bytes asker files opened code bytes)
+      send-ends code bytes =
+          moves-ends can_write (writes_bytes asker files opened code bytes (count_regs asker.caller (length bytes))) (write-ends code bytes (count_regs asker.caller (length bytes)))
 
       -- ---- I$GetStt
 
@@ -418,13 +460,43 @@ module _ (call : PathCall) (asker : Asker) (files : Files) (terms : List Termina
 
       set-size : Ends (sets_size asker files opened)
       set-size =
-          refuses-by Ends none-ends (not (can_write opened.opened.desc.mode)) E_BMODE
-          (changes_file files opened (sizes opened.place.number (long_of asker.caller.regs))
-          (long_of asker.caller.regs) asker.caller.regs files)
-          (λ allowed. change-ends (sizes opened.place.number (long_of asker.caller.regs)) (long_of asker.caller.regs) asker.caller.regs files
-          (some-size asker files drive opened.volume is (λ n. leaves (answers asker.caller.regs) files)
+          refuses-by Ends none-ends (not (can_write opened.opened.desc.mode)) E_BMODE (reaches drive (sizes_locked asker files opened size request))
+          (λ allowed. reaches-ends drive (sizes_locked asker files opened size request)
+          (asks-end request (changes_file opened (sizes opened.place.number size) size asker.caller.regs after)
+          (change-within (sizes opened.place.number size) size asker.caller.regs after
+          (some-size asker files drive opened.volume is (λ n. leaves (answers asker.caller.regs) after)
           opened.place.number opened.file there (mounted.numbers drive opened.volume is opened.place.number
-          opened.file there) (kinds.clusters drive opened.volume is) (long_of asker.caller.regs)))
+          opened.file there) (kinds.clusters drive opened.volume is) size))))
+        where
+          size : ℕ
+          size = long_of asker.caller.regs
+
+          request : Request
+          request = request_now asker files opened (size_claim opened size)
+
+          after : Files
+          after = after_size files opened size request.lock
+
+      set-lock : Ends (sets_lock asker files opened)
+      set-lock =
+          refuses-by Ends none-ends (not (is_for_update opened.opened.desc.mode)) E_BMODE (locks_bytes asker files opened count) (λ allowed. by_count (count == 0))
+        where
+          count : ℕ
+          count = long_of asker.caller.regs
+
+          request : Request
+          request = request_now asker files opened (lock_claim opened count)
+
+          by_count : (nothing : Bool)
+              → Ends (if nothing then done asker.caller.regs
+              (with_records files (without_lock files.records opened.opened.path.0)) else reaches drive
+              (locks_range asker files opened request))
+          by_count true =
+              leaves-ends (leaves (answers asker.caller.regs) (with_records files (without_lock files.records opened.opened.path.0)))
+          by_count false =
+              reaches-ends drive (locks_range asker files opened request)
+              (asks-end request (done asker.caller.regs (with_records files (holding files.records opened.opened.path.0 request.lock [])))
+              (leaves-on drive (leaves (answers asker.caller.regs) (with_records files (holding files.records opened.opened.path.0 request.lock [])))))
 
       set-attributes : Ends (sets_attributes_of asker files opened)
       set-attributes =
@@ -435,10 +507,17 @@ module _ (call : PathCall) (asker : Asker) (files : Files) (terms : List Termina
           (λ n. leaves (answers asker.caller.regs) files) opened.place.number opened.file there
           (asker.caller.regs.x % 256))))
 
-      set-by : (size attributes : Bool) → Ends (if size then sets_size asker files opened else (if attributes then sets_attributes_of asker files opened else refused E_UNKSVC))
-      set-by true attributes = set-size
-      set-by false true = set-attributes
-      set-by false false = none-ends E_UNKSVC
+      set-ticks : Ends (sets_ticks asker files opened)
+      set-ticks = leaves-ends (leaves (answers asker.caller.regs) (with_ticks files opened.opened asker.caller.regs.x))
+
+      set-by : (size ticks lock attributes : Bool) → Ends (if size then sets_size asker files opened else
+          (if ticks then sets_ticks asker files opened else (if lock then sets_lock asker files opened else
+          (if attributes then sets_attributes_of asker files opened else refused E_UNKSVC))))
+      set-by true ticks lock attributes = set-size
+      set-by false true lock attributes = set-ticks
+      set-by false false true attributes = set-lock
+      set-by false false false true = set-attributes
+      set-by false false false false = none-ends E_UNKSVC
 
     -- ---- a call on a number
 
@@ -457,15 +536,15 @@ module _ (call : PathCall) (asker : Asker) (files : Files) (terms : List Termina
         file-ends number (open_file files asker.caller.process.0 number) refl otherwise next other holds
 
     module _ (on : AreOnTerminals (length terms) files.io.paths) where
-      reads-end : (otherwise : IoStep) (part : List ℕ → List ℕ) → Ends (comes (as_io otherwise)) → Ends (reads_on asker files otherwise part)
-      reads-end otherwise part other =
+      reads-end : (otherwise : IoStep) (kind : ReadKind) → Ends (comes (as_io otherwise)) → Ends (reads_on kind asker files otherwise)
+      reads-end otherwise kind other =
           number-ends asker.caller.regs.a otherwise
           (λ opened. refuses (is_none (user_bytes asker.caller.cells asker.caller.regs.x asker.caller.regs.y))
-          E_BPADDR (moves_bytes asker files opened can_read (reads_file asker files part opened))) other
+          E_BPADDR (moves_bytes asker files opened can_read (reads_file kind asker files opened))) other
           (λ opened named. refuses-by Ends none-ends (is_none (user_bytes asker.caller.cells asker.caller.regs.x
-          asker.caller.regs.y)) E_BPADDR (moves_bytes asker files opened can_read (reads_file asker files part
+          asker.caller.regs.y)) E_BPADDR (moves_bytes asker files opened can_read (reads_file kind asker files
           opened))
-          (λ fits. moves-ends opened named.mounted named.there can_read (reads_file asker files part opened) (read-ends opened named.mounted named.there part)))
+          (λ fits. moves-ends opened named.mounted named.there can_read (reads_file kind asker files opened) (read-ends opened named.mounted named.there kind)))
 
       -- ---- calls with a path list
 
@@ -542,39 +621,44 @@ module _ (call : PathCall) (asker : Asker) (files : Files) (terms : List Termina
           (with_position files opened.opened (long_of asker.caller.regs)))
           (nothing-ends (open_path files.io asker.caller.process.0 asker.caller.regs.a))
           (λ opened named. leaves-ends (leaves (answers asker.caller.regs) (with_position files opened.opened (long_of asker.caller.regs))))
-      step-by Call.Read is = reads-end (reads_device asker.caller files.io) (λ bytes. bytes) (device-ends on Device.Read)
+      step-by Call.Read is = reads-end (reads_device asker.caller files.io) Bytes (device-ends on Device.Read)
       step-by Call.Write is =
           number-ends asker.caller.regs.a (writes_device asker.caller files.io)
           (λ opened. needs (user_bytes asker.caller.cells asker.caller.regs.x asker.caller.regs.y) E_BPADDR
-          (sends_bytes asker files opened)) (device-ends on Device.Write)
+          (sends_bytes asker files opened I_WRITE)) (device-ends on Device.Write)
           (λ opened named. needs-by Ends none-ends (user_bytes asker.caller.cells asker.caller.regs.x
-          asker.caller.regs.y) E_BPADDR (sends_bytes asker files opened) (λ bytes there. send-ends opened
-          named.mounted named.there bytes))
-      step-by Call.ReadLn is = reads-end (reads_device_line asker.caller files.io) first_line (device-ends on Device.ReadLn)
+          asker.caller.regs.y) E_BPADDR (sends_bytes asker files opened I_WRITE) (λ bytes there. send-ends opened
+          named.mounted named.there I_WRITE bytes))
+      step-by Call.ReadLn is = reads-end (reads_device_line asker.caller files.io) WholeLine (device-ends on Device.ReadLn)
       step-by Call.WritLn is =
           number-ends asker.caller.regs.a (writes_device_line asker.caller files.io)
-          (λ opened. needs (line_at asker.caller.cells asker.caller.regs.x asker.caller.regs.y) E_BPADDR
-          (sends_bytes asker files opened)) (device-ends on Device.WritLn)
-          (λ opened named. needs-by Ends none-ends (line_at asker.caller.cells asker.caller.regs.x
-          asker.caller.regs.y) E_BPADDR (sends_bytes asker files opened) (λ bytes there. send-ends opened
-          named.mounted named.there bytes))
+          (λ opened. needs (line_moved asker (request_kept asker files)) E_BPADDR (sends_bytes asker files opened
+          I_WRITLN)) (device-ends on Device.WritLn)
+          (λ opened named. needs-by Ends none-ends (line_moved asker (request_kept asker files)) E_BPADDR
+          (sends_bytes asker files opened I_WRITLN) (λ bytes there. send-ends opened named.mounted named.there
+          I_WRITLN bytes))
       step-by Call.GetStt is =
           number-ends asker.caller.regs.a (gets_of_device asker.caller files.io) (λ opened. gets_status asker files opened asker.caller.regs.b) (device-ends on Device.GetStt)
           (λ opened named. status-ends opened named.mounted named.there asker.caller.regs.b)
       step-by Call.SetStt is =
           number-ends asker.caller.regs.a (sets_of_device asker.caller files.io) (λ opened. if asker.caller.regs.b ==
-          SS_SIZE then sets_size asker files opened else (if asker.caller.regs.b == SS_ATTR then
-          sets_attributes_of asker files opened else refused E_UNKSVC)) (device-ends on Device.SetStt)
-          (λ opened named. set-by opened named.mounted named.there (asker.caller.regs.b == SS_SIZE) (asker.caller.regs.b == SS_ATTR))
-      step-by Call.Close is = device-ends on Device.Close
+          SS_SIZE then sets_size asker files opened else (if asker.caller.regs.b == SS_TICKS then sets_ticks asker
+          files opened else (if asker.caller.regs.b == SS_LOCK then sets_lock asker files opened else
+          (if asker.caller.regs.b == SS_ATTR then sets_attributes_of asker files opened else refused E_UNKSVC))))
+          (device-ends on Device.SetStt)
+          (λ opened named. set-by opened named.mounted named.there (asker.caller.regs.b == SS_SIZE) (asker.caller.regs.b == SS_TICKS) (asker.caller.regs.b == SS_LOCK) (asker.caller.regs.b == SS_ATTR))
+      step-by Call.Close is =
+          number-ends asker.caller.regs.a (closes_device asker.caller files.io) (λ opened. done asker.caller.regs
+          (files_after_close files asker.caller.process.0 asker.caller.regs.a opened.opened.path.0))
+          (device-ends on Device.Close)
+          (λ opened named. leaves-ends (leaves (answers asker.caller.regs) (files_after_close files asker.caller.process.0 asker.caller.regs.a opened.opened.path.0)))
       step-by Call.PErr is =
           number-ends STANDARD_ERROR (tells_device asker.caller files.io)
-          (λ opened. refuses (not (can_write opened.opened.desc.mode)) E_BMODE
-          (writes_bytes files opened (error_line asker.caller.regs.b) asker.caller.regs))
-          (device-ends on Device.PErr)
+          (λ opened. refuses (not (can_write opened.opened.desc.mode)) E_BMODE (writes_bytes asker files opened
+          F_PERR (error_line asker.caller.regs.b) asker.caller.regs)) (device-ends on Device.PErr)
           (λ opened named. refuses-by Ends none-ends (not (can_write opened.opened.desc.mode)) E_BMODE
-          (writes_bytes files opened (error_line asker.caller.regs.b) asker.caller.regs)
-          (λ allowed. write-ends opened named.mounted named.there (error_line asker.caller.regs.b)
+          (writes_bytes asker files opened F_PERR (error_line asker.caller.regs.b) asker.caller.regs)
+          (λ allowed. write-ends opened named.mounted named.there F_PERR (error_line asker.caller.regs.b)
           asker.caller.regs))
 
       pub step-ends : Ends (file_step call asker files (length terms))

@@ -19,7 +19,7 @@ use Rattle.file_rules.specs.Attempts.{file_step}
 use Rattle.file_rules.specs.Change.{Change, Makes, MayLeave, creates, deletes, makes_directory, sets_attributes, sizes, writes}
 use Rattle.file_rules.specs.Files.{Asker, DriveState, Files, volume_at, with_drives, with_volume}
 use Rattle.file_rules.specs.Processes.{first_files}
-use Rattle.file_rules.specs.Step.{Deed, DoesDeed, FileDoes, FileEffect, MayBeLeft, as_io, changes, deed_of, drive_of, leaves_so}
+use Rattle.file_rules.specs.Step.{Deed, DoesDeed, FileDoes, FileEffect, MayBeLeft, as_io, changes, deed_of, drive_of, leaves_so, on_files}
 use Rattle.file_rules.specs.declared.path_call.PathCall.{PathCall}
 use Rattle.file_laws.specs.Kinds.{AreKinds}
 use Rattle.file_laws.proofs.Counts.{none-many}
@@ -27,7 +27,7 @@ use Rattle.file_laws.proofs.Kept.{volume-new, volume-other}
 use Rattle.file_laws.proofs.Starts.{image-of}
 use Rattle.file_laws.proofs.Volumes.{free-whole}
 use Rattle.touch_laws.proofs.Attempts.{step-splits}
-use Rattle.touch_laws.proofs.Splits.{Splits}
+use Rattle.touch_laws.proofs.Splits.{EndsSo, Splits}
 use Rattle.run_laws.specs.Mounted.{AreMounted, HasNumbers}
 
 -- ---- one volume
@@ -174,16 +174,22 @@ mounted-set files new drive old left is volumes drives keeps mounted = record {
 
 -- ---- an attempt of a call on paths, files and directories
 
+-- what changes no volume leaves the volumes
+pub ends-volumes : (call : PathCall) (asker : Asker) (files : Files) (terms : ℕ) (it : FileEffect) → EndsSo call asker files terms it → it.files.volumes ≡ files.volumes
+ends-volumes call asker files terms it (inl left) = left.volumes
+ends-volumes call asker files terms it (inr (inl device)) = ap (λ (it : FileEffect). it.files.volumes) device.same
+ends-volumes call asker files terms it (inr (inr waiting)) = ap (λ (it : FileEffect). it.files.volumes) waiting.same
+
 module _ (call : PathCall) (asker : Asker) (files : Files) (kinds : AreKinds files) (mounted : AreMounted files) (old new : List TerminalState) where
   deed-mounted : (reached : Option ℕ) (deed : Deed) (it : FileEffect) (drives : List DriveState)
       → length drives ≡ length files.drives → Splits call asker files (length old) reached deed → DoesDeed deed asker
       files it old new → AreMounted (with_drives it.files drives)
   deed-mounted reached (leaves_so effect) it drives many left (is, same) =
       subst (λ (it : FileEffect). AreMounted (with_drives it.files drives)) (sym is)
-      (mounted-same files (with_drives effect.files drives) left.volumes many mounted)
+      (mounted-same files (with_drives effect.files drives) (ends-volumes call asker files (length old) effect left) many mounted)
   deed-mounted reached (as_io step) it drives many on (effect, does, is) =
       subst (λ (it : FileEffect). AreMounted (with_drives it.files drives)) (sym is)
-      (mounted-same files (with_drives (record files { io = effect.io }) drives) refl many mounted)
+      (mounted-same files (with_drives (on_files asker.caller.process.0 files effect).files drives) refl many mounted)
   deed-mounted reached (changes change) it drives many answers (inl changed, same) =
       subst (λ (it : FileEffect). AreMounted (with_drives it.files drives)) (sym changed.effect_is)
       (mounted-set files (with_drives (with_volume (change.effect changed.number).files change.drive changed.new) drives) change.drive changed.old changed.new changed.is

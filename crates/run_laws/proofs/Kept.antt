@@ -16,7 +16,7 @@ use Rattle.file_rules.specs.Step.{Deed, as_io, changes, deed_of, leaves_so}
 use Rattle.event_rules.specs.Event.{next_instruction}
 use Rattle.event_rules.specs.declared.ends.EventEnd.{EventEnd}
 use Rattle.touch_laws.specs.Devices.{IsOnDevice}
-use Rattle.touch_laws.specs.Touch.{LeavesDevices, NoVolumeChanges, OneDriveFails, OneVolumeChanges}
+use Rattle.touch_laws.specs.Touch.{LeavesDevices, NoVolumeChanges, OneDriveFails, OneVolumeChanges, WaitsForRecord}
 use Rattle.touch_laws.proofs.Attempts.{attempt-comes}
 use Rattle.touch_laws.proofs.Loads.{chain-leaves, fork-leaves, load-leaves}
 use Rattle.machine_model.specs.Event.{Acts, Event, before_delivery, files_after_delivery, files_after_instruction}
@@ -74,9 +74,12 @@ module _ (s : State) (now : TimePacket) (p : ℕ) (result : CallResult) (rest : 
   serves-bare (on_paths call) (it, clock) =
       by_case (attempt-comes call s.inner s.files now p result rest.files s.terms rest.terms it)
     where
-      by_case : IsOnDevice call s.inner s.files p result rest.files s.terms rest.terms ⊎ LeavesDevices call s.inner s.files now p result rest.files s.terms rest.terms → Bare rest.files
+      by_case : IsOnDevice call s.inner s.files p result rest.files s.terms rest.terms ⊎ LeavesDevices call s.inner
+          s.files now p result rest.files s.terms rest.terms ⊎ WaitsForRecord call s.inner s.files now p result
+          rest.files s.terms rest.terms → Bare rest.files
       by_case (inl on) = bare-same s.files rest.files on.volumes bare
-      by_case (inr left) = bare-volumes s.files result rest.files left.volumes bare
+      by_case (inr (inl left)) = bare-volumes s.files result rest.files left.volumes bare
+      by_case (inr (inr waiting)) = bare-same s.files rest.files waiting.volumes bare
   serves-bare no_call (refusal, is) = subst (λ (rest : Rest). Bare rest.files) (sym is) bare
 
 instruction-bare : (files : Files) (p : ℕ) (outcome : Outcome) → Bare files → Bare (files_after_instruction files p outcome)

@@ -5,7 +5,7 @@ use Rattle.std.specs.Prelude.{MatchBool, MatchOption, option_map}
 use Rattle.os9_base.specs.declared.registers.Pid.{Pid}
 use Rattle.os9_outer.specs.TerminalState.{TerminalState}
 use Rattle.call_rules.specs.Choice.{choice_of, after_choice}
-use Rattle.io_rules.specs.Waiting.{io_may_go}
+use Rattle.file_rules.specs.Locking.{files_may_go}
 use Rattle.file_rules.specs.Files.{DriveState, drive_at}
 use Rattle.event_rules.specs.Console.{console_bytes, terminals_emptied}
 use Rattle.event_rules.proofs.TerminalLaws.{gain-emptied}
@@ -147,8 +147,8 @@ bare-steps left s (m ∷ ms) t (some, end, event, steps) bare =
 -- the state of a slice once its process is chosen
 abbrev begun : State → State
 begun s = record s {
-  inner = after_choice (io_may_go s.files.io) s.inner;
-  chosen = option_map (λ (p : Pid). p.0) (choice_of (io_may_go s.files.io) s.inner).chosen;
+  inner = after_choice (files_may_go s.files s.inner.tick) s.inner;
+  chosen = option_map (λ (p : Pid). p.0) (choice_of (files_may_go s.files s.inner.tick) s.inner).chosen;
 }
 
 -- its events then

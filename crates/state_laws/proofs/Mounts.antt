@@ -36,6 +36,7 @@ pub files-one : (state : FileState) (views : List DriveView) (one other : Files)
 files-one state views one other stands stands_too = λ i. record {
   io = (stands.io ∙ sym stands_too.io) i;
   directories = (stands.directories ∙ sym stands_too.directories) i;
+  records = (stands.records ∙ sym stands_too.records) i;
   volumes = one-mounting state.disks views one.volumes other.volumes stands.mounted stands_too.mounted i;
   drives = (stands.drives ∙ sym stands_too.drives) i;
 }

@@ -18,7 +18,7 @@ use Rattle.file_rules.specs.Attempts.{asker_of}
 use Rattle.file_rules.specs.Files.{Files, OpenFile, open_file}
 use Rattle.time_rules.specs.Attempts.{time_step, result_of as time_result}
 use Rattle.time_rules.specs.Step.{TimeStep, refused as time_refused, sets, tells}
-use Rattle.touch_laws.specs.Attempt.{Attempt, OnDevice, TouchesNone, regs_in}
+use Rattle.touch_laws.specs.Attempt.{Attempt, OnDevice, TouchesNone, WaitsOnRecord, regs_in}
 use Rattle.touch_laws.specs.Devices.{IsDevice, device_call, takes_number}
 use Rattle.touch_laws.specs.Touch.{IsOver, KeepsIo}
 use Rattle.touch_laws.proofs.Keeps.{io-kept}
@@ -43,9 +43,9 @@ abbrev MovesNoByte : Attempt → Type 0
 MovesNoByte it =
     (call : IoCall) → device_call it.call ≡ Some call → NamesDevice it.files.io it.process it.inner call → ⊥
 
--- and touches none of them
+-- and touches none of them, or waits for a record
 record IsQuiet (it : Attempt) : Type 0 where
-  pub none : TouchesNone it
+  pub none : TouchesNone it ⊎ WaitsOnRecord it
   pub moves : MovesNoByte it
 
 -- a call that takes no number of a path moves no byte
@@ -65,7 +65,7 @@ no-way Device.PErr way takes is = cc
 device-or-quiet : (it : Attempt) → OnDevice it ⊎ IsQuiet it
 device-or-quiet it = by_device (device_call it.call) refl
   where
-    by_touch : OnDevice it ⊎ TouchesNone it → MovesNoByte it → OnDevice it ⊎ IsQuiet it
+    by_touch : OnDevice it ⊎ TouchesNone it ⊎ WaitsOnRecord it → MovesNoByte it → OnDevice it ⊎ IsQuiet it
     by_touch (inl on) moves = inl on
     by_touch (inr none) moves = inr (record { none = none; moves = moves })
 
@@ -209,15 +209,23 @@ module _ (s : State) (p code : ℕ) (next : act_of s.inner p ≡ attempts code) 
       quiet-moves quiet other call next_too coded names =
           quiet.moves call (sym asked ∙ ap io_call_of (sym (same-code other code (sym next_too ∙ next))) ∙ coded) names
 
+      by_none : AttemptsNoMove s p → TouchesNone attempt ⊎ WaitsOnRecord attempt → Comes result
+      by_none moves (inl none) =
+          let kept : KeepsIo p s.files.io rest.files.io = io-kept s.inner s.files p result rest.files s.terms rest.terms none in
+          inr (record {
+            terms = none.terminals;
+            io = inl (record { pipes = kept.pipes; terminals = kept.terminals }, over-goes s.inner p result none.over);
+            moves = moves;
+          })
+      by_none moves (inr waiting) = inr (record {
+        terms = waiting.terminals;
+        io = inl (record { pipes = ap (λ (io : Io). io.pipes) waiting.io; terminals = ap (λ (io : Io). io.terminals) waiting.io }, subst GoesOn (sym waiting.result_is) tt);
+        moves = moves;
+      })
+
       by_touch : OnDevice attempt ⊎ IsQuiet attempt → Comes result
       by_touch (inl on) =
           inl (record { call = on.0.device; coded = asked ∙ on.0.device_is; attempt = on.0.attempted })
-      by_touch (inr quiet) =
-          let kept : KeepsIo p s.files.io rest.files.io = io-kept s.inner s.files p result rest.files s.terms rest.terms quiet.none in
-          inr (record {
-            terms = quiet.none.terminals;
-            io = inl (record { pipes = kept.pipes; terminals = kept.terminals }, over-goes s.inner p result quiet.none.over);
-            moves = quiet-moves quiet;
-          })
+      by_touch (inr quiet) = by_none (quiet-moves quiet) quiet.none
   served no_call result asked (result_is, is) =
       inr (aside s.files result is (inl (stays-same s.files.io s.files.io refl, subst GoesOn (sym result_is) tt)) asked)

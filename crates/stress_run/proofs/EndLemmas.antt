@@ -15,6 +15,7 @@ use Rattle.os9_outer.specs.declared.host.Host.{Ghosts}
 use Rattle.os9_outer.specs.declared.host.HostFault.{HostFault}
 use Rattle.os9_outer.specs.declared.host.HostFault.TheVariants.{Failed, OutOfMemory}
 use Rattle.os9_words.specs.Streams.{WritesOut}
+use Rattle.lock_model.specs.declared.history.Entry.{Entry}
 use Rattle.guest_mods.specs.Stress.{IsLoad}
 use Rattle.event_rules.specs.Start.{Refuses}
 use Rattle.event_rules.specs.declared.ends.BootFault.{BootFault}
@@ -80,7 +81,7 @@ never-refused seed below fault refuses =
 
 -- ---- the machine ran to its end
 
-module _ {Host : Type 0} (members : Ghosts Host) (seed : ℕ) (below : seed < 2147483648) (images : List (List ℕ))
+module _ {Host : Type 0} (members : Ghosts Host) (seed : ℕ) (below : seed < 2147483648) (images : List (List ℕ)) (history : List Entry)
     (image : List ℕ) (first : slice_get images 0 ≡ Some image) (host ran : Host) (before after : Outside) where
   abbrev World-before : World
   World-before = world_of members host before
@@ -89,7 +90,7 @@ module _ {Host : Type 0} (members : Ghosts Host) (seed : ℕ) (below : seed < 21
   World-ran = world_of members ran after
 
   -- what it left, where the counts of its last state are told next
-  module _ (lives : Bool) (begun : ℕ) (gives : EndsWithImages (stress_setup seed) lives begun images World-before World-ran) (told : Host) where
+  module _ (lives : Bool) (begun : ℕ) (gives : EndsWithImages (stress_setup seed) lives begun images history World-before World-ran) (told : Host) where
     abbrev World-told : World
     World-told = world_of members told after
 
@@ -144,7 +145,7 @@ module _ {Host : Type 0} (members : Ghosts Host) (seed : ℕ) (below : seed < 21
   -- by what comes of the counts
   told-comes : (whole : StressEnd) (lives : Bool) (begun : ℕ) (told : Host) (answer : Result (Unit {0}) HostFault)
       → (StressEnds seed lives World-before (world_of members told after) → StressComesTo seed World-before (world_of members told after) whole)
-      → EndsWithImages (stress_setup seed) lives begun images World-before World-ran → WritesCounts members begun image answer ran told
+      → EndsWithImages (stress_setup seed) lives begun images history World-before World-ran → WritesCounts members begun image answer ran told
       → StressComesTo seed World-before (world_of members told after) (end_told whole answer)
   told-comes whole lives begun told (Ok done) comes gives wrote =
       let is = image-is lives begun gives told in
@@ -184,8 +185,8 @@ module _ {Host : Type 0} (members : Ghosts Host) (seed : ℕ) (below : seed < 21
   with-counts : (whole : StressEnd) (lives : Bool) (begun : ℕ) (run_end : RunEnd) (end : StressEnd) (told : Host) → whole ≢ OutputFailed → run_end ≢ Run.OutputFailed
       → (StressEnds seed lives World-before (world_of members told after) → StressComesTo seed World-before (world_of members told after) whole)
       → LeavesStress World-before (world_of members told after) whole
-      → RunsImages (stress_setup seed) images World-before World-ran run_end
-      → (All IsObserved before.terms → EndsWithImages (stress_setup seed) lives begun images World-before World-ran)
+      → RunsImages (stress_setup seed) images history World-before World-ran run_end
+      → (All IsObserved before.terms → EndsWithImages (stress_setup seed) lives begun images history World-before World-ran)
       → TellsCounts members whole begun image end ran told → StressCall seed World-before (world_of members told after) end
   with-counts whole lives begun run_end end told other no_fault comes leaves run gives tells =
       let kept = run.no_fault no_fault in
@@ -206,7 +207,7 @@ module _ {Host : Type 0} (members : Ghosts Host) (seed : ℕ) (below : seed < 21
       subst (StressCall seed World-before (world_of members told after)) (sym nothing.is)
       (subst (λ (now : Host). StressCall seed World-before (world_of members now after) stopped) (sym nothing.kept) call)
 
-  pub called : (run_end : RunEnd) (end : StressEnd) (told : Host) → RunsImages (stress_setup seed) images World-before
+  pub called : (run_end : RunEnd) (end : StressEnd) (told : Host) → RunsImages (stress_setup seed) images history World-before
       World-ran run_end → TellsEnd members run_end image end ran told → StressCall seed World-before
       (world_of members told after) end
   called (Run.Ended begun) end told run tells =

@@ -95,8 +95,8 @@ pub fn run_stress<H: Host>(
         Ok(start) => start,
         Err(OutOfMemory) => return StressEnd::NoMemory,
     };
-    let end = run_images(alloc, &start, &mut images, host, devices);
-    tell_end(alloc, end, images.image(0), host)
+    let outcome = run_images(alloc, &start, &mut images, host, devices);
+    tell_end(alloc, outcome.end, images.image(0), host)
 }
 
 /// The disk of a seed, as the only image.

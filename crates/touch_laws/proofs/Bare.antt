@@ -1,7 +1,8 @@
 -- Without a mounted volume and a directory of the process, the calls that terminals and pipes have are theirs.
 use Rattle.std.proofs.Common.{◌≡◌, ◌⊎◌, ℕ, ◌==◌, ◌&&◌, ◌||◌, Bool, true, false, Option, Some, None, Result, Ok, Err, List, length, refl, sym, ap, ◌∙◌, subst, inl, inr}
-use Rattle.std.specs.Prelude.{MatchOption, option_and_then, option_map, if◌then◌else◌}
+use Rattle.std.specs.Prelude.{MatchOption, option_and_then, option_map, slice_set, if◌then◌else◌}
 use Rattle.std.specs.Option.{option_map_or}
+use Rattle.std.proofs.lemmas.List.{set-get_or}
 use Rattle.std.proofs.lemmas.Option.{none-some}
 use Rattle.os9_base.specs.declared.errors.TheConstants.{E_BMODE, E_BPADDR, E_BPNAM, E_MNF, E_PNNF}
 use Rattle.os9_base.specs.declared.registers.TimePacket.{TimePacket}
@@ -13,28 +14,33 @@ use Rattle.call_rules.specs.Inner.{Inner}
 use Rattle.device_table.specs.Names.{device_of}
 use Rattle.device_table.specs.declared.devices.Dev.{Dev}
 use Rattle.device_table.specs.declared.devices.Dev.TheVariants.{Drive, Term, Pipe}
+use Rattle.lock_model.specs.Locks.{request_of}
+use Rattle.lock_model.specs.Records.{Records, with_waiting}
+use Rattle.lock_model.specs.declared.lock.Request.{Request}
 use Rattle.rbf_model.specs.Volume.{DiskVolume}
 use Rattle.io_rules.specs.Again.{path_number}
-use Rattle.io_rules.specs.Attempts.{Does, IoAttempts, io_step, result_of}
+use Rattle.io_rules.specs.Attempts.{Does, IoAttempts, io_after, io_step, result_of}
 use Rattle.io_rules.specs.Io.{Io, OpenPath, open_path}
 use Rattle.io_rules.specs.Lead.{Lead, a_new_place, lead_by_device, lead_of, on_device, what_is_there, nowhere as leads_nowhere}
 use Rattle.io_rules.specs.Modes.{can_write, is_mode}
 use Rattle.io_rules.specs.Open.{i_create as creates_device, i_open as opens_device, opens_lead, reads_list as reads_device_list}
 use Rattle.io_rules.specs.PathList.{PathList, ends_in_dots, has_slash_behind_device}
-use Rattle.io_rules.specs.Step.{IoStep, refused as io_refused}
+use Rattle.io_rules.specs.Step.{IoEnd, IoStep, answers, fails, keeps, refused as io_refused}
 use Rattle.io_rules.specs.declared.io_call.IoCall.{IoCall}
 use Rattle.io_rules.specs.declared.io_call.IoCall.TheVariants as Device
 use Rattle.file_rules.specs.Attempts.{FileAttempts, asker_of, file_step, files_after, io_effect}
 use Rattle.file_rules.specs.Create.{creates_on_way}
-use Rattle.file_rules.specs.Files.{Files, Asker, directory_of, open_file, open_file_at, place_of_target, volume_at, with_io}
+use Rattle.file_rules.specs.Files.{Files, Asker, directory_of, open_file, open_file_at, place_of_target, volume_at, with_io, with_records}
+use Rattle.file_rules.specs.Locking.{records_after}
 use Rattle.file_rules.specs.Open.{is_for_execution, opens_on_way, tests_mode}
 use Rattle.file_rules.specs.Step.{FileEffect, FileStep, refused, comes, as_io, FileDoes, on_files, refuses_so, with_drives_after}
 use Rattle.file_rules.specs.Way.{Way, is_drive, is_root, list_of, nowhere, reads_list, to_device, to_device_of, way_by, way_from, way_of, way_of_device, way_on_drive, way_to_new}
 use Rattle.file_rules.specs.declared.path_call.PathCall.{PathCall}
 use Rattle.file_rules.specs.declared.path_call.PathCall.TheVariants as Call
-use Rattle.file_rules.specs.declared.places.FilePlace.{FilePlace}
-use Rattle.touch_laws.specs.Devices.{device_call, takes_number, HasNoFiles, IsOnDevice}
+use Rattle.lock_model.specs.declared.place.FilePlace.{FilePlace}
+use Rattle.touch_laws.specs.Devices.{device_call, takes_number, HasNoFiles, IsOnDevice, LocksStay}
 use Rattle.touch_laws.proofs.Named.{is-theirs, step-on-device}
+use Rattle.touch_laws.proofs.Requests.{forgets-again, over-requested}
 
 -- ---- steps
 
@@ -200,7 +206,7 @@ module _ (asker : Asker) (files : Files) (terms : ℕ) (bare : HasNoFiles files 
   theirs Call.WritLn = named Call.WritLn Device.WritLn refl refl
   theirs Call.GetStt = named Call.GetStt Device.GetStt refl refl
   theirs Call.SetStt = named Call.SetStt Device.SetStt refl refl
-  theirs Call.Close = inl refl
+  theirs Call.Close = named Call.Close Device.Close refl refl
   theirs Call.PErr = named Call.PErr Device.PErr refl refl
 
   agrees-by : (call : PathCall) (device : IoCall) → device_call call ≡ Some device → IsTheirs call device
@@ -233,6 +239,9 @@ module _ (call : PathCall) (device : IoCall) (inner : Inner) (files : Files) (no
         directories = refl;
         volumes = refl;
         none_failed = well.none_failed;
+        requests =
+            over-requested (fails number) p files (files_after p (with_drives_after (refuses_so number files) well.drives)) files.records refl (λ q differ. refl) refl;
+        locks = LocksStay.stay refl;
       })
 
   -- a step that agrees with theirs is one of theirs
@@ -249,15 +258,27 @@ module _ (call : PathCall) (device : IoCall) (inner : Inner) (files : Files) (no
   pub bare-attempt : (left : Files) (old new : List TerminalState) → HasNoFiles files p → FileAttempts call inner files now p result left old new → IsOnDevice call inner files p result left old new
   bare-attempt left old new bare it = agreed-attempt left old new (agrees-by asker files (length old) bare call device is) it
 
+  -- a process without a request has none to forget
+  forgets-none : request_of files.records.locks p ≡ None → with_waiting files.records p None ≡ files.records
+  forgets-none none =
+      ap (λ (requests : List (Option Request)). record files.records { locks = record files.records.locks { requests = requests } })
+      (ap (slice_set files.records.locks.requests p) (sym none) ∙ set-get_or files.records.locks.requests p None)
+
+  quiet-records : (end : IoEnd) → request_of files.records.locks p ≡ None → records_after end (with_waiting files.records p None) p ≡ files.records
+  quiet-records (answers regs) none = forgets-again p files.records ∙ forgets-none none
+  quiet-records (fails number) none = forgets-again p files.records ∙ forgets-none none
+  quiet-records (keeps kept) none = forgets-none none
+
   -- and back
   attempts-by : (left : Io) (old new : List TerminalState) (it : IoAttempts device inner files.io
-      (length files.drives) p result left old new) → FileDoes (file_step call asker files (length old)) asker files
-      (on_files files it.effect) old new → FileAttempts call inner files now p result (with_io files left) old new
-  attempts-by left old new it does = record {
-    effect = on_files files it.effect;
+      (length files.drives) p result left old new) → HasNoFiles files p
+      → FileDoes (file_step call asker files (length old)) asker files (on_files p files it.effect) old new
+      → FileAttempts call inner files now p result (with_io files left) old new
+  attempts-by left old new it bare does = record {
+    effect = on_files p files it.effect;
     does = does;
     result_is = it.result_is;
-    state = ap (with_io files) it.state;
+    state = ap (with_io files) it.state ∙ ap (with_records (with_io files (io_after p it.effect))) (sym (quiet-records it.effect.end bare.requests));
   }
 
   pub bare-back : (left : Io) (old new : List TerminalState) → HasNoFiles files p → IoAttempts device inner files.io
@@ -269,11 +290,21 @@ module _ (call : PathCall) (device : IoCall) (inner : Inner) (files : Files) (no
           (length files.drives) (length old)) → FileAttempts call inner files now p result (with_io files left) old
           new
       by_step (inl step_is) =
-          attempts-by left old new it
-          (subst (λ (step : FileStep). FileDoes step asker files (on_files files it.effect) old new) (sym step_is)
-          (inl (record { it = on_files files it.effect; does = (it.effect, it.does, refl); drives = files.drives; none_failed = refl; effect_is = refl })))
+          attempts-by left old new it bare
+          (subst (λ (step : FileStep). FileDoes step asker files (on_files p files it.effect) old new) (sym step_is)
+          (inl (record { it = on_files p files it.effect; does = (it.effect, it.does, refl); drives = files.drives; none_failed = refl; effect_is = refl })))
       by_step (inr (number, step_is, device_is)) =
           let does : Does (io_refused number) asker.caller files.io it.effect old new = subst (λ (step : IoStep). Does step asker.caller files.io it.effect old new) device_is it.does in
-          attempts-by left old new it
-          (subst (λ (step : FileStep). FileDoes step asker files (on_files files it.effect) old new) (sym step_is)
-          (inl (record { it = on_files files it.effect; does = (ap (on_files files) does.0, does.1); drives = files.drives; none_failed = refl; effect_is = refl })))
+          attempts-by left old new it bare
+          (subst (λ (step : FileStep). FileDoes step asker files (on_files p files it.effect) old new) (sym step_is)
+          (inl (record {
+            it = on_files p files it.effect;
+            does = (
+              ap (on_files p files) does.0 ∙ ap
+                  (λ (records : Records). refuses_so number (with_records files records)) (forgets-none bare.requests),
+              does.1,
+            );
+            drives = files.drives;
+            none_failed = refl;
+            effect_is = refl;
+          })))

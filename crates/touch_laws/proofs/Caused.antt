@@ -14,8 +14,9 @@ use Rattle.io_rules.specs.Step.{IoEffect, answers, fails}
 use Rattle.file_rules.specs.Files.{Files, volume_at}
 use Rattle.file_rules.specs.Step.{refused, reaches, needs, refuses, FileStep, Deed, leaves_so, as_io, changes, deed_of, done}
 use Rattle.file_rules.specs.Way.{Found, along, list_of, reads_list as reads_list_of, walk_ends, walks}
-use Rattle.file_rules.specs.declared.places.FilePlace.{FilePlace}
-use Rattle.touch_laws.specs.Causes.{FileCause, Finds, IsUnreadable, Leads, Made, Walks, bad_address, finds_nothing, may_not_pass, no_name, no_volume, not_there, reads_list}
+use Rattle.lock_model.specs.declared.place.FilePlace.{FilePlace}
+use Rattle.touch_laws.specs.Causes.{FileCause, Finds, IsUnreadable, Leads, Walks, bad_address, finds_nothing, may_not_pass, no_name, no_volume, not_there, reads_list}
+use Rattle.touch_laws.specs.Claims.{Made}
 use Rattle.touch_laws.specs.Devices.{IsOnNoFile}
 use Rattle.touch_laws.proofs.Splits.{IsDeviceStep, not-refused}
 
@@ -57,9 +58,13 @@ module _ (m : Made) where
   caused-refuses true number next cause holds = caused-refused number (cause refl)
   caused-refuses false number next cause holds = holds
 
+  pub caused-tests : (test : Bool) (number : ℕ) (next : FileStep) → (test ≡ true → FileCause m number) → (test ≡ false → StepCaused next) → StepCaused (refuses test number next)
+  caused-tests true number next cause holds = caused-refused number (cause refl)
+  caused-tests false number next cause holds = holds refl
+
   -- ---- the list
 
-  module _ (reads : reads_list m.call ≡ true) (unreadable : list_of m.asker ≡ Err Unreadable → IsUnreadable m.call m.asker) where
+  module _ (reads : reads_list m.call ≡ true) (unreadable : list_of m.asker ≡ Err Unreadable → IsUnreadable m.call m.asker m.files) where
     pub caused-list : (read : Result PathList NameFault) → list_of m.asker ≡ read → (test : FileStep → FileStep)
         (next : PathList → FileStep) → ((step : FileStep) → StepCaused step → StepCaused (test step))
         → ((list : PathList) → list_of m.asker ≡ Ok list → StepCaused (next list))

@@ -20,7 +20,7 @@ use Rattle.touch_laws.proofs.Attempts.{ends-refused, on-device}
 use Rattle.touch_laws.proofs.Caused.{Caused, StepCaused}
 use Rattle.touch_laws.proofs.CausedDeletes.{delete-caused, deletx-caused}
 use Rattle.touch_laws.proofs.CausedNames.{chgdir-caused, create-caused, makdir-caused, open-caused}
-use Rattle.touch_laws.proofs.CausedNumbers.{getstt-caused, made, perr-caused, read-caused, readln-caused, seek-caused, setstt-caused, write-caused, writln-caused}
+use Rattle.touch_laws.proofs.CausedNumbers.{close-caused, getstt-caused, made, perr-caused, read-caused, readln-caused, seek-caused, setstt-caused, write-caused, writln-caused}
 use Rattle.touch_laws.proofs.Splits.{not-refused}
 
 step-caused : (call : PathCall) (asker : Asker) (files : Files) (terms : ℕ) → StepCaused (made call asker files terms) (file_step call asker files terms)
@@ -38,7 +38,7 @@ step-caused Call.ReadLn asker files terms = readln-caused asker files terms
 step-caused Call.WritLn asker files terms = writln-caused asker files terms
 step-caused Call.GetStt asker files terms = getstt-caused asker files terms
 step-caused Call.SetStt asker files terms = setstt-caused asker files terms
-step-caused Call.Close asker files terms = inl (record { device = Device.Close; device_is = refl; is = refl }, tt)
+step-caused Call.Close asker files terms = close-caused asker files terms
 step-caused Call.PErr asker files terms = perr-caused asker files terms
 
 same-fails : (n m : ℕ) → fails n ≡ fails m → n ≡ m

@@ -22,8 +22,9 @@ use Rattle.file_rules.specs.Sharing.{is_open}
 use Rattle.file_rules.specs.Step.{FileStep, refused, comes, changes, leaves, needs, refuses}
 use Rattle.file_rules.specs.Way.{Found, Way, along, before_last, last_of, list_of, nowhere, to_device, way_by, way_from, way_of, way_of_device, way_on_drive}
 use Rattle.file_rules.specs.declared.path_call.PathCall.TheVariants as Call
-use Rattle.file_rules.specs.declared.places.FilePlace.{FilePlace}
-use Rattle.touch_laws.specs.Causes.{FindsIn, Leads, Made, Walks, a_device, a_root, deletes_name, executes, forbidden_in, is_used, makes_new, not_in, reads_list}
+use Rattle.lock_model.specs.declared.place.FilePlace.{FilePlace}
+use Rattle.touch_laws.specs.Causes.{FindsIn, Leads, Walks, a_device, a_root, deletes_name, executes, forbidden_in, is_used, makes_new, not_in, reads_list}
+use Rattle.touch_laws.specs.Claims.{Made}
 use Rattle.touch_laws.proofs.Nowhere.{nowhere-caused}
 use Rattle.touch_laws.proofs.Caused.{StepCaused, caused-list, caused-needs, caused-refused, caused-refuses, caused-walks, not-is}
 use Rattle.touch_laws.proofs.CausedNames.{tests}

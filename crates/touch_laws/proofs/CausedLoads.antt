@@ -34,8 +34,9 @@ use Rattle.file_rules.specs.ProgramFile.{ProgramFile, ReadingIsBroken, ReadsProg
 use Rattle.file_rules.specs.Sharing.{is_not_shared}
 use Rattle.file_rules.specs.Step.{Step, comes, drive_of, needs, reaches, refused, refuses}
 use Rattle.file_rules.specs.Way.{Found, Way, along, list_of, nowhere, reads_list, to_device, walk_ends, walks, way_of}
-use Rattle.file_rules.specs.declared.places.FilePlace.{FilePlace}
-use Rattle.touch_laws.specs.Causes.{FileCause, Finds, Leads, LeadsNowhere, Made, bad_address, dots, finds_nothing, forbidden, may_not_pass, no_device, no_directory, no_name, no_volume, not_mounted, not_shared, not_there, root, slash}
+use Rattle.lock_model.specs.declared.place.FilePlace.{FilePlace}
+use Rattle.touch_laws.specs.Causes.{FileCause, Finds, Leads, LeadsNowhere, bad_address, dots, finds_nothing, forbidden, may_not_pass, no_device, no_directory, no_name, no_volume, not_mounted, not_shared, not_there, root, slash}
+use Rattle.touch_laws.specs.Claims.{Made}
 use Rattle.touch_laws.specs.LoadCauses.{CauseOfLoad, ChainCause, Enters, ForkCause, GroupCause, IsRead, LinkCause, LoadCause, ReadCause, StartCause, TestCause, a_module, as_opened, looking, many_pages, most_links, no_blocks, no_memory, no_module, no_parameters, no_place, no_process, no_program, no_slots, not_ended, not_entered, not_read, other_type, blocks_for, tested, to_a_device, too_long}
 use Rattle.touch_laws.specs.Touch.{FaultAnswers}
 use Rattle.touch_laws.proofs.Caused.{is_nothing, not-is}

@@ -24,7 +24,8 @@ use Rattle.file_rules.specs.Sharing.{is_not_shared}
 use Rattle.file_rules.specs.Step.{FileStep, comes, changes, done, leaves, needs, refuses}
 use Rattle.file_rules.specs.Way.{Found, Way, along, before_last, last_of, list_of, nowhere, to_device, walks, way_of, way_to_new}
 use Rattle.file_rules.specs.declared.path_call.PathCall.TheVariants as Call
-use Rattle.touch_laws.specs.Causes.{FindsIn, HasBadMode, Leads, Made, a_device, bad_mode, executes, first_size, forbidden, forbidden_in, makes_new, no_last, no_number, no_room, no_segment, not_shared, reads_list, there_already}
+use Rattle.touch_laws.specs.Causes.{FindsIn, HasBadMode, Leads, a_device, bad_mode, executes, first_size, forbidden, forbidden_in, makes_new, no_last, no_number, no_room, no_segment, not_shared, reads_list, there_already}
+use Rattle.touch_laws.specs.Claims.{Made}
 use Rattle.touch_laws.proofs.Nowhere.{nowhere-caused}
 use Rattle.touch_laws.proofs.Caused.{StepCaused, caused-done, caused-list, caused-needs, caused-refused, caused-refuses, caused-walks, not-is}
 use Rattle.touch_laws.proofs.CausedNumbers.{made}

@@ -21,9 +21,9 @@ use Rattle.io_rules.specs.Io.{Io, OpenPath, kept_at, new_desc, open_path, with_c
 use Rattle.file_rules.specs.Attempts.{asker_of}
 use Rattle.file_rules.specs.Files.{Asker, Files, OpenFile, open_file, open_file_at, place_of_target, volume_at}
 use Rattle.file_rules.specs.declared.path_call.PathCall.{PathCall}
-use Rattle.file_rules.specs.declared.places.FilePlace.{FilePlace}
+use Rattle.lock_model.specs.declared.place.FilePlace.{FilePlace}
 use Rattle.touch_laws.specs.Devices.{IsDevice, number_in}
-use Rattle.touch_laws.specs.Touch.{BeginsPath, KeepsCalls, KeepsIo, KeepsPaths, LeavesDevices, MovesPosition, PathsMove}
+use Rattle.touch_laws.specs.Touch.{BeginsPath, KeepsCalls, KeepsIo, KeepsPaths, LeavesDevices, MovesPosition, PathsMove, SetsTicks}
 
 -- ---- calls that wait
 
@@ -66,9 +66,12 @@ open-by io q n s desc slot there =
     ap (option_and_then (λ (s : SysPath). option_map (path_with s) (desc_of io.paths s.0))) slot
     ∙ ap (option_map (path_with s)) there
 
--- a descriptor stays, but for its position
+-- a descriptor stays, but for its position and its ticks
+abbrev pub IsLike : Desc → Desc → Type 0
+IsLike desc now = now ≡ record desc { at = now.at; ticks = now.ticks }
+
 abbrev pub DescStays : PathTable → ℕ → Desc → Type 0
-DescStays new s desc = (at : ℕ) × (desc_of new s ≡ Some (record desc { at = at }))
+DescStays new s desc = (now : Desc) × (desc_of new s ≡ Some now) × IsLike desc now
 
 pub record PathsStay (p : ℕ) (old new : PathTable) : Type 0 where
   pub numbers : (q : ℕ) → q ≢ p → numbers_of new q ≡ numbers_of old q
@@ -82,10 +85,10 @@ paths-kept p io new stay = record {
   numbers = stay.numbers;
   paths = λ q n opened is.
       let it = opened-is io q n opened is in
-      let (at, there) = stay.descs opened.path.0 opened.desc it.desc in (
-        path_with opened.path (record opened.desc { at = at }),
-        open-by (with_call (with_paths io new) p None) q n opened.path (record opened.desc { at = at }) (stay.slots q n opened.path it.slot) there,
-        record { path = refl; desc = refl },
+      let (now, there, like) = stay.descs opened.path.0 opened.desc it.desc in (
+        path_with opened.path now,
+        open-by (with_call (with_paths io new) p None) q n opened.path now (stay.slots q n opened.path it.slot) there,
+        record { path = refl; desc = like },
       );
   devices = stay.devices;
   no_device_new = stay.no_device_new;
@@ -95,7 +98,7 @@ stay-same : (p : ℕ) (paths : PathTable) → PathsStay p paths paths
 stay-same p paths = record {
   numbers = λ q differ. refl;
   slots = λ q n s is. is;
-  descs = λ s desc is. (desc.at, is);
+  descs = λ s desc is. (desc, is, refl);
   devices = λ s desc is device. is;
   no_device_new = λ s desc is device. is;
 }
@@ -108,20 +111,29 @@ desc-within paths s desc is =
       | inr past ↦ absurd (none-some desc (sym (get_or_past paths.descs s None past) ∙ is))
     ]
 
--- ---- a position
+-- ---- a position, and ticks
 
 not-both : (target : Target) (place : FilePlace) → place_of_target target ≡ Some place → IsDevice target → ⊥
 not-both target place on device = none-some place (sym device ∙ on)
 
-module _ (p : ℕ) (paths : PathTable) (s at : ℕ) (desc : Desc) (place : FilePlace) (there : desc_of paths s ≡ Some desc) (on : place_of_target desc.target ≡ Some place) where
+module _ (p : ℕ) (paths : PathTable) (s : ℕ) (desc new : Desc) (place : FilePlace) (there : desc_of paths s ≡ Some desc) (on : place_of_target desc.target ≡ Some place) (like : IsLike desc new) where
   abbrev moved : PathTable
-  moved = with_desc paths s (Some (record desc { at = at }))
+  moved = with_desc paths s (Some new)
 
-  moved-at : desc_of moved s ≡ Some (record desc { at = at })
-  moved-at = get_or-set_same paths.descs s (Some (record desc { at = at })) None (desc-within paths s desc there)
+  moved-at : desc_of moved s ≡ Some new
+  moved-at = get_or-set_same paths.descs s (Some new) None (desc-within paths s desc there)
 
   moved-other : (t : ℕ) → t ≢ s → desc_of moved t ≡ desc_of paths t
-  moved-other t differ = get_or-set_other paths.descs s t (Some (record desc { at = at })) None differ
+  moved-other t differ = get_or-set_other paths.descs s t (Some new) None differ
+
+  was-same : (t : ℕ) (other : Desc) → t ≡ s → desc_of paths t ≡ Some other → desc ≡ other
+  was-same t other same is = same_Some desc other (sym there ∙ sym (ap (desc_of paths) same) ∙ is)
+
+  is-new : (t : ℕ) (other : Desc) → t ≡ s → desc_of moved t ≡ Some other → new ≡ other
+  is-new t other same is = same_Some new other (sym moved-at ∙ sym (ap (desc_of moved) same) ∙ is)
+
+  new-on : place_of_target new.target ≡ Some place
+  new-on = ap (λ (d : Desc). place_of_target d.target) like ∙ on
 
   stay-moved : PathsStay p paths moved
   stay-moved = record {
@@ -129,19 +141,17 @@ module _ (p : ℕ) (paths : PathTable) (s at : ℕ) (desc : Desc) (place : FileP
     slots = λ q n t is. is;
     descs = λ t other is.
         elim (cases_eq t s) [
-          | inl same ↦ (at, ap (desc_of moved) same ∙ moved-at ∙ ap (λ (d : Desc). Some (record d { at = at })) (same_Some desc other (sym there ∙ sym (ap (desc_of paths) same) ∙ is)))
-          | inr differ ↦ (other.at, moved-other t differ ∙ is)
+          | inl same ↦ (new, ap (desc_of moved) same ∙ moved-at, subst (λ (d : Desc). IsLike d new) (was-same t other same is) like)
+          | inr differ ↦ (other, moved-other t differ ∙ is, refl)
         ];
     devices = λ t other is device.
         elim (cases_eq t s) [
-          | inl same ↦ absurd (not-both other.target place (ap (λ (d : Desc). place_of_target d.target) (sym (same_Some desc other (sym there ∙ sym (ap (desc_of paths) same) ∙ is))) ∙ on) device)
+          | inl same ↦ absurd (not-both other.target place (ap (λ (d : Desc). place_of_target d.target) (sym (was-same t other same is)) ∙ on) device)
           | inr differ ↦ moved-other t differ ∙ is
         ];
     no_device_new = λ t other is device.
         elim (cases_eq t s) [
-          | inl same ↦ absurd (not-both other.target place (ap (λ (d : Desc). place_of_target d.target)
-              (sym (same_Some (record desc { at = at }) other (sym moved-at ∙ sym (ap (desc_of moved) same) ∙ is))) ∙
-              on) device)
+          | inl same ↦ absurd (not-both other.target place (ap (λ (d : Desc). place_of_target d.target) (sym (is-new t other same is)) ∙ new-on) device)
           | inr differ ↦ sym (moved-other t differ) ∙ is
         ];
   }
@@ -165,11 +175,49 @@ file-named files p n found is =
     map-some (λ (file : DiskFile). record { opened = path; place = place; volume = v; file = file }) (v.files place.number) found mapped (λ file there same.
     subst (IsNamed files p n) same (record { desc = (opened-is files.io p n path named).desc; place = on })))))
 
+-- the system path that the number names
+pub file-slot : (files : Files) (p n : ℕ) (found : OpenFile) → open_file files p n ≡ Some found → slot_of files.io.paths p n ≡ Some found.opened.path
+file-slot files p n found is =
+    option_and_then_some (λ (path : OpenPath). option_and_then (open_file_at files path) (place_of_target path.desc.target)) (open_path files.io p n) found is (λ path named at.
+    option_and_then_some (open_file_at files path) (place_of_target path.desc.target) found at (λ place on here.
+    option_and_then_some (λ (v : DiskVolume). option_map (λ (file : DiskFile). record {
+      opened = path;
+      place = place;
+      volume = v;
+      file = file;
+    }) (v.files place.number)) (volume_at files place.drive) found here
+    (λ v mounted mapped.
+    map-some (λ (file : DiskFile). record { opened = path; place = place; volume = v; file = file }) (v.files place.number) found mapped (λ file there same.
+    subst (λ (f : OpenFile). slot_of files.io.paths p n ≡ Some f.opened.path) same (opened-is files.io p n path named).slot))))
+
+-- and the path
+pub file-opened : (files : Files) (p n : ℕ) (found : OpenFile) → open_file files p n ≡ Some found → open_path files.io p n ≡ Some found.opened
+file-opened files p n found is =
+    option_and_then_some (λ (path : OpenPath). option_and_then (open_file_at files path) (place_of_target path.desc.target)) (open_path files.io p n) found is (λ path named at.
+    option_and_then_some (open_file_at files path) (place_of_target path.desc.target) found at (λ place on here.
+    option_and_then_some (λ (v : DiskVolume). option_map (λ (file : DiskFile). record {
+      opened = path;
+      place = place;
+      volume = v;
+      file = file;
+    }) (v.files place.number)) (volume_at files place.drive) found here
+    (λ v mounted mapped.
+    map-some (λ (file : DiskFile). record { opened = path; place = place; volume = v; file = file }) (v.files place.number) found mapped (λ file there same.
+    subst (λ (f : OpenFile). open_path files.io p n ≡ Some f.opened) same named))))
+
 pub stay-position : (call : PathCall) (asker : Asker) (files : Files) (paths : PathTable) → MovesPosition call asker files paths → PathsStay asker.caller.process.0 files.io.paths paths
 stay-position call asker files paths it =
     let named = file-named files asker.caller.process.0 (number_in call asker) it.found it.named in
     subst (PathsStay asker.caller.process.0 files.io.paths) (sym it.is) (stay-moved asker.caller.process.0
-    files.io.paths it.found.opened.path.0 it.at it.found.opened.desc it.found.place named.desc named.place)
+    files.io.paths it.found.opened.path.0 it.found.opened.desc (record it.found.opened.desc { at = it.at })
+    it.found.place named.desc named.place refl)
+
+pub stay-ticks : (call : PathCall) (asker : Asker) (files : Files) (paths : PathTable) → SetsTicks call asker files paths → PathsStay asker.caller.process.0 files.io.paths paths
+stay-ticks call asker files paths it =
+    let named = file-named files asker.caller.process.0 (number_in call asker) it.found it.named in
+    subst (PathsStay asker.caller.process.0 files.io.paths) (sym it.is) (stay-moved asker.caller.process.0
+    files.io.paths it.found.opened.path.0 it.found.opened.desc (record it.found.opened.desc
+    { ticks = asker.caller.regs.x }) it.found.place named.desc named.place refl)
 
 -- ---- a new path
 
@@ -241,7 +289,7 @@ module _ (p : ℕ) (paths : PathTable) (target : Target) (mode : ℕ) (place : F
     stay-new = record {
       numbers = begun-numbers;
       slots = begun-slot;
-      descs = λ t desc is. (desc.at, begun-other t (there-other t desc is) ∙ is);
+      descs = λ t desc is. (desc, begun-other t (there-other t desc is) ∙ is, refl);
       devices = λ t desc is device. begun-other t (there-other t desc is) ∙ is;
       no_device_new = λ t desc is device. sym (begun-other t (begun-new t desc is device)) ∙ is;
     }
@@ -265,7 +313,8 @@ pub stays : (call : PathCall) (asker : Asker) (files : Files) (paths : PathTable
 stays call asker files paths (inl same) =
     subst (PathsStay asker.caller.process.0 files.io.paths) (sym same) (stay-same asker.caller.process.0 files.io.paths)
 stays call asker files paths (inr (inl moves)) = stay-position call asker files paths moves
-stays call asker files paths (inr (inr begins)) = stay-path call asker files paths begins
+stays call asker files paths (inr (inr (inl sets))) = stay-ticks call asker files paths sets
+stays call asker files paths (inr (inr (inr begins))) = stay-path call asker files paths begins
 
 pub io-kept : {call : PathCall} {now : TimePacket} (inner : Inner) (files : Files) (p : ℕ) (result : CallResult)
     (new : Files) (before after : List TerminalState) → LeavesDevices call inner files now p result new before after

@@ -15,7 +15,7 @@ use Rattle.file_rules.specs.Step.{Step, drive_of}
 use Rattle.touch_laws.specs.Touch.{FaultAnswers, LeavesFiles}
 
 leaves-same : (reached : Option ℕ) (old : Files) (result : CallResult) → LeavesFiles reached old result old
-leaves-same reached old result = record { io = refl; directories = refl; volumes = refl; drives = inl refl }
+leaves-same reached old result = record { io = refl; directories = refl; volumes = refl; records = refl; drives = inl refl }
 
 -- what a reading of a file leaves
 module _ (s : Inner) (step : Step ProgramFile) (next : ProgramFile → Loaded → CallResult) (old : Files) (result : CallResult) where
@@ -27,6 +27,7 @@ module _ (s : Inner) (step : Step ProgramFile) (next : ProgramFile → Loaded �
     io = refl;
     directories = refl;
     volumes = refl;
+    records = refl;
     drives = by_outcome it.outcome;
   })
     where

@@ -27,7 +27,7 @@ use Rattle.file_rules.specs.Step.{FileEffect, FileStep, comes, as_io, FileDoes, 
 use Rattle.file_rules.specs.Way.{along, is_root, nowhere, to_device, way_by, way_from, way_of, way_of_device, way_on_drive, way_to_new}
 use Rattle.file_rules.specs.declared.path_call.PathCall.{PathCall}
 use Rattle.file_rules.specs.declared.path_call.PathCall.TheVariants as Call
-use Rattle.file_rules.specs.declared.places.FilePlace.{FilePlace}
+use Rattle.lock_model.specs.declared.place.FilePlace.{FilePlace}
 use Rattle.touch_laws.specs.Devices.{device_call, takes_number, IsDevice, IsOnDevice, IsOnNoFile, LeadsToDevice}
 use Rattle.touch_laws.proofs.Attempts.{on-device}
 
@@ -59,7 +59,7 @@ module _ (asker : Asker) (files : Files) (terms : ℕ) where
   theirs Call.WritLn = λ takes none. file-none _ _ _ none
   theirs Call.GetStt = λ takes none. file-none _ _ _ none
   theirs Call.SetStt = λ takes none. file-none _ _ _ none
-  theirs Call.Close = λ takes none. refl
+  theirs Call.Close = λ takes none. file-none _ _ _ none
   theirs Call.PErr = λ takes none. file-none _ _ _ none
 
   pub is-theirs : (call : PathCall) (device : IoCall) → device_call call ≡ Some device → IsTheirs call device

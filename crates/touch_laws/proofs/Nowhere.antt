@@ -9,8 +9,9 @@ use Rattle.rbf_model.specs.Volume.{DiskVolume}
 use Rattle.io_rules.specs.PathList.{PathList, ends_in_dots, has_slash_behind_device}
 use Rattle.file_rules.specs.Files.{directory_of, volume_at}
 use Rattle.file_rules.specs.Way.{along, is_root, nowhere, to_device, way_by, way_from, way_of, way_of_device, way_on_drive, way_to_new}
-use Rattle.file_rules.specs.declared.places.FilePlace.{FilePlace}
-use Rattle.touch_laws.specs.Causes.{FileCause, IsNoDrive, Leads, LeadsNowhere, Made, device_in, dots, executes, leads_nowhere, makes_new, no_device, no_directory, not_mounted, root, slash}
+use Rattle.lock_model.specs.declared.place.FilePlace.{FilePlace}
+use Rattle.touch_laws.specs.Causes.{FileCause, IsNoDrive, Leads, LeadsNowhere, device_in, dots, executes, leads_nowhere, makes_new, no_device, no_directory, not_mounted, root, slash}
+use Rattle.touch_laws.specs.Claims.{Made}
 
 same-nowhere : (n m : ℕ) → nowhere n ≡ nowhere m → m ≡ n
 same-nowhere n m is = cc

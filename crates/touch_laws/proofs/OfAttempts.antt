@@ -11,7 +11,7 @@ use Rattle.file_rules.specs.Files.{open_file}
 use Rattle.file_rules.specs.Way.{to_device}
 use Rattle.file_rules.specs.declared.path_call.PathCall.{PathCall}
 use Rattle.file_rules.specs.declared.path_call.PathCall.TheVariants as Call
-use Rattle.touch_laws.specs.Attempt.{Attempt, HasList, IsAsOnDevice, IsOnNumber, IsWithoutFiles, OnDevice, TouchesNone, Waits, asker_in, regs_in, way_to_create, way_to_open}
+use Rattle.touch_laws.specs.Attempt.{Attempt, HasList, IsAsOnDevice, IsOnNumber, IsWithoutFiles, OnDevice, TouchesNone, Waits, WaitsOnRecord, asker_in, regs_in, way_to_create, way_to_open}
 use Rattle.touch_laws.specs.Devices.{IsDevice, IsOnDevice, IsOnNoFile, device_call}
 use Rattle.touch_laws.proofs.Attempts.{attempt-splits}
 use Rattle.touch_laws.proofs.Bare.{agreed-attempt, bare-attempt}
@@ -24,7 +24,7 @@ some-of None some = absurd (false≢true some)
 some-of (Some a) some = (a, refl)
 
 module _ (it : Attempt) where
-  pub comes-of : OnDevice it ⊎ TouchesNone it
+  pub comes-of : OnDevice it ⊎ TouchesNone it ⊎ WaitsOnRecord it
   comes-of = attempt-splits it.call it.inner it.files it.now it.process it.result it.new it.before it.after it.attempted
 
   pub number-of : (n : ℕ) → IsOnNumber it n → open_file it.files it.process n ≡ None → OnDevice it
@@ -37,7 +37,7 @@ module _ (it : Attempt) where
   pub again-of : (n : ℕ) (opened : OpenPath) → IsOnNumber it n → open_path it.files.io it.process n ≡ Some opened → IsDevice opened.desc.target → OnDevice it
   again-of n opened on is device = number-of n on (device-no-file it.files it.process n opened is device)
 
-  pub waits-of : IsSome (kept_at it.new.io it.process) → Waits it
+  pub waits-of : IsSome (kept_at it.new.io it.process) → Waits it ⊎ WaitsOnRecord it
   waits-of some =
       let (kept, is) = some-of (kept_at it.new.io it.process) some in
       file-waits it.call it.inner it.files it.now it.process it.result it.new it.before it.after it.attempted kept is

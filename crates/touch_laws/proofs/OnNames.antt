@@ -30,7 +30,7 @@ use Rattle.file_rules.specs.Step.{FileStep, refused, comes, changes, done, leave
 use Rattle.file_rules.specs.Way.{Found, Way, along, before_last, last_of, list_of, nowhere, to_device, walks, way_of, way_to_new}
 use Rattle.file_rules.specs.declared.path_call.PathCall.{PathCall}
 use Rattle.file_rules.specs.declared.path_call.PathCall.TheVariants as Call
-use Rattle.file_rules.specs.declared.places.FilePlace.{FilePlace}
+use Rattle.lock_model.specs.declared.place.FilePlace.{FilePlace}
 use Rattle.touch_laws.specs.Touch.{begins_path, may_change_volume}
 use Rattle.touch_laws.proofs.Splits.{Leaves, SplitsOn, StepSplits, answered, answered-same, device-splits, list-by, needs-by, none-on, none-splits, not-refused, refuses-by, walks-split}
 
@@ -55,7 +55,7 @@ module _ (call : PathCall) (asker : Asker) (files : Files) (terms : ℕ) where
       (new_desc target asker.caller.regs.a))))
   begun begins number free target place on list =
       answered call asker files (with_path_table files (paths_after_begin files.io.paths asker.caller.process.0 (new_desc target asker.caller.regs.a))) 0 [] (opened_regs asker.caller.regs list number)
-      (inr (inr (record { begins = begins; number = number; free = free; target = target; place = place; on = on; is = refl }))) refl refl refl
+      (inr (inr (inr (record { begins = begins; number = number; free = free; target = target; place = place; on = on; is = refl })))) refl refl refl refl
 
   module _ (list : PathList) (found : Found) where
     -- what is done with a file on the drive that was reached
@@ -75,7 +75,7 @@ module _ (call : PathCall) (asker : Asker) (files : Files) (terms : ℕ) where
         (λ number. done (opened_regs asker.caller.regs list number)
         (with_path_table files (paths_after_begin files.io.paths asker.caller.process.0
         (new_desc (target_on found.file found.place) asker.caller.regs.a))))
-        (λ number free. begun begins number free (target_on found.file found.place) found.place (target-place found.file found.place) list)))
+        (λ number free. inl (begun begins number free (target_on found.file found.place) found.place (target-place found.file found.place) list))))
 
     -- ---- I$Create, I$MakDir and I$Delete
 
@@ -250,6 +250,7 @@ module _ (asker : Asker) (files : Files) (terms : ℕ) where
         found.place) no_directories differ;
     own = λ differ. absurd (differ refl);
     volumes = refl;
+    requests = refl;
     refusal = λ number is. absurd (not-refused (past_list asker.caller.regs list) number is);
   }
 
@@ -258,7 +259,7 @@ module _ (asker : Asker) (files : Files) (terms : ℕ) where
       refuses-by (SplitsOn Call.ChgDir asker files terms found.place.drive) (none-on Call.ChgDir asker files terms
       found.place.drive) (not (may_go_to found.file asker.user asker.caller.regs.a)) E_FNA
       (done (past_list asker.caller.regs list) (goes_there found))
-      (gone list found)
+      (inl (gone list found))
 
   go-way : (list : PathList) (way : Way) → StepSplits Call.ChgDir asker files terms (goes_on_way asker files list way)
   go-way list (along from names) =

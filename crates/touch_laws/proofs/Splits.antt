@@ -1,29 +1,36 @@
 -- What the parts of a step of a call on files come to: a call on a terminal or a pipe, or what touches none.
 use Rattle.std.proofs.Common.{◌≡◌, ◌≢◌, ◌⊎◌, ℕ, Bool, true, false, Option, Some, None, Result, Ok, Err, List, [], length, refl, ap, inl, inr}
 use Rattle.std.specs.Prelude.{slice_index_or}
-use Rattle.os9_base.specs.declared.errors.TheConstants.{E_BPADDR, E_BPNAM, E_MNF, E_FNA, E_PNNF}
+use Rattle.os9_base.specs.declared.errors.TheConstants.{E_BPADDR, E_BPNAM, E_DEADLK, E_LOCK, E_MNF, E_FNA, E_PNNF}
 use Rattle.os9_base.specs.declared.registers.Regs.{Regs}
 use Rattle.os9_outer.specs.TerminalState.{TerminalState}
 use Rattle.user_names.specs.declared.name_fault.NameFault.{NameFault}
 use Rattle.user_names.specs.declared.name_fault.NameFault.TheVariants.{Unreadable, NoName}
+use Rattle.lock_model.specs.Records.{Records, without_lock}
+use Rattle.lock_model.specs.declared.lock.Request.{Request}
+use Rattle.lock_model.specs.declared.lock.Grant.{Grant}
+use Rattle.lock_model.specs.declared.lock.Grant.TheVariants.{Granted, Locked, Deadlock, Wait}
 use Rattle.rbf_model.specs.Volume.{DiskVolume}
 use Rattle.rbf_model.specs.Walk.{WalkEnd, arrives, not_allowed, not_found, walk}
 use Rattle.io_rules.specs.Attempts.{Does, io_step, kept_in}
-use Rattle.io_rules.specs.Io.{with_paths}
+use Rattle.io_rules.specs.Io.{OpenPath, open_path, with_paths}
 use Rattle.io_rules.specs.PathList.{PathList}
-use Rattle.io_rules.specs.Step.{IoEffect, IoStep, answers, fails}
+use Rattle.io_rules.specs.Step.{IoEffect, IoStep, answers, comes as io_comes, fails, keeps}
 use Rattle.io_rules.specs.declared.io_call.IoCall.{IoCall}
 use Rattle.file_rules.specs.Change.{Change, writes, sizes, sets_attributes, creates, makes_directory, deletes}
-use Rattle.file_rules.specs.Files.{Files, Asker, OpenFile, directories_at, no_directories, open_file, volume_at, with_position}
+use Rattle.file_rules.specs.Files.{Files, Asker, OpenFile, directories_at, no_directories, open_file, volume_at, with_position, with_records, with_ticks}
+use Rattle.file_rules.specs.Locking.{answer_to, asks, asks_by, call_of, request_now, waiting_in}
+use Rattle.file_rules.specs.declared.claim.Claim.{Claim}
 use Rattle.file_rules.specs.OnFile.{by_kind, on_file}
-use Rattle.file_rules.specs.Step.{Step, refused, comes, reaches, needs, refuses, refuses_so, FileEffect, FileStep, Deed, leaves_so, as_io, changes, deed_of, drive_of, VolumeChange, done}
+use Rattle.file_rules.specs.Step.{Step, refused, comes, reaches, needs, refuses, refuses_so, FileEffect, FileStep, Deed, leaves, leaves_so, as_io, changes, deed_of, drive_of, on_files, VolumeChange, done}
 use Rattle.file_rules.specs.Way.{Found, reads_list, walk_ends, walks}
 use Rattle.file_rules.specs.declared.path_call.PathCall.{PathCall}
 use Rattle.file_rules.specs.declared.path_call.PathCall.TheVariants as Call
 use Rattle.file_rules.specs.declared.places.Directories.{Directories}
-use Rattle.file_rules.specs.declared.places.FilePlace.{FilePlace}
+use Rattle.lock_model.specs.declared.place.FilePlace.{FilePlace}
+use Rattle.touch_laws.specs.Claims.{Claims, Made, Requests}
 use Rattle.touch_laws.specs.Devices.{IsOnNoFile, device_call, number_in}
-use Rattle.touch_laws.specs.Touch.{PathsMove, may_change_volume, moves_position}
+use Rattle.touch_laws.specs.Touch.{IsTicks, PathsMove, may_change_volume, moves_position}
 
 -- ---- what holds of each part of a step holds of it
 
@@ -35,6 +42,10 @@ module _ {E : Type 0} (P : Step E → Type 0) (none : (number : ℕ) → P (refu
   pub refuses-by : (test : Bool) (number : ℕ) (next : Step E) → P next → P (refuses test number next)
   refuses-by true number next holds = none number
   refuses-by false number next holds = holds
+
+  pub refuses-if : (test : Bool) (number : ℕ) (next : Step E) → (test ≡ false → P next) → P (refuses test number next)
+  refuses-if true number next holds = none number
+  refuses-if false number next holds = holds refl
 
   pub list-by : (list : Result PathList NameFault) (test : Step E → Step E) (next : PathList → Step E)
       → ((step : Step E) → P step → P (test step)) → ((l : PathList) → list ≡ Ok l → P (next l))
@@ -53,6 +64,7 @@ pub record Leaves (call : PathCall) (asker : Asker) (files : Files) (effect : Fi
   pub directories : (q : ℕ) → q ≢ asker.caller.process.0 → directories_at effect.files q ≡ directories_at files q
   pub own : call ≢ Call.ChgDir → effect.files.directories ≡ files.directories
   pub volumes : effect.files.volumes ≡ files.volumes
+  pub requests : effect.files.records.locks.requests ≡ files.records.locks.requests
   pub refusal : (number : ℕ) → effect.end ≡ fails number → effect.files ≡ files
 
 pub not-refused : (regs : Regs) (number : ℕ) → answers regs ≡ fails number → ⊥
@@ -71,30 +83,51 @@ module _ (call : PathCall) (asker : Asker) (files : Files) where
   -- it is done, and these are the files then
   pub answered : (new : Files) (at : ℕ) (bytes : List ℕ) (regs : Regs) → PathsMove call asker files new.io.paths
       → new.io ≡ with_paths files.io new.io.paths → new.directories ≡ files.directories → new.volumes ≡ files.volumes
-      → Leaves call asker files (record { end = answers regs; at = at; bytes = bytes; files = new })
-  answered new at bytes regs paths rest directories volumes = record {
+      → new.records.locks.requests ≡ files.records.locks.requests → Leaves call asker files
+      (record { end = answers regs; at = at; bytes = bytes; files = new })
+  answered new at bytes regs paths rest directories volumes requests = record {
     over = refl;
     paths = paths;
     rest = rest;
     directories = λ q differ. ap (λ (all : List Directories). slice_index_or all q no_directories) directories;
     own = λ differ. directories;
     volumes = volumes;
+    requests = requests;
     refusal = λ number is. absurd (not-refused regs number is);
   }
 
   -- nothing of it changes
   pub answered-same : (at : ℕ) (bytes : List ℕ) (regs : Regs) → Leaves call asker files (record { end = answers regs; at = at; bytes = bytes; files = files })
-  answered-same at bytes regs = answered files at bytes regs (inl refl) refl refl refl
+  answered-same at bytes regs = answered files at bytes regs (inl refl) refl refl refl refl
 
-  -- a position moves
+  -- a position moves, and these are the records
   pub answered-at : moves_position call ≡ true → (found : OpenFile) → open_file files asker.caller.process.0
-      (number_in call asker) ≡ Some found → (place at : ℕ) (bytes : List ℕ) (regs : Regs) → Leaves call asker files
-      (record { end = answers regs; at = at; bytes = bytes; files = with_position files found.opened place })
-  answered-at moves found named place at bytes regs =
-      answered (with_position files found.opened place) at bytes regs
-      (inr (inl (record { moves = moves; found = found; named = named; at = place; is = refl }))) refl refl refl
+      (number_in call asker) ≡ Some found → (records : Records) → records.locks.requests ≡
+      files.records.locks.requests → (place at : ℕ) (bytes : List ℕ) (regs : Regs) → Leaves call asker files
+      (record {
+        end = answers regs;
+        at = at;
+        bytes = bytes;
+        files = with_position (with_records files records)
+            found.opened place;
+      })
+  answered-at moves found named records requests place at bytes regs =
+      answered (with_position (with_records files records) found.opened place) at bytes regs
+      (inr (inl (record { moves = moves; found = found; named = named; at = place; is = refl }))) refl refl refl requests
+
+  -- ticks are set
+  pub answered-ticks : IsTicks call asker → (found : OpenFile) → open_file files asker.caller.process.0
+      (number_in call asker) ≡ Some found → Leaves call asker files (leaves (answers asker.caller.regs)
+      (with_ticks files found.opened asker.caller.regs.x))
+  answered-ticks sets found named =
+      answered (with_ticks files found.opened asker.caller.regs.x) 0 [] asker.caller.regs
+      (inr (inr (inl (record { sets = sets; found = found; named = named; is = refl })))) refl refl refl refl
 
 -- ---- what a step comes to
+
+-- what is left, with these records
+abbrev pub with_records_after : FileEffect → Records → FileEffect
+with_records_after it records = record it { files = with_records it.files records }
 
 module _ (call : PathCall) (asker : Asker) (files : Files) (terms : ℕ) where
   -- what is done is a call on a terminal or a pipe
@@ -120,9 +153,43 @@ module _ (call : PathCall) (asker : Asker) (files : Files) (terms : ℕ) where
     pub answer : (n : ℕ) → (regs : Regs) × ((it.effect n).end ≡ answers regs)
     pub fixed : CreatesFile it.change ⊎ ((m n : ℕ) → it.effect m ≡ it.effect n)
 
+  -- I$Close ends the lock of the path that it closes
+  pub record ClosesLock (records : Records) : Type 0 where
+    pub opened : OpenPath
+    pub close : call ≡ Call.Close
+    pub named : open_path files.io asker.caller.process.0 asker.caller.regs.a ≡ Some opened
+    pub is : records ≡ without_lock files.records opened.path.0
+
+  -- it is what the call on a terminal or a pipe does, but for records
+  pub record IsAsDevice (it : FileEffect) : Type 0 where
+    pub device : IoCall
+    pub device_is : device_call call ≡ Some device
+    pub effect : IoEffect
+    pub is : io_step device asker.caller files.io (length files.drives) terms ≡ io_comes effect
+    pub over : kept_in effect.end ≡ None
+    pub records : Records
+    pub requests : records.locks.requests ≡ files.records.locks.requests
+    pub ends : (records ≡ files.records) ⊎ ClosesLock records
+    pub same : it ≡ with_records_after (on_files asker.caller.process.0 files effect) records
+    pub on : IsOnNoFile call asker files terms
+
+  abbrev pub made : Made
+  made = record { call = call; asker = asker; files = files; terms = terms }
+
+  -- it waits for a record of the file that its number names
+  pub record WaitsSo (it : FileEffect) : Type 0 where
+    pub request : Request
+    pub requests : Requests made request
+    pub answer : answer_to asker files request ≡ Wait
+    pub same : it ≡ leaves (keeps (call_of request)) (waiting_in files request)
+
+  -- what changes no volume
+  abbrev pub EndsSo : FileEffect → Type 0
+  EndsSo it = Leaves call asker files it ⊎ IsAsDevice it ⊎ WaitsSo it
+
   -- what is done where this drive was reached, or none
   abbrev pub Splits : Option ℕ → Deed → Type 0
-  Splits reached (leaves_so it) = Leaves call asker files it
+  Splits reached (leaves_so it) = EndsSo it
   Splits reached (as_io step) = IsDeviceStep step × IsOnNoFile call asker files terms ⊎ IsStill step
   Splits reached (changes it) = Answers reached it
 
@@ -133,22 +200,38 @@ module _ (call : PathCall) (asker : Asker) (files : Files) (terms : ℕ) where
   abbrev pub SplitsOn : ℕ → FileStep → Type 0
   SplitsOn drive step = Splits (Some drive) (deed_of step files)
 
-  refused-leaves : (number : ℕ) → Leaves call asker files (refuses_so number files)
+  pub refused-leaves : (number : ℕ) → Leaves call asker files (refuses_so number files)
   refused-leaves number =
-      record { over = refl; paths = inl refl; rest = refl; directories = λ q differ. refl; own = λ differ. refl; volumes = refl; refusal = λ number is. refl }
+      record { over = refl; paths = inl refl; rest = refl; directories = λ q differ. refl; own = λ differ. refl; volumes = refl; requests = refl; refusal = λ number is. refl }
 
   pub none-splits : (number : ℕ) → StepSplits (refused number)
-  none-splits number = refused-leaves number
+  none-splits number = inl (refused-leaves number)
 
   pub none-on : (drive number : ℕ) → SplitsOn drive (refused number)
-  none-on drive number = refused-leaves number
+  none-on drive number = inl (refused-leaves number)
 
   pub done-splits : (regs : Regs) → StepSplits (done regs files)
-  done-splits regs = answered-same call asker files 0 [] regs
+  done-splits regs = inl (answered-same call asker files 0 [] regs)
 
   pub device-splits : (device : IoCall) → device_call call ≡ Some device → IsOnNoFile call asker files terms
       → StepSplits (comes (as_io (io_step device asker.caller files.io (length files.drives) terms)))
   device-splits device is none = inl (record { device = device; device_is = is; is = refl }, none)
+
+  -- a request: the call goes on, is refused or waits
+  asks-by : (request : Request) → Requests made request → (drive : ℕ) (next : FileStep) → SplitsOn drive next
+      → (grant : Grant) → answer_to asker files request ≡ grant → SplitsOn drive (asks_by grant files request next)
+  asks-by request requests drive next holds Granted is = holds
+  asks-by request requests drive next holds Locked is = none-on drive E_LOCK
+  asks-by request requests drive next holds Deadlock is = none-on drive E_DEADLK
+  asks-by request requests drive next holds Wait is =
+      inr (inr (record { request = request; requests = requests; answer = is; same = refl }))
+
+  pub asks-split : (found : OpenFile) → open_file files asker.caller.process.0 (number_in call asker) ≡ Some found
+      → (claim : Claim) → Claims call asker files found claim → (drive : ℕ) (next : FileStep) → SplitsOn drive next
+      → SplitsOn drive (asks asker files (request_now asker files found claim) next)
+  asks-split found named claim claims drive next holds =
+      asks-by (request_now asker files found claim) (record { found = found; names = named; claim = claim; claims = claims; is = refl }) drive next holds
+      (answer_to asker files (request_now asker files found claim)) refl
 
   -- a walk, and what is done where it ends
   pub walks-split : (execute : Bool) (from : FilePlace) (names : List (List ℕ)) (next : Found → FileStep)

@@ -19,7 +19,7 @@ use Rattle.io_rules.specs.Io.{new_desc}
 use Rattle.file_rules.specs.Attempts.{asker_of}
 use Rattle.file_rules.specs.Files.{Asker, Files, place_of_target}
 use Rattle.file_rules.specs.declared.path_call.PathCall.{PathCall}
-use Rattle.file_rules.specs.declared.places.FilePlace.{FilePlace}
+use Rattle.lock_model.specs.declared.place.FilePlace.{FilePlace}
 use Rattle.touch_laws.specs.Devices.{number_in}
 use Rattle.touch_laws.specs.Touch.{KeepsTable, LeavesDevices, PathsMove}
 use Rattle.touch_laws.proofs.Keeps.{begun, begun-numbers, begun-other, desc-within, file-named, free-slot}
@@ -237,7 +237,11 @@ table-kept call asker files paths (inr (inl it)) =
     subst (KeepsTable files.io.paths) (sym it.is) (table-moved files.io.paths it.found.opened.path.0
     it.found.opened.desc (record it.found.opened.desc { at = it.at }) (file-named files asker.caller.process.0
     (number_in call asker) it.found it.named).desc)
-table-kept call asker files paths (inr (inr it)) =
+table-kept call asker files paths (inr (inr (inl it))) =
+    subst (KeepsTable files.io.paths) (sym it.is) (table-moved files.io.paths it.found.opened.path.0
+    it.found.opened.desc (record it.found.opened.desc { ticks = asker.caller.regs.x })
+    (file-named files asker.caller.process.0 (number_in call asker) it.found it.named).desc)
+table-kept call asker files paths (inr (inr (inr it))) =
     subst (KeepsTable files.io.paths) (sym it.is) (table-path asker.caller.process.0 files.io.paths it.target asker.caller.regs.a it.place it.on)
 
 pub paths-kept : {call : PathCall} {now : TimePacket} (inner : Inner) (files : Files) (p : ℕ) (result : CallResult)

@@ -45,7 +45,7 @@ use Rattle.file_rules.specs.Attempts.{FileAttempts}
 use Rattle.file_rules.specs.Files.{Files}
 use Rattle.file_rules.specs.declared.path_call.PathCall.{PathCall}
 use Rattle.touch_laws.specs.Devices.{IsDevice, IsOnDevice, WaitsOnDevice, device_call, takes_number}
-use Rattle.touch_laws.specs.Touch.{LeavesDevices}
+use Rattle.touch_laws.specs.Touch.{LeavesDevices, WaitsForRecord}
 use Rattle.touch_laws.proofs.Attempts.{attempt-comes}
 use Rattle.touch_laws.proofs.Keeps.{io-kept}
 
@@ -240,12 +240,16 @@ device-waits call device device_is inner io new drives p result before after it 
 -- a call on files that waits
 pub file-waits : (call : PathCall) (inner : Inner) (files : Files) (now : TimePacket) (p : ℕ) (result : CallResult)
     (new : Files) (before after : List TerminalState) → FileAttempts call inner files now p result new before after
-    → (kept : Kept) → kept_at new.io p ≡ Some kept → WaitsOnDevice call inner files.io p new.io
+    → (kept : Kept) → kept_at new.io p ≡ Some kept → WaitsOnDevice call inner files.io p new.io ⊎ WaitsForRecord call
+    inner files now p result new before after
 file-waits call inner files now p result new before after it kept is =
     by_case (attempt-comes call inner files now p result new before after it)
   where
-    by_case : IsOnDevice call inner files p result new before after ⊎ LeavesDevices call inner files now p result new before after → WaitsOnDevice call inner files.io p new.io
+    by_case : IsOnDevice call inner files p result new before after ⊎ LeavesDevices call inner files now p result new
+        before after ⊎ WaitsForRecord call inner files now p result new before after → WaitsOnDevice call inner
+        files.io p new.io ⊎ WaitsForRecord call inner files now p result new before after
     by_case (inl on) =
-        device-waits call on.device on.device_is inner files.io new.io (length files.drives) p result before after on.attempted kept is
-    by_case (inr left) =
+        inl (device-waits call on.device on.device_is inner files.io new.io (length files.drives) p result before after on.attempted kept is)
+    by_case (inr (inl left)) =
         absurd (none-some kept (sym (io-kept inner files p result new before after left).calls.none ∙ is))
+    by_case (inr (inr waits)) = inr waits

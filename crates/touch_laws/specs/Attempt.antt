@@ -14,9 +14,9 @@ use Rattle.file_rules.specs.Files.{Files, Asker}
 use Rattle.file_rules.specs.Open.{is_for_execution}
 use Rattle.file_rules.specs.Way.{Way, list_of, way_of, way_to_new}
 use Rattle.file_rules.specs.declared.path_call.PathCall.{PathCall}
-use Rattle.touch_laws.specs.Causes.{Made}
+use Rattle.touch_laws.specs.Claims.{Made}
 use Rattle.touch_laws.specs.Devices.{device_call, takes_number, HasNoFiles, IsOnDevice, IsOnNoFile, WaitsOnDevice}
-use Rattle.touch_laws.specs.Touch.{KeepsIo, KeepsTable, LeavesDevices, OneDriveFails, drive_reached}
+use Rattle.touch_laws.specs.Touch.{KeepsIo, KeepsTable, LeavesDevices, OneDriveFails, WaitsForRecord, drive_reached}
 
 pub record Attempt : Type 0 where
   pub call : PathCall
@@ -48,6 +48,10 @@ OnDevice it = IsAsOnDevice it × IsOnNoFile it.call (asker_in it) it.files (leng
 -- it touches no terminal and no pipe
 abbrev pub TouchesNone : Attempt → Type 0
 TouchesNone it = LeavesDevices it.call it.inner it.files it.now it.process it.result it.new it.before it.after
+
+-- it waits for a record of a file
+abbrev pub WaitsOnRecord : Attempt → Type 0
+WaitsOnRecord it = WaitsForRecord it.call it.inner it.files it.now it.process it.result it.new it.before it.after
 
 -- it leaves input and output unchanged, except for the position of a path and a new path of the process
 abbrev pub KeepsDevices : Attempt → Type 0

@@ -1,7 +1,7 @@
 -- Why a call on files that is not a call on a terminal or a pipe is refused (System Programmer's Manual, "I/O service
 -- requests"; OS-9 Technical Reference, Random Block File Manager), except for the fault of a drive.
 use Rattle.std.specs.Prelude.{◌≡◌, ◌≢◌, ◌⊎◌, ℕ, ◌<◌, ◌≤◌, ◌||◌, ⊤, Bool, true, false, IsSome, Option, Some, None, Ok, Err, List, length, option_and_then, if◌then◌else◌}
-use Rattle.os9_base.specs.declared.errors.TheConstants.{E_BPADDR, E_BPNAM, E_BPNUM, E_BMODE, E_CEF, E_EOF, E_FNA, E_FULL, E_MNF, E_PNNF, E_PTHFUL, E_SHARE, E_SLF, E_UNKSVC}
+use Rattle.os9_base.specs.declared.errors.TheConstants.{E_BPADDR, E_BPNAM, E_BPNUM, E_BMODE, E_CEF, E_DEADLK, E_EOF, E_FNA, E_FULL, E_LOCK, E_MNF, E_PNNF, E_PTHFUL, E_SHARE, E_SLF, E_UNKSVC}
 use Rattle.os9_base.specs.declared.registers.Regs.{Regs}
 use Rattle.device_table.specs.Names.{device_of}
 use Rattle.device_table.specs.declared.devices.Dev.{Dev}
@@ -19,33 +19,28 @@ use Rattle.rbf_change.specs.NewFiles.{entry_clusters, owns_file}
 use Rattle.io_rules.specs.Io.{open_path}
 use Rattle.io_rules.specs.Modes.{can_read, can_write, is_mode}
 use Rattle.io_rules.specs.PathList.{PathList, ends_in_dots, has_slash_behind_device}
-use Rattle.io_rules.specs.Transfer.{line_at}
 use Rattle.io_rules.specs.Write.{error_line}
 use Rattle.io_rules.specs.declared.status.TheConstants.{SS_EOF, SS_OPT, SS_READY, OPTION_BYTES}
 use Rattle.file_rules.specs.Attempts.{file_step}
 use Rattle.file_rules.specs.Change.{MayBeTooLong}
 use Rattle.file_rules.specs.ChgDir.{may_go_to}
 use Rattle.file_rules.specs.Create.{clusters_for}
-use Rattle.file_rules.specs.Files.{Asker, Files, OpenFile, directory_of, open_file, volume_at}
+use Rattle.file_rules.specs.Files.{Asker, Files, OpenFile, directory_of, volume_at}
+use Rattle.file_rules.specs.Locking.{is_for_update, position_of, request_kept}
 use Rattle.file_rules.specs.MakDir.{new_directory_size}
 use Rattle.file_rules.specs.Open.{is_for_execution, may_open, says_directory}
+use Rattle.file_rules.specs.Read.{read_start}
 use Rattle.file_rules.specs.Seek.{long_of}
 use Rattle.file_rules.specs.Sharing.{is_not_shared, is_open}
 use Rattle.file_rules.specs.Status.{asked_bytes}
 use Rattle.file_rules.specs.Step.{VolumeChange, changes, deed_of}
 use Rattle.file_rules.specs.Way.{Found, Way, along, before_last, is_root, last_of, list_of, to_device, way_of, way_to_new}
+use Rattle.file_rules.specs.Write.{line_moved}
 use Rattle.file_rules.specs.declared.path_call.PathCall.{PathCall}
 use Rattle.file_rules.specs.declared.path_call.PathCall.TheVariants as Call
-use Rattle.file_rules.specs.declared.places.FilePlace.{FilePlace}
-use Rattle.file_rules.specs.declared.status.TheConstants.{SS_ATTR, SS_FD, SS_POS, SS_SIZE}
-use Rattle.touch_laws.specs.Devices.{number_in}
-
--- a call that a process makes, on a machine with `terms` terminals
-pub record Made : Type 0 where
-  pub call : PathCall
-  pub asker : Asker
-  pub files : Files
-  pub terms : ℕ
+use Rattle.lock_model.specs.declared.place.FilePlace.{FilePlace}
+use Rattle.file_rules.specs.declared.status.TheConstants.{SS_ATTR, SS_FD, SS_LOCK, SS_POS, SS_SIZE, SS_TICKS}
+use Rattle.touch_laws.specs.Claims.{ClosesCycle, IsLockedOut, Made, Names}
 
 -- ---- the list that it reads, and the way of the list
 
@@ -140,22 +135,18 @@ pub record FindsIn (m : Made) (found : Found) (name : List ℕ) : Type 0 where
   pub finds : Finds m names found
   pub last : last_of names ≡ Some name
 
--- its number names a path on this file
-abbrev pub Names : Made → OpenFile → Type 0
-Names m found = open_file m.files m.asker.caller.process.0 (number_in m.call m.asker) ≡ Some found
-
 -- ---- the cause of each number
 
 -- the list breaks off at a byte in no named slot, or the bytes that the call moves are not in named slots
-abbrev pub IsUnreadable : PathCall → Asker → Type 0
-IsUnreadable Call.Read asker = user_bytes asker.caller.cells asker.caller.regs.x asker.caller.regs.y ≡ None
-IsUnreadable Call.ReadLn asker = user_bytes asker.caller.cells asker.caller.regs.x asker.caller.regs.y ≡ None
-IsUnreadable Call.Write asker = user_bytes asker.caller.cells asker.caller.regs.x asker.caller.regs.y ≡ None
-IsUnreadable Call.WritLn asker = line_at asker.caller.cells asker.caller.regs.x asker.caller.regs.y ≡ None
-IsUnreadable Call.GetStt asker =
+abbrev pub IsUnreadable : PathCall → Asker → Files → Type 0
+IsUnreadable Call.Read asker files = user_bytes asker.caller.cells asker.caller.regs.x asker.caller.regs.y ≡ None
+IsUnreadable Call.ReadLn asker files = user_bytes asker.caller.cells asker.caller.regs.x asker.caller.regs.y ≡ None
+IsUnreadable Call.Write asker files = user_bytes asker.caller.cells asker.caller.regs.x asker.caller.regs.y ≡ None
+IsUnreadable Call.WritLn asker files = line_moved asker (request_kept asker files) ≡ None
+IsUnreadable Call.GetStt asker files =
     (asker.caller.regs.b ≡ SS_OPT) × (user_bytes asker.caller.cells asker.caller.regs.x OPTION_BYTES ≡ None)
     ⊎ (asker.caller.regs.b ≡ SS_FD) × (user_bytes asker.caller.cells asker.caller.regs.x (asked_bytes asker) ≡ None)
-IsUnreadable call asker = (reads_list call ≡ true) × (list_of asker ≡ Err Unreadable)
+IsUnreadable call asker files = (reads_list call ≡ true) × (list_of asker ≡ Err Unreadable)
 
 -- the mode of the call, or of its path, lacks the bits that the call needs
 abbrev pub LacksMode : PathCall → Asker → OpenFile → Type 0
@@ -164,7 +155,9 @@ LacksMode Call.ReadLn asker found = can_read found.opened.desc.mode ≡ false
 LacksMode Call.Write asker found = can_write found.opened.desc.mode ≡ false
 LacksMode Call.WritLn asker found = can_write found.opened.desc.mode ≡ false
 LacksMode Call.PErr asker found = can_write found.opened.desc.mode ≡ false
-LacksMode Call.SetStt asker found = (asker.caller.regs.b ≡ SS_SIZE) × (can_write found.opened.desc.mode ≡ false)
+LacksMode Call.SetStt asker found =
+    (asker.caller.regs.b ≡ SS_SIZE) × (can_write found.opened.desc.mode ≡ false)
+    ⊎ (asker.caller.regs.b ≡ SS_LOCK) × (is_for_update found.opened.desc.mode ≡ false)
 LacksMode call asker found = ⊥
 
 abbrev pub HasBadMode : PathCall → ℕ → Type 0
@@ -210,25 +203,29 @@ pub record HasNoSegment (m : Made) : Type 0 where
   pub needs : 0 < entry_clusters (cluster_size found.volume) found.file
   pub full : length found.file.segments ≡ 48
 
+-- the size of a file after these bytes are written at the position of a call
+abbrev pub size_written : Asker → Files → OpenFile → List ℕ → ℕ
+size_written asker files found bytes =
+    length (written found.file.contents (position_of asker files found) bytes)
+
 -- the size that a call gives a file; a call that writes nothing gives none
-abbrev pub Sizes : PathCall → Asker → OpenFile → ℕ → Type 0
-Sizes Call.Write asker found size =
+abbrev pub Sizes : PathCall → Asker → Files → OpenFile → ℕ → Type 0
+Sizes Call.Write asker files found size =
     (bytes : List ℕ) × (user_bytes asker.caller.cells asker.caller.regs.x asker.caller.regs.y ≡ Some bytes)
-    × (0 < asker.caller.regs.y) × (size ≡ length (written found.file.contents found.opened.desc.at bytes))
-Sizes Call.WritLn asker found size =
-    (bytes : List ℕ) × (line_at asker.caller.cells asker.caller.regs.x asker.caller.regs.y ≡ Some bytes)
-    × (0 < asker.caller.regs.y) × (size ≡ length (written found.file.contents found.opened.desc.at bytes))
-Sizes Call.PErr asker found size =
-    size ≡ length (written found.file.contents found.opened.desc.at (error_line asker.caller.regs.b))
-Sizes Call.SetStt asker found size = (asker.caller.regs.b ≡ SS_SIZE) × (size ≡ long_of asker.caller.regs)
-Sizes call asker found size = ⊥
+    × (0 < asker.caller.regs.y) × (size ≡ size_written asker files found bytes)
+Sizes Call.WritLn asker files found size =
+    (bytes : List ℕ) × (line_moved asker (request_kept asker files) ≡ Some bytes) × (0 < asker.caller.regs.y)
+    × (size ≡ size_written asker files found bytes)
+Sizes Call.PErr asker files found size = size ≡ size_written asker files found (error_line asker.caller.regs.b)
+Sizes Call.SetStt asker files found size = (asker.caller.regs.b ≡ SS_SIZE) × (size ≡ long_of asker.caller.regs)
+Sizes call asker files found size = ⊥
 
 -- too few clusters are free for the size that a call gives a file
 pub record CannotGrow (m : Made) : Type 0 where
   pub found : OpenFile
   pub names : Names m found
   pub size : ℕ
-  pub asks : Sizes m.call m.asker found size
+  pub asks : Sizes m.call m.asker m.files found size
   pub full : free_total found.volume < clusters_needed (cluster_size found.volume) found.file.segments size
 
 -- the call changes a volume, and a list of segments has no place for a chosen cluster
@@ -246,16 +243,22 @@ NeedsByte Call.ReadLn regs = 0 < regs.y
 NeedsByte Call.GetStt regs = regs.b ≡ SS_EOF
 NeedsByte call regs = ⊥
 
+-- the position from which the call takes bytes of a file; a further attempt of a read begins at that of the first one
+abbrev pub first_byte : PathCall → Asker → Files → OpenFile → ℕ
+first_byte Call.Read asker files found = read_start asker files found
+first_byte Call.ReadLn asker files found = read_start asker files found
+first_byte call asker files found = found.opened.desc.at
+
 -- the call has no status with this code
 abbrev pub HasNoStatus : PathCall → ℕ → Type 0
 HasNoStatus Call.GetStt code =
     (code ≢ SS_OPT) × (code ≢ SS_READY) × (code ≢ SS_SIZE) × (code ≢ SS_POS) × (code ≢ SS_EOF) × (code ≢ SS_FD)
-HasNoStatus Call.SetStt code = (code ≢ SS_SIZE) × (code ≢ SS_ATTR)
+HasNoStatus Call.SetStt code = (code ≢ SS_SIZE) × (code ≢ SS_TICKS) × (code ≢ SS_LOCK) × (code ≢ SS_ATTR)
 HasNoStatus call code = ⊥
 
 -- the cause of a refusal, by its number
 pub data FileCause (m : Made) (number : ℕ) : Type 0 where
-  bad_address : number ≡ E_BPADDR → IsUnreadable m.call m.asker → FileCause m number
+  bad_address : number ≡ E_BPADDR → IsUnreadable m.call m.asker m.files → FileCause m number
   bad_mode : number ≡ E_BMODE → HasBadMode m.call m.asker.caller.regs.a → FileCause m number
   path_mode : (found : OpenFile) → number ≡ E_BMODE → Names m found → LacksMode m.call m.asker found
       → FileCause m number
@@ -299,6 +302,10 @@ pub data FileCause (m : Made) (number : ℕ) : Type 0 where
   no_segment : number ≡ E_SLF → HasNoSegment m → FileCause m number
   finds_no_segment : number ≡ E_SLF → FindsNoSegment m → FileCause m number
   end_of_file : (found : OpenFile) → number ≡ E_EOF → NeedsByte m.call m.asker.caller.regs → Names m found
-      → length found.file.contents ≤ found.opened.desc.at → FileCause m number
+      → length found.file.contents ≤ first_byte m.call m.asker m.files found → FileCause m number
+  -- a lock of another process conflicts with its request, which does not wait, or waits no longer
+  locked : number ≡ E_LOCK → IsLockedOut m → FileCause m number
+  -- its request would wait, and that would close a cycle of waits
+  deadlock : number ≡ E_DEADLK → ClosesCycle m → FileCause m number
   no_status : (found : OpenFile) → number ≡ E_UNKSVC → Names m found → HasNoStatus m.call m.asker.caller.regs.b
       → FileCause m number

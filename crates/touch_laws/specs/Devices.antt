@@ -1,10 +1,12 @@
 -- Attempts of calls on paths, files and directories that are attempts on a terminal or a pipe (Level Two manual, "I/O
 -- system"; System Programmer's Manual, "I/O service requests").
-use Rattle.std.specs.Prelude.{◌≡◌, ℕ, ⊤, Bool, true, false, Option, Some, None, Ok, List, length}
+use Rattle.std.specs.Prelude.{◌≡◌, ◌≢◌, ℕ, ⊤, Bool, true, false, Option, Some, None, Ok, List, length}
 use Rattle.os9_outer.specs.TerminalState.{TerminalState}
 use Rattle.call_rules.specs.CallResult.{CallResult}
 use Rattle.call_rules.specs.Inner.{Inner, regs_at}
 use Rattle.io_model.specs.declared.path.Target.{Target}
+use Rattle.lock_model.specs.Locks.{request_of}
+use Rattle.lock_model.specs.Records.{Records, with_waiting, without_lock}
 use Rattle.io_rules.specs.Again.{path_number}
 use Rattle.io_rules.specs.Attempts.{IoAttempts}
 use Rattle.io_rules.specs.Io.{Io, OpenPath, open_path}
@@ -54,8 +56,8 @@ number_in call asker = asker.caller.regs.a
 abbrev pub IsDevice : Target → Type 0
 IsDevice target = place_of_target target ≡ None
 
--- A call is on no file: its number names none, or its list names a terminal or a pipe. I$Dup and I$Close are the same
--- on all paths; I$MakDir, I$ChgDir, I$Delete and I$DeletX are on files only.
+-- A call is on no file: its number names none, or its list names a terminal or a pipe. I$Dup and I$Close do the same
+-- with all paths; I$MakDir, I$ChgDir, I$Delete and I$DeletX are on files only.
 abbrev pub IsOnNoFile : PathCall → Asker → Files → ℕ → Type 0
 IsOnNoFile Call.Dup asker files terms = ⊤
 IsOnNoFile Call.Close asker files terms = ⊤
@@ -71,6 +73,18 @@ IsOnNoFile Call.Delete asker files terms = ⊥
 IsOnNoFile Call.DeletX asker files terms = ⊥
 IsOnNoFile call asker files terms = open_file files asker.caller.process.0 (number_in call asker) ≡ None
 
+-- no request of the process waits for a record, and those of the others are as they were
+pub record NoneRequested (p : ℕ) (old new : Files) : Type 0 where
+  pub none : request_of new.records.locks p ≡ None
+  pub others : (q : ℕ) → q ≢ p → request_of new.records.locks q ≡ request_of old.records.locks q
+
+-- Of record locks only that of the path ends which I$Close closes by this number, if it ends. No request of the process
+-- waits then.
+pub data LocksStay (call : PathCall) (files : Files) (p n : ℕ) (now : Records) : Type 0 where
+  stay : now ≡ with_waiting files.records p None → LocksStay call files p n now
+  ends : (opened : OpenPath) → call ≡ Call.Close → open_path files.io p n ≡ Some opened
+      → now ≡ without_lock (with_waiting files.records p None) opened.path.0 → LocksStay call files p n now
+
 -- An attempt has the result of an attempt of the call on terminals and pipes; the directories of processes and the
 -- volumes are unchanged, and no drive fails. This does not say that the call is on no file, since a file may give that
 -- result too.
@@ -82,6 +96,8 @@ pub record IsOnDevice (call : PathCall) (inner : Inner) (files : Files) (p : ℕ
   pub directories : new.directories ≡ files.directories
   pub volumes : new.volumes ≡ files.volumes
   pub none_failed : NoneFailed files.drives new.drives
+  pub requests : NoneRequested p files new
+  pub locks : LocksStay call files p (regs_at inner p).a new.records
 
 -- a call of a process waits: it is a call on terminals and pipes, on the number of a path on a terminal or a pipe, and
 -- the paths are unchanged
@@ -100,7 +116,8 @@ LeadsToDevice (to_terminal terminal) = Unit {0}
 LeadsToDevice to_pipe = Unit {0}
 LeadsToDevice (nowhere number) = ⊥
 
--- no volume is mounted, and the process has no directory
+-- no volume is mounted, and the process has no directory and no request for a record
 pub record HasNoFiles (files : Files) (p : ℕ) : Type 0 where
   pub volumes : (drive : ℕ) → volume_at files drive ≡ None
   pub directories : (execute : Bool) → directory_of files p execute ≡ None
+  pub requests : request_of files.records.locks p ≡ None

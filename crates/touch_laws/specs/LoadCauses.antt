@@ -21,7 +21,8 @@ use Rattle.file_rules.specs.Program.{loaded_program, parameters_of}
 use Rattle.file_rules.specs.ProgramFile.{ProgramFile}
 use Rattle.file_rules.specs.Way.{Found, to_device}
 use Rattle.file_rules.specs.declared.path_call.PathCall.TheVariants as Call
-use Rattle.touch_laws.specs.Causes.{FileCause, Finds, Leads, Made}
+use Rattle.touch_laws.specs.Causes.{FileCause, Finds, Leads}
+use Rattle.touch_laws.specs.Claims.{Made}
 
 -- ---- the file
 

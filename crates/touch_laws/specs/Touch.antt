@@ -6,8 +6,11 @@ use Rattle.os9_base.specs.declared.registers.Regs.{Regs}
 use Rattle.os9_base.specs.declared.registers.TimePacket.{TimePacket}
 use Rattle.os9_outer.specs.TerminalState.{TerminalState}
 use Rattle.proc_model.specs.MemoryChanges.{stored}
-use Rattle.call_rules.specs.CallResult.{CallResult, done, refused}
+use Rattle.call_rules.specs.CallResult.{CallResult, done, refused, waits}
 use Rattle.call_rules.specs.Inner.{Inner, with_memory, with_regs_of}
+use Rattle.lock_model.specs.declared.lock.Grant.TheVariants.{Wait}
+use Rattle.lock_model.specs.declared.lock.Request.{Request}
+use Rattle.lock_model.specs.Records.{with_waiting}
 use Rattle.rbf_model.specs.Volume.{DiskVolume}
 use Rattle.io_model.specs.Path.{ArePaths, PathTable, desc_of, is_held, new_number, numbers_of, paths_after_begin, with_desc}
 use Rattle.io_model.specs.declared.path.Desc.{Desc}
@@ -15,11 +18,15 @@ use Rattle.io_model.specs.declared.path.Target.{Target}
 use Rattle.io_rules.specs.Io.{Io, OpenPath, kept_at, new_desc, open_path, with_call, with_paths}
 use Rattle.file_rules.specs.Attempts.{asker_of, file_step}
 use Rattle.file_rules.specs.Files.{Asker, Files, NoneFailed, OneFailed, OpenFile, directories_at, open_file, place_of_target, volume_at}
+use Rattle.file_rules.specs.Locking.{answer_to, call_of, waiting_in}
 use Rattle.file_rules.specs.Step.{drive_of}
 use Rattle.file_rules.specs.declared.path_call.PathCall.{PathCall}
 use Rattle.file_rules.specs.declared.path_call.PathCall.TheVariants as Call
-use Rattle.file_rules.specs.declared.places.FilePlace.{FilePlace}
-use Rattle.touch_laws.specs.Devices.{IsDevice, number_in}
+use Rattle.file_rules.specs.declared.status.TheConstants.{SS_TICKS}
+use Rattle.lock_model.specs.declared.place.FilePlace.{FilePlace}
+use Rattle.touch_laws.specs.Claims.{Made, Requests}
+use Rattle.touch_laws.specs.Devices.{IsDevice, NoneRequested, number_in}
+use Rattle.touch_laws.specs.Recorded.{RecordsCome}
 
 -- ---- what a call may touch
 
@@ -32,6 +39,14 @@ moves_position Call.ReadLn = true
 moves_position Call.WritLn = true
 moves_position Call.PErr = true
 moves_position call = false
+
+-- it is I$SetStt of SS.Ticks
+abbrev pub IsTicks : PathCall → Asker → Type 0
+IsTicks call asker = (call ≡ Call.SetStt) × (asker.caller.regs.b ≡ SS_TICKS)
+
+-- it changes the path that its number names: its position, or its ticks
+abbrev pub ChangesPath : PathCall → Asker → Type 0
+ChangesPath call asker = (moves_position call ≡ true) ⊎ IsTicks call asker
 
 -- it opens a path
 abbrev pub begins_path : PathCall → Bool
@@ -54,6 +69,11 @@ may_change_volume call = false
 -- the drive that an attempt of it reaches, if any, on a machine with `terms` terminals
 abbrev pub drive_reached : PathCall → Asker → Files → ℕ → Option ℕ
 drive_reached call asker files terms = drive_of (file_step call asker files terms)
+
+-- the call that a process makes at a time
+abbrev pub made_by : PathCall → Inner → Files → TimePacket → ℕ → ℕ → Made
+made_by call inner files now p terms =
+    record { call = call; asker = asker_of inner p now; files = files; terms = terms }
 
 -- ---- its end
 
@@ -78,6 +98,14 @@ pub record MovesPosition (call : PathCall) (asker : Asker) (files : Files) (path
   pub at : ℕ
   pub is : paths ≡ with_desc files.io.paths found.opened.path.0 (Some (record found.opened.desc { at = at }))
 
+-- or it has other ticks, those in X
+pub record SetsTicks (call : PathCall) (asker : Asker) (files : Files) (paths : PathTable) : Type 0 where
+  pub sets : IsTicks call asker
+  pub found : OpenFile
+  pub named : open_file files asker.caller.process.0 (number_in call asker) ≡ Some found
+  pub is : paths
+      ≡ with_desc files.io.paths found.opened.path.0 (Some (record found.opened.desc { ticks = asker.caller.regs.x }))
+
 -- the process has a new path, on a file or a directory, with the mode in A
 pub record BeginsPath (call : PathCall) (asker : Asker) (files : Files) (paths : PathTable) : Type 0 where
   pub begins : begins_path call ≡ true
@@ -91,7 +119,8 @@ pub record BeginsPath (call : PathCall) (asker : Asker) (files : Files) (paths :
 -- the paths are unchanged, or changed in one of these ways
 abbrev pub PathsMove : PathCall → Asker → Files → PathTable → Type 0
 PathsMove call asker files paths =
-    (paths ≡ files.io.paths) ⊎ MovesPosition call asker files paths ⊎ BeginsPath call asker files paths
+    (paths ≡ files.io.paths) ⊎ MovesPosition call asker files paths ⊎ SetsTicks call asker files paths
+    ⊎ BeginsPath call asker files paths
 
 -- ---- its effect on the rest
 
@@ -123,12 +152,13 @@ pub record OneDriveFails (reached : Option ℕ) (files : Files) (result : CallRe
   pub left : DiskVolume
   pub is : new.volumes ≡ slice_set files.volumes drive (Some left)
 
--- what a refusal leaves, if this drive was reached or none: paths, pipes, terminals and directories are unchanged, and
--- without a drive fault the volumes too. The process has no pending call then
+-- what a refusal leaves, if this drive was reached or none: paths, pipes, terminals, directories and locks as they
+-- were, and the volumes too if no drive has failed. The process has no pending call then
 pub record RefusalLeaves (reached : Option ℕ) (files : Files) (p : ℕ) (result : CallResult) (new : Files)
     : Type 0 where
   pub io : new.io ≡ with_call files.io p None
   pub directories : new.directories ≡ files.directories
+  pub records : new.records ≡ with_waiting files.records p None
   pub volumes : NoVolumeChanges files new ⊎ OneDriveFails reached files result new
 
 -- an attempt touches no terminal and no pipe: only the paths of input and output change, and the process has no pending
@@ -140,6 +170,8 @@ pub record LeavesDevices (call : PathCall) (inner : Inner) (files : Files) (now 
   pub paths : PathsMove call (asker_of inner p now) files new.io.paths
   pub rest : new.io ≡ with_call (with_paths files.io new.io.paths) p None
   pub terminals : after ≡ before
+  pub requests : NoneRequested p files new
+  pub records : RecordsCome (made_by call inner files now p (length before)) new.records
   pub directories : (q : ℕ) → q ≢ p → directories_at new q ≡ directories_at files q
   pub own : call ≢ Call.ChgDir → new.directories ≡ files.directories
   pub still : may_change_volume call ≡ false → new.volumes ≡ files.volumes
@@ -148,6 +180,23 @@ pub record LeavesDevices (call : PathCall) (inner : Inner) (files : Files) (now 
       ⊎ OneDriveFails (drive_reached call (asker_of inner p now) files (length before)) files result new
   pub refusal : (number : ℕ) → result ≡ refused number
       → RefusalLeaves (drive_reached call (asker_of inner p now) files (length before)) files p result new
+
+-- ---- what a call leaves that waits for a record
+
+-- an attempt waits for a record of the file that the number of its call names: its request and the call are kept, and
+-- all else stays
+pub record WaitsForRecord (call : PathCall) (inner : Inner) (files : Files) (now : TimePacket) (p : ℕ)
+    (result : CallResult) (new : Files) (before after : List TerminalState) : Type 0 where
+  pub request : Request
+  pub requests : Requests (made_by call inner files now p (length before)) request
+  pub answer : answer_to (asker_of inner p now) files request ≡ Wait
+  pub result_is : result ≡ waits inner
+  pub io : new.io ≡ with_call files.io p (Some (call_of request))
+  pub records : new.records ≡ (waiting_in files request).records
+  pub directories : new.directories ≡ files.directories
+  pub volumes : new.volumes ≡ files.volumes
+  pub none_failed : NoneFailed files.drives new.drives
+  pub terminals : after ≡ before
 
 -- the reached drive has failed, and the call returns the number of its fault
 pub record FaultAnswers (reached : Option ℕ) (old : Files) (result : CallResult) (new : Files) : Type 0 where
@@ -163,14 +212,16 @@ pub record LeavesFiles (reached : Option ℕ) (old : Files) (result : CallResult
   pub io : new.io ≡ old.io
   pub directories : new.directories ≡ old.directories
   pub volumes : new.volumes ≡ old.volumes
+  pub records : new.records ≡ old.records
   pub drives : NoneFailed old.drives new.drives ⊎ FaultAnswers reached old result new
 
 -- ---- the same by each path and each process
 
--- a number names the same path as before, with the same target and mode; its position may have changed
+-- a path that a number names is the same path, opened on the same with the same mode; its position and its ticks may
+-- have changed
 pub record IsSamePath (old new : OpenPath) : Type 0 where
   pub path : new.path ≡ old.path
-  pub desc : new.desc ≡ record old.desc { at = new.desc.at }
+  pub desc : new.desc ≡ record old.desc { at = new.desc.at; ticks = new.desc.ticks }
 
 -- each path is still there by its numbers, and one on a terminal or a pipe is unchanged. No path on a terminal or a
 -- pipe is new, and no other process has other numbers

@@ -22,21 +22,33 @@ ghost use Rattle.file_rules.specs.Step.{drive_of};
 ghost use Rattle.file_rules.specs.Way.{to_device, way_of, way_to_new};
 ghost use Rattle.file_rules.specs.declared.path_call.PathCall.{PathCall};
 ghost use Rattle.file_rules.specs.declared.path_call.PathCall.TheVariants as Call;
-ghost use Rattle.touch_laws.specs.Attempt.{Attempt, HasFault, HasList, IsAsOnDevice, IsOnNumber, IsWithoutFiles, KeepsDevices, KeepsPathTable, OnDevice, TouchesNone, Waits, made_in, way_to_create, way_to_open};
+ghost use Rattle.touch_laws.specs.Attempt.{Attempt, HasFault, HasList, IsAsOnDevice, IsOnNumber, IsWithoutFiles, KeepsDevices, KeepsPathTable, OnDevice, TouchesNone, Waits, WaitsOnRecord, made_in, way_to_create, way_to_open};
 ghost use Rattle.touch_laws.specs.Causes.{FileCause};
 ghost use Rattle.touch_laws.specs.LoadCauses.{ChainCause, ForkCause, LoadCause};
 ghost use Rattle.touch_laws.specs.Touch.{FaultAnswers, LeavesFiles};
+ghost use Rattle.touch_laws.specs.Recorded.{RecordsCome};
 ghost use Rattle.touch_laws.specs.Devices.{HasNoFiles, IsDevice, LeadsToDevice, device_call};
 
 /// An attempt of a call on paths, files and directories is an attempt of a call on terminals and
-/// pipes, on no file, or of I$Dup or I$Close, which are the same on all paths; or it touches no
-/// terminal and no pipe. In the second case the position of the path that its number names changes,
-/// or the process has a new path on a file or a directory, or the paths are unchanged. The process
-/// has no pending call then. Directories of processes are unchanged, except the process's own in
-/// I$ChgDir. The volumes are unchanged, except that of the reached drive in a call that changes one
-/// (System Programmer's Manual, "I/O service requests").
+/// pipes, on no file, or of I$Dup or I$Close, which do the same with all paths; or it touches no
+/// terminal and no pipe; or it waits for a record of a file (System Programmer's Manual, "I/O service
+/// requests"; Level Two manual, RBF record locking).
+///
+/// If it touches no terminal and no pipe, the position or the ticks of the path that its number names
+/// change, or the process has a new path on a file or a directory, or the paths stay. No call of it
+/// waits. The directories of processes stay, but for its own in I$ChgDir. The volumes stay, but for
+/// that of the drive that it reaches in a call that changes one. If it waits for a record, its
+/// request and its call are kept, and all else stays.
 pub fn attempts_are_on_a_device_or_touch_none()
-    ensures { (it : Attempt) → OnDevice it ⊎ TouchesNone it }
+    ensures { (it : Attempt) → OnDevice it ⊎ TouchesNone it ⊎ WaitsOnRecord it }
+{}
+
+/// An attempt changes the locks of paths in these ways alone: its request is granted, and its path
+/// holds the bytes requested, or has written them and holds none; or the lock of a path ends, with
+/// its entry in the history. A request of the process waits afterwards only if the attempt waits in
+/// it (Level Two manual, RBF record locking).
+pub fn attempts_change_locks_by_their_requests()
+    ensures { (it : Attempt) → RecordsCome (made_in it) it.new.records }
 {}
 
 /// An attempt that touches no terminal and no pipe leaves each path on its target, and paths on
@@ -65,10 +77,12 @@ pub fn numbers_of_devices_are_theirs()
 {}
 
 /// An attempt that waits is one of a call on terminals and pipes on the number of a path on one,
-/// and leaves the paths unchanged. A call on the number of such a path, for example a pending call
-/// that is attempted again, is a call on terminals and pipes (Level Two manual, "I/O system").
+/// and leaves the paths unchanged; or it waits for a record of a file. A call on the number of a path
+/// on a terminal or a pipe, for example a pending call that is attempted again, is a call on
+/// terminals and pipes (Level Two manual, "I/O system").
 pub fn calls_that_wait_are_on_devices()
-    ensures waits { (it : Attempt) → IsSome (kept_at it.new.io it.process) → Waits it }
+    ensures waits { (it : Attempt) → IsSome (kept_at it.new.io it.process)
+        → Waits it ⊎ WaitsOnRecord it }
     ensures again { (it : Attempt) (n : ℕ) (opened : OpenPath) → IsOnNumber it n
         → open_path it.files.io it.process n ≡ Some opened → IsDevice opened.desc.target
         → OnDevice it }
@@ -149,9 +163,9 @@ pub fn codes_are_the_same_on_devices()
     ensures none { (code : ℕ) → path_call_of code ≡ None → io_call_of code ≡ None }
 {}
 
-/// Without a mounted volume and without a directory of the process, each call that terminals and
-/// pipes have gives the result of theirs, even if its path list names nothing; and each result of
-/// theirs is a result of such a call (this project's own).
+/// Without a mounted volume, a directory of the process and a request of it, each call that
+/// terminals and pipes have comes to what theirs comes to, also if its path list leads nowhere; and
+/// each of theirs is one (this project's own).
 pub fn without_files_calls_are_those_of_devices()
     ensures attempt { (it : Attempt) → IsWithoutFiles it → IsSome (device_call it.call)
         → IsAsOnDevice it }

@@ -47,8 +47,9 @@ use Rattle.time_rules.specs.Step.{TimeStep, sets, tells, needs as time_needs, re
 use Rattle.time_rules.specs.declared.clock.Clock.{Clock}
 use Rattle.time_rules.specs.declared.time_call.TimeCall.{TimeCall}
 use Rattle.time_rules.specs.declared.time_call.TimeCall.TheVariants as Time
-use Rattle.touch_laws.specs.Attempt.{Attempt, OnDevice, TouchesNone}
-use Rattle.touch_laws.specs.Touch.{IsOver as IsAnswered, KeepsIo}
+use Rattle.touch_laws.specs.Attempt.{Attempt, OnDevice, TouchesNone, WaitsOnRecord}
+use Rattle.touch_laws.specs.Devices.{NoneRequested}
+use Rattle.touch_laws.specs.Touch.{IsOver as IsAnswered, KeepsIo, WaitsForRecord}
 use Rattle.touch_laws.proofs.Codes.{code-none, code-there}
 use Rattle.touch_laws.proofs.Keeps.{io-kept}
 use Rattle.touch_laws.proofs.Loads.{chain-leaves, fork-leaves, load-leaves}
@@ -70,9 +71,11 @@ use Rattle.wait_laws.proofs.CallCodes.{not-both}
 use Rattle.call_laws.proofs.Codes.{attempts-code}
 use Rattle.machine_model.specs.Services.{Attempts, Serves, files_after_call, files_after_fork, loads, no_call, on_paths, on_processes, on_time, with_files}
 use Rattle.machine_model.specs.State.{Rest, State, rest_of, with_rest}
-use Rattle.wait_laws.specs.Running.{IsRunning}
+use Rattle.wait_laws.specs.Running.{AreRequested, IsRunning}
 use Rattle.wait_laws.proofs.Aside.{Aside, IoAside, aside-in, aside-kept, aside-places, leaves-aside, left-aside}
 use Rattle.wait_laws.proofs.Loads.{Child, chain-over, fork-over, load-over}
+use Rattle.wait_laws.proofs.RecordWaits.{is-waiting, waits-aside, waits-in, waits-keep, waits-left, waits-within}
+use Rattle.wait_laws.proofs.Requested.{none-ended, none-then, same-then, waits-requested}
 use Rattle.wait_laws.proofs.RunningLaws.{running-then}
 use Rattle.wait_laws.proofs.Over.{IsOver, Over, aside-regs, aside-same, aside-stored, over-done, over-refused}
 
@@ -157,7 +160,7 @@ module _ (records : List (Option Record)) (terms p : ℕ) (old : Io) where
 
 -- ---- what calls come to
 
-time-over : (m : Inner) (p : ℕ) (step : TimeStep) → Over m p (time_result m p step)
+pub time-over : (m : Inner) (p : ℕ) (step : TimeStep) → Over m p (time_result m p step)
 time-over m p (time_refused number) = over-refused m p number
 time-over m p (tells at packet) = over-done m p _ (aside-stored m p at (packet_bytes packet)) refl
 time-over m p (sets clock) = over-done m p m (aside-same m p) refl
@@ -201,13 +204,13 @@ path-tick m p effect (keeps kept) = refl
 pub next-running : (s : State) (p : ℕ) (t : State) → IsRunning s → Aside s.inner t.inner p → IoAside s.inner.records
     (length s.terms) p s.files.io t.files.io → ((kept : Kept) → kept_at t.files.io p ≡ Some kept → KeepsCall t.inner
     t.files.io p kept) → (IsWaiting t.inner.records p → WaitsInCall t.inner t.files.io p) → length t.terms ≡ length
-    s.terms → AreKinds t.files → IsClock t.clock t.inner.tick → IsRunning t
-next-running s p t running aside io kept in_calls long kinds clock =
+    s.terms → AreRequested t.files → AreKinds t.files → IsClock t.clock t.inner.tick → IsRunning t
+next-running s p t running aside io kept in_calls long requested kinds clock =
     running-then s t running
     (aside-kept s.inner t.inner (length s.terms) p s.files.io t.files.io aside io kept running.kept)
     (aside-in s.inner t.inner (length s.terms) p s.files.io t.files.io aside io in_calls running.in_calls)
     (aside-places s.inner t.inner (length s.terms) p s.files.io t.files.io aside io running.places)
-    (io.on running.on) long kinds clock
+    (io.on running.on) long requested kinds clock
 
 -- ---- an attempt
 
@@ -222,16 +225,29 @@ module _ (s : State) (p code : ℕ) (running : IsRunning s) (lives : IsLiving s.
   abbrev BesideIo : Io → Type 0
   BesideIo new = IoAside s.inner.records (length s.terms) p s.files.io new × (kept_at new p ≡ None)
 
-  over-runs : (result : CallResult) (rest : Rest) → Over s.inner p result → BesideIo rest.files.io → rest.terms ≡ s.terms → AreKinds rest.files → IsClock rest.clock s.inner.tick → Runs result rest
-  over-runs result rest over io terms kinds clock =
+  -- and in no request
+  abbrev EndsRequest : Files → Type 0
+  EndsRequest new = NoneRequested p s.files new ⊎ ((kept_at s.files.io p ≡ None) × (new.records ≡ s.files.records))
+
+  requested-then : (new : Files) → IoAside s.inner.records (length s.terms) p s.files.io new.io → EndsRequest new → AreRequested new
+  requested-then new io (inl none) = none-then p s.files new io.calls running.requested none
+  requested-then new io (inr (none, same)) = same-then p s.files new io.calls running.requested none same
+
+  over-runs : (result : CallResult) (rest : Rest) → Over s.inner p result → BesideIo rest.files.io
+      → EndsRequest rest.files → rest.terms ≡ s.terms → AreKinds rest.files → IsClock rest.clock s.inner.tick
+      → Runs result rest
+  over-runs result rest over io gone terms kinds clock =
       next-running s p (after result rest) running over.aside io.0
       (λ kept is. absurd (none-some kept (sym io.1 ∙ is))) (λ waiting. absurd (over.runs waiting))
-      (ap (λ (terms : List TerminalState). length terms) terms) kinds
+      (ap (λ (terms : List TerminalState). length terms) terms) (requested-then rest.files io.0 gone) kinds
       (subst (IsClock rest.clock) (sym over.tick) clock)
+
+  none-kept : io_call_of code ≡ None → kept_at s.files.io p ≡ None
+  none-kept none = no-kept s.inner s.files.io p code next none running.kept
 
   beside : (new : Io) → io_call_of code ≡ None → new ≡ s.files.io → BesideIo new
   beside new none is =
-      subst BesideIo (sym is) (io-same s.inner.records (length s.terms) p s.files.io, no-kept s.inner s.files.io p code next none running.kept)
+      subst BesideIo (sym is) (io-same s.inner.records (length s.terms) p s.files.io, none-kept none)
 
   -- ---- files that are loaded
 
@@ -239,43 +255,62 @@ module _ (s : State) (p code : ℕ) (running : IsRunning s) (lives : IsLiving s.
     load-runs : (code == F_LOAD) ≡ true → Serves loads s now p result rest → Runs result rest
     load-runs is (files, it, rest_is) =
         subst (Runs result) (sym rest_is) (over-runs result (with_files s files) (load-over s.inner (asker_of s.inner p now) s.files (length s.terms) p result files it)
-        (beside files.io (ap io_call_of (eqb-true code F_LOAD is)) (load-leaves s.inner (asker_of s.inner p now) s.files (length s.terms) p result files it).io) refl
+        (beside files.io (ap io_call_of (eqb-true code F_LOAD is)) (load-leaves s.inner (asker_of s.inner p now) s.files (length s.terms) p result files it).io)
+        (inr (none-kept (ap io_call_of (eqb-true code F_LOAD is)), (load-leaves s.inner (asker_of s.inner p now) s.files (length s.terms) p result files it).records)) refl
         (load-kinds s.inner (asker_of s.inner p now) s.files (length s.terms) p result files it running.kinds) running.clock)
 
     chain-runs : call_of code ≡ Some Call.Chain → Serves (on_processes Call.Chain) s now p result rest → Runs result rest
     chain-runs coded (files, it, rest_is) =
         subst (Runs result) (sym rest_is) (over-runs result (with_files s files) (chain-over s.inner (asker_of s.inner p now) s.files (length s.terms) p result files it)
-        (beside files.io (proc-no-io code Call.Chain coded) (chain-leaves s.inner (asker_of s.inner p now) s.files (length s.terms) p result files it).io) refl
+        (beside files.io (proc-no-io code Call.Chain coded) (chain-leaves s.inner (asker_of s.inner p now) s.files (length s.terms) p result files it).io)
+        (inr (none-kept (proc-no-io code Call.Chain coded), (chain-leaves s.inner (asker_of s.inner p now) s.files (length s.terms) p result files it).records)) refl
         (chain-kinds s.inner (asker_of s.inner p now) s.files (length s.terms) p result files it running.kinds) running.clock)
 
     time-runs : (call : TimeCall) → time_call_of code ≡ Some call → Serves (on_time call) s now p result rest → Runs result rest
     time-runs call coded (clock, it, rest_is) =
         subst (Runs result) (sym rest_is) (over-runs result (record (rest_of s) { clock = clock }) (subst (Over s.inner p) (sym it.result_is) (time-over s.inner p (time_step call s.inner now p)))
-        (beside s.files.io (time-no-io code call coded) refl) refl running.kinds
+        (beside s.files.io (time-no-io code call coded) refl) (inr (none-kept (time-no-io code call coded), refl)) refl running.kinds
         (subst (λ (clock : Clock). IsClock clock s.inner.tick) (sym it.clock_is) (clock-stays s.clock s.inner running.clock call now p)))
 
     none-runs : io_call_of code ≡ None → Serves no_call s now p result rest → Runs result rest
     none-runs none (is, rest_is) =
         subst (Runs result) (sym rest_is) (over-runs result (rest_of s) (subst (Over s.inner p) (sym is) (over-refused s.inner p E_UNKSVC))
-        (beside s.files.io none refl) refl running.kinds running.clock)
+        (beside s.files.io none refl) (inr (none-kept none, refl)) refl running.kinds running.clock)
 
     -- ---- paths
 
     -- a call on a terminal or a pipe
     io-runs : (device : IoCall) → io_call_of code ≡ Some device → IoAttempts device s.inner s.files.io
-        (length s.files.drives) p result rest.files.io s.terms rest.terms → AreKinds rest.files → IsClock rest.clock
-        (after_attempt s.inner p result).tick → Runs result rest
-    io-runs device is it kinds clock =
+        (length s.files.drives) p result rest.files.io s.terms rest.terms → NoneRequested p s.files rest.files
+        → AreKinds rest.files → IsClock rest.clock (after_attempt s.inner p result).tick → Runs result rest
+    io-runs device is it none kinds clock =
         let drives = length s.files.drives in
         let many : length rest.files.io.calls ≡ length s.files.io.calls = many-attempt s.files.io p device s.inner drives result rest.files.io s.terms rest.terms it in
+        let io : IoAside s.inner.records (length s.terms) p s.files.io rest.files.io = leaves-aside s.inner.records
+        (length s.terms) p s.files.io rest.files.io (attempt-leaves device s.inner s.files.io rest.files.io drives
+        p result s.terms rest.terms it) many (on-attempt device s.inner s.files.io p drives result rest.files.io
+        s.terms rest.terms it) in
         next-running s p (after result rest) running
         (left-aside s.inner p (call_event_end result) (after_attempt s.inner p result) (subst (AttemptLeft s.inner p) (sym it.result_is) (by-end s.inner p it.effect it.effect.end)))
-        (leaves-aside s.inner.records (length s.terms) p s.files.io rest.files.io (attempt-leaves device s.inner
-        s.files.io rest.files.io drives p result s.terms rest.terms it) many (on-attempt device s.inner s.files.io
-        p drives result rest.files.io s.terms rest.terms it))
+        io
         (io-keeps s.inner s.files.io p running.kept lives code device drives result rest.files.io s.terms rest.terms next is it)
         (in-io s.inner s.files.io p running.in_calls lives running.places code device drives result rest.files.io s.terms rest.terms next many it)
-        long kinds clock
+        long (requested-then rest.files io (inl none)) kinds clock
+
+    -- a call that waits for a record of a file
+    record-runs : (call : PathCall) → path_call_of code ≡ Some call → WaitsForRecord call s.inner s.files now p result
+        rest.files s.terms rest.terms → AreKinds rest.files → IsClock rest.clock (after_attempt s.inner p result).tick
+        → Runs result rest
+    record-runs call coded it kinds clock =
+        let then_is = is-waiting s p code running lives next now call coded result rest.files s.terms rest.terms it in
+        next-running s p (after result rest) running
+        (left-aside s.inner p (call_event_end result) (after_attempt s.inner p result) (waits-left s p code running lives next now call coded result rest.files s.terms rest.terms it))
+        (waits-aside s p code running lives next now call coded result rest.files s.terms rest.terms it)
+        (λ kept is. subst (λ (n : Inner). KeepsCall n rest.files.io p kept) (sym then_is) (waits-keep s p code running lives next now call coded result rest.files s.terms rest.terms it kept is))
+        (subst (λ (n : Inner). IsWaiting n.records p → WaitsInCall n rest.files.io p) (sym then_is) (waits-in s p code running lives next now call coded result rest.files s.terms rest.terms it))
+        long (waits-requested call s.inner s.files now p result rest.files s.terms rest.terms running.requested it
+        (waits-within s p code running lives next now call coded result rest.files s.terms rest.terms it)) kinds
+        clock
 
     path-runs : (call : PathCall) → path_call_of code ≡ Some call → Serves (on_paths call) s now p result rest → Runs result rest
     path-runs call coded (it, clock_is) = by_touch (comes-of attempt)
@@ -304,39 +339,44 @@ module _ (s : State) (p code : ℕ) (running : IsRunning s) (lives : IsLiving s.
         tick =
             ap (λ (result : CallResult). (after_attempt s.inner p result).tick) it.result_is ∙ path-tick s.inner p _ it.effect.end
 
-        by_touch : OnDevice attempt ⊎ TouchesNone attempt → Runs result rest
+        by_touch : OnDevice attempt ⊎ TouchesNone attempt ⊎ WaitsOnRecord attempt → Runs result rest
+        by_touch (inr (inr waiting)) =
+            record-runs call coded waiting kinds (subst (IsClock rest.clock) (sym tick) clock)
         by_touch (inl on) =
-            io-runs on.0.device (code-there code call coded ∙ on.0.device_is) on.0.attempted kinds (subst (IsClock rest.clock) (sym tick) clock)
-        by_touch (inr none) =
+            io-runs on.0.device (code-there code call coded ∙ on.0.device_is) on.0.attempted on.0.requests kinds (subst (IsClock rest.clock) (sym tick) clock)
+        by_touch (inr (inl none)) =
             over-runs result rest (answered-over s.inner p result none.over)
             (let io = io-kept s.inner s.files p result rest.files s.terms rest.terms none in (io-touched s.inner.records (length s.terms) p s.files.io rest.files.io io, io.calls.none))
-            none.terminals kinds clock
+            (inl none.requests) none.terminals kinds clock
 
     -- ---- processes
 
-    fork-by : (files : Files) → files.io ≡ s.files.io → AreKinds files → call_of code ≡ Some Call.Fork
-        → (result : CallResult) → IsOver (Child s.inner p) result
+    fork-by : (files : Files) → files.io ≡ s.files.io → files.records ≡ s.files.records → AreKinds files
+        → call_of code ≡ Some Call.Fork → (result : CallResult) → IsOver (Child s.inner p) result
         → Runs result (with_files s (files_after_fork files p result))
-    fork-by files io kinds coded (done t) child =
+    fork-by files io same kinds coded (done t) child =
         over-runs (done t) (with_files s (files_started_by t)) (over-done s.inner p t child.aside child.tick)
         (subst (λ (io : Io). BesideIo (io_started io p (regs_at t p).a)) (sym io) (
           io-begun s.inner.records (length s.terms) p s.files.io (regs_at t p).a
               (free-is s.inner.records (regs_at t p).a child.number).none,
-          no-kept s.inner s.files.io p code next
-              (proc-no-io code Call.Fork coded) running.kept,
+          none-kept (proc-no-io code Call.Fork coded),
         ))
-        refl (kinds-started files kinds p (regs_at t p).a) running.clock
+        (inr (none-kept (proc-no-io code Call.Fork coded), same)) refl (kinds-started files kinds p (regs_at t p).a) running.clock
       where
         files_started_by : Inner → Files
         files_started_by t = files_after_fork files p (done t)
-    fork-by files io kinds coded (refused number) over =
-        over-runs (refused number) (with_files s files) (over-refused s.inner p number) (beside files.io (proc-no-io code Call.Fork coded) io) refl kinds running.clock
-    fork-by files io kinds coded (waits t) over = absurd over
-    fork-by files io kinds coded (ends status) over = absurd over
+    fork-by files io same kinds coded (refused number) over =
+        over-runs (refused number) (with_files s files) (over-refused s.inner p number)
+        (beside files.io (proc-no-io code Call.Fork coded) io)
+        (inr (none-kept (proc-no-io code Call.Fork coded), same)) refl kinds running.clock
+    fork-by files io same kinds coded (waits t) over = absurd over
+    fork-by files io same kinds coded (ends status) over = absurd over
 
     fork-runs : call_of code ≡ Some Call.Fork → Serves (on_processes Call.Fork) s now p result rest → Runs result rest
     fork-runs coded (files, it, rest_is) =
-        subst (Runs result) (sym rest_is) (fork-by files (fork-leaves s.inner (asker_of s.inner p now) s.files (length s.terms) p result files it).io
+        subst (Runs result) (sym rest_is) (fork-by files (fork-leaves s.inner (asker_of s.inner p now) s.files
+        (length s.terms) p result files it).io (fork-leaves s.inner (asker_of s.inner p now) s.files
+        (length s.terms) p result files it).records
         (fork-kinds s.inner (asker_of s.inner p now) s.files (length s.terms) p result files it running.kinds) coded result
         (fork-over s.inner (asker_of s.inner p now) s.files (length s.terms) p result files lives it))
 
@@ -346,6 +386,12 @@ module _ (s : State) (p code : ℕ) (running : IsRunning s) (lives : IsLiving s.
     call-beside none (refused number) = beside s.files.io none refl
     call-beside none (waits t) = beside s.files.io none refl
     call-beside none (ends status) = (io-closed s.inner.records (length s.terms) p s.files.io, ended-none s.files.io p)
+
+    call-ends : io_call_of code ≡ None → (result : CallResult) → EndsRequest (files_after_call s.files p result)
+    call-ends none (done t) = inr (none-kept none, refl)
+    call-ends none (refused number) = inr (none-kept none, refl)
+    call-ends none (waits t) = inr (none-kept none, refl)
+    call-ends none (ends status) = inl (none-ended s.files p)
 
     call-kinds : (result : CallResult) → AreKinds (files_after_call s.files p result)
     call-kinds (done t) = running.kinds
@@ -360,7 +406,7 @@ module _ (s : State) (p code : ℕ) (running : IsRunning s) (lives : IsLiving s.
         (left-aside s.inner p (call_event_end result) (after_attempt s.inner p result) (subst (AttemptLeft s.inner p) (sym is) (attempt-left s.inner p call lives (code, next, coded))))
         io.0 (λ kept there. absurd (none-some kept (sym io.1 ∙ there)))
         (in-call s.inner s.files.io p running.in_calls lives running.places code call result _ next coded (subst (HasItsCall s.inner p) (sym is) (attempt-has s.inner p call)))
-        refl (call-kinds result)
+        refl (requested-then (files_after_call s.files p result) io.0 (call-ends (proc-no-io code call coded) result)) (call-kinds result)
         (subst (IsClock s.clock) (sym (ap (λ (result : CallResult). (after_attempt s.inner p result).tick) is ∙ attempt-tick s.inner p call)) running.clock))
 
     process-runs : (call : ProcCall) → call_of code ≡ Some call → Serves (on_processes call) s now p result rest → Runs result rest

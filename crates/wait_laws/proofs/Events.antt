@@ -20,7 +20,10 @@ use Rattle.event_rules.proofs.Ticks.{ended-tick}
 use Rattle.time_rules.specs.Clock.{IsClock}
 use Rattle.machine_model.specs.Event.{Acts, Event, before_delivery, files_after_delivery, files_after_instruction}
 use Rattle.machine_model.specs.State.{State}
-use Rattle.wait_laws.specs.Running.{IsRunning}
+use Rattle.wait_laws.specs.Running.{AreRequested, IsRunning}
+use Rattle.wait_laws.proofs.Requested.{none-ended, none-interrupted, none-then}
+use Rattle.file_rules.specs.Locking.{files_interrupted}
+use Rattle.file_rules.specs.Processes.{files_ended}
 use Rattle.event_rules.specs.Event.{after_instruction, broken_off, delivery_end, instruction_end, next_instruction}
 use Rattle.std.specs.Prelude.{length}
 use Rattle.std.proofs.lemmas.Option.{none-some}
@@ -106,6 +109,20 @@ module _ (s : State) (p : ℕ) (running : IsRunning s) (lives : IsLiving s.inner
   delivery-beside (Ok t) = (io-broken s.inner.records (length s.terms) p s.files.io, interrupted-none s.files.io p)
   delivery-beside (Err status) = ended
 
+  instruction-requested : (outcome : Outcome) → IoAside s.inner.records (length s.terms) p s.files.io
+      (files_after_instruction s.files p outcome).io → AreRequested (files_after_instruction s.files p outcome)
+  instruction-requested (Done effect) io = running.requested
+  instruction-requested (Calls code regs) io = running.requested
+  instruction-requested (Aborts status) io =
+      none-then p s.files (files_ended s.files p) io.calls running.requested (none-ended s.files p)
+
+  delivery-requested : (result : Result Inner ℕ) → IoAside s.inner.records (length s.terms) p s.files.io
+      (files_after_delivery s.files p result).io → AreRequested (files_after_delivery s.files p result)
+  delivery-requested (Ok t) io =
+      none-then p s.files (files_interrupted s.files p) io.calls running.requested (none-interrupted s.files p)
+  delivery-requested (Err status) io =
+      none-then p s.files (files_ended s.files p) io.calls running.requested (none-ended s.files p)
+
   acts-run : (act : Act) (end : EventEnd) (t : State) → act_of s.inner p ≡ act → length t.terms ≡ length s.terms → Acts act s p end t → IsRunning t
   acts-run executes end t next long (over, is) =
       let outcome = next_instruction s.inner p in
@@ -114,7 +131,7 @@ module _ (s : State) (p : ℕ) (running : IsRunning s) (lives : IsLiving s.inner
       (left-aside s.inner p (instruction_end outcome) (after_instruction s.inner p outcome) (instruction-left s.inner p outcome))
       io.0 (λ kept there. absurd (none-some kept (sym io.1 ∙ there)))
       (in-instruction s.inner s.files.io p running.in_calls lives running.places next outcome _)
-      refl (instruction-kinds s.files p running.kinds outcome) (subst (IsClock s.clock) (sym (instruction-tick s.inner p outcome)) running.clock))
+      refl (instruction-requested outcome io.0) (instruction-kinds s.files p running.kinds outcome) (subst (IsClock s.clock) (sym (instruction-tick s.inner p outcome)) running.clock))
   acts-run (delivers signal) end t next long (over, is) =
       let found = before_delivery s p in
       let result = delivered found p signal in
@@ -124,7 +141,7 @@ module _ (s : State) (p : ℕ) (running : IsRunning s) (lives : IsLiving s.inner
       (left-aside s.inner p (delivery_end result) (after_delivery found p result) (broken-left s.inner p signal (interrupted_count s.files.io p)))
       io.0 (λ kept there. absurd (none-some kept (sym io.1 ∙ there)))
       (in-delivery s.inner s.files.io p running.in_calls lives running.places signal (interrupted_count s.files.io p) _)
-      refl (delivery-kinds s.files p running.kinds result) (subst (IsClock s.clock) (sym tick) running.clock))
+      refl (delivery-requested result io.0) (delivery-kinds s.files p running.kinds result) (subst (IsClock s.clock) (sym tick) running.clock))
   acts-run (attempts code) end t next long (result, rest, attempted, over, is) =
       subst IsRunning (sym is) (attempt-runs s p code running lives next result rest (sym (ap (λ (t : State). length t.terms) is) ∙ long) attempted)
 

@@ -199,7 +199,7 @@ module _ (m : Inner) (old : Io) (p : ℕ) (in_calls : AreInCalls m old) (lives :
       let within : p < length before.calls = omega (arith, many, long, here, places) in
       ap is_some (ap (λ (io : Io). kept_at io p) is ∙ get_or-set_same before.calls p (Some kept) None within)
 
-  in-end : (code : ℕ) (effect : IoEffect) (end : IoEnd) (io : Io) → act_of m p ≡ attempts code
+  pub in-end : (code : ℕ) (effect : IoEffect) (end : IoEnd) (io : Io) → act_of m p ≡ attempts code
       → io ≡ with_call effect.io p (kept_in end) → length io.calls ≡ length old.calls
       → In (after_attempt m p (result_by end m p effect)) io
   in-end code effect (answers regs) io next is long waiting =

@@ -48,7 +48,7 @@ use Rattle.io_rules.specs.declared.io_call.IoCall.TheVariants as Call
 use Rattle.io_rules.specs.declared.modes.TheConstants.{STANDARD_ERROR}
 use Rattle.io_rules.specs.declared.status.TheConstants.{SS_OPT, SS_READY, SS_EOF, OPTION_BYTES}
 use Rattle.call_laws.specs.Kept.{StaysAllowed}
-use Rattle.wait_laws.proofs.Lengths.{LineLength, line-length, user-fits, user-length}
+use Rattle.touch_laws.proofs.Lengths.{LineLength, line-length, user-fits, user-length}
 
 -- a path that is open is the image of its number
 open-slot : (io : Io) (p n : ℕ) (opened : OpenPath) → open_path io p n ≡ Some opened → slot_of io.paths p n ≡ Some opened.path

@@ -5,12 +5,13 @@ pub mod Events
 pub mod InCalls
 pub mod Keeping
 pub mod KeptEvents
-pub mod Lengths
 pub mod Loads
 pub mod Named
 pub mod OnTerminals
 pub mod Over
 pub mod Places
+pub mod RecordWaits
+pub mod Requested
 pub mod RunningLaws
 pub mod Runs
 pub mod WaitsMade

@@ -4,7 +4,7 @@ use Rattle.std.specs.Prelude.{MatchOption, option_map, slice_index_or, unwrap_or
 use Rattle.std.specs.Option.{option_map_or}
 use Rattle.std.proofs.lemmas.Bool.{cases_eq, cases_lt}
 use Rattle.std.proofs.lemmas.List.{get_or-map, get_or-set_same, get_or_past, length-append, length-map, length-set}
-use Rattle.std.proofs.lemmas.Option.{same_Some}
+use Rattle.std.proofs.lemmas.Option.{none-some, same_Some}
 use Rattle.os9_base.specs.declared.errors.TheConstants.{E_BMID, E_BNAM, E_BPADDR, E_MEMFUL, E_MNF, E_NEMOD, E_NORAM, E_PRCFUL}
 use Rattle.proc_model.specs.declared.memory.TheConstants.{MOST_LINKS}
 use Rattle.proc_model.specs.declared.module.ModId.{ModId}
@@ -15,7 +15,8 @@ use Rattle.proc_model.specs.Objects.{file_blocks, file_objects}
 use Rattle.proc_model.specs.Slots.{group_slot, highest_free_run, with_group}
 use Rattle.proc_rules.specs.declared.own.Own.{Own}
 use Rattle.proc_rules.specs.declared.record.Record.{Record}
-use Rattle.proc_rules.specs.Records.{IsLiving, after_make, free_process, new_record, record_at, record_of, with_record, with_regs}
+use Rattle.proc_rules.specs.declared.record.Life.{Life}
+use Rattle.proc_rules.specs.Records.{IsLiving, after_make, free_process, has_ended, new_record, record_at, record_of, record_passes, with_record, with_regs}
 use Rattle.call_rules.specs.CallResult.{CallResult, changes, done, needs, refuses}
 use Rattle.call_rules.specs.Chain.{begun_anew, f_chain, with_program}
 use Rattle.call_rules.specs.Fork.{f_fork, forked_regs, with_child, with_child_record}
@@ -31,8 +32,8 @@ use Rattle.file_rules.specs.ProgramFile.{ProgramFile}
 use Rattle.call_laws.specs.Objects.{KeepsSizes}
 use Rattle.call_laws.proofs.Lists.{slice_get-left}
 use Rattle.call_laws.proofs.MemoryKept.{Begun, map-other, started-kept}
-use Rattle.call_laws.proofs.OthersKept.{Free, free-is, living-within, own-other, record-other, record-put}
-use Rattle.wait_laws.proofs.Lengths.{user-length}
+use Rattle.call_laws.proofs.OthersKept.{Free, free-is, living-record, living-within, own-other, record-other, record-put}
+use Rattle.touch_laws.proofs.Lengths.{user-length}
 use Rattle.wait_laws.proofs.Aside.{Aside, ComesSo}
 use Rattle.wait_laws.proofs.Over.{IsOver, Over, aside-self, of-changes, of-needs, of-refuses, over-by}
 
@@ -219,6 +220,7 @@ pub record Child (m : Inner) (p : ℕ) (t : Inner) : Type 0 where
   pub aside : Aside m t p
   pub tick : t.tick ≡ m.tick
   pub number : free_process m.records ≡ Some (regs_at t p).a
+  pub living : IsLiving t.records (regs_at t p).a  -- the child
 
 module _ (m : Inner) (p : ℕ) (lives : IsLiving m.records p) (program : Program) (fits : Fits program) (child : ℕ)
     (free : free_process m.records ≡ Some child) (memory : MemoryState) (begins : started m.memory child
@@ -293,16 +295,30 @@ module _ (m : Inner) (p : ℕ) (lives : IsLiving m.records p) (program : Program
         ];
   }
 
+  -- it lives
+  child-lives : IsLiving made.records child
+  child-lives =
+      ap (record_passes (λ r. not (has_ended r.life))) (child-record apart) ∙ ap (λ (life : Life). not (has_ended life)) child-runs
+    where
+      apart : child ≢ p
+      apart same =
+          none-some (record_at m.records p) (sym is-free.none ∙ ap (record_of m.records) same ∙ living-record m.records p lives)
+
+  child-is : child ≡ (regs_at made p).a
+  child-is =
+      (sym (ap (λ (r : Record). r.regs.a) (record-put (with_child_record m.records p child program) p
+      (record (record_at (with_child_record m.records p child program) p) {
+        regs = forked_regs (regs_at m p)
+            child program;
+      }) (subst (λ (n : ℕ). p < n) (sym child-long) (living-within m.records p lives)))))
+
   made-child : Child m p made
   made-child = record {
     aside = made-aside;
     tick = refl;
     number =
-        free ∙ ap Some (sym (ap (λ (r : Record). r.regs.a) (record-put (with_child_record m.records p child program) p
-        (record (record_at (with_child_record m.records p child program) p) {
-          regs = forked_regs (regs_at m p)
-              child program;
-        }) (subst (λ (n : ℕ). p < n) (sym child-long) (living-within m.records p lives)))));
+        free ∙ ap Some child-is;
+    living = subst (IsLiving made.records) child-is child-lives;
   }
 
 forks-over : (m : Inner) (p : ℕ) → IsLiving m.records p → (So : Inner → Type 0) → ((t : Inner) → Child m p t → So t) → (program : Program) → Fits program → IsOver So (forks m p program)
@@ -320,7 +336,7 @@ forks-over m p lives So so program fits =
 
 child-loaded : (m t : Inner) (p : ℕ) (file : List ℕ) (loaded : Loaded) → Enters m.memory file loaded → Child (with_memory m loaded.memory) p t → Child m p t
 child-loaded m t p file loaded enters it =
-    record { aside = aside-loaded m t p file loaded enters it.aside; tick = it.tick; number = it.number }
+    record { aside = aside-loaded m t p file loaded enters it.aside; tick = it.tick; number = it.number; living = it.living }
 
 pub fork-over : (m : Inner) (asker : Asker) (old : Files) (terms p : ℕ) (result : CallResult) (new : Files)
     → IsLiving m.records p → ForkAttempts m asker old terms p result new → IsOver (Child m p) result

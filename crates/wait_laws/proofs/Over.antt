@@ -69,13 +69,22 @@ aside-regs m p at bytes regs =
 
 -- ---- what an attempt comes to
 
+-- it does not end the process
+abbrev pub IsNoEnd : CallResult → Type 0
+IsNoEnd (done t) = Unit {0}
+IsNoEnd (refused number) = Unit {0}
+IsNoEnd (waits t) = Unit {0}
+IsNoEnd (ends status) = ⊥
+
 pub record Over (m : Inner) (p : ℕ) (result : CallResult) : Type 0 where
+  pub no_end : IsNoEnd result
   pub aside : Aside m (after_attempt m p result) p
   pub runs : IsWaiting (after_attempt m p result).records p → ⊥
   pub tick : (after_attempt m p result).tick ≡ m.tick
 
 pub over-done : (m : Inner) (p : ℕ) (t : Inner) → Aside m t p → t.tick ≡ m.tick → Over m p (done t)
 over-done m p t aside tick = record {
+  no_end = tt;
   aside = aside-goes_on m t p (done_regs (regs_at t p)) aside;
   runs = on-waits t p (done_regs (regs_at t p));
   tick = tick;
@@ -83,6 +92,7 @@ over-done m p t aside tick = record {
 
 pub over-refused : (m : Inner) (p number : ℕ) → Over m p (refused number)
 over-refused m p number = record {
+  no_end = tt;
   aside = aside-goes_on m m p (refused_regs (regs_at m p) number) (aside-same m p);
   runs = on-waits m p (refused_regs (regs_at m p) number);
   tick = refl;

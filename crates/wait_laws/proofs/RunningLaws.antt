@@ -15,7 +15,7 @@ use Rattle.proc_rules.specs.declared.record.Record.{Record}
 use Rattle.proc_rules.specs.declared.record.SendFault.TheVariants.{NoProcess, Pending}
 use Rattle.proc_rules.specs.Records.{IsLiving, after_make, has_ended, is_living, is_waiting, new_record, record_at, record_of, record_passes, with_regs}
 use Rattle.proc_rules.specs.Signals.{after_send, is_reached, send_fault, wake_signal, with_sent, with_signal}
-use Rattle.call_rules.specs.Inner.{Inner, no_own, own_at}
+use Rattle.call_rules.specs.Inner.{Inner, no_own, own_at, regs_at}
 use Rattle.call_rules.specs.Program.{start_regs}
 use Rattle.io_model.specs.Path.{numbers_of}
 use Rattle.io_model.specs.declared.kept.Kept.{Kept}
@@ -23,7 +23,7 @@ use Rattle.io_rules.specs.Arrivals.{ArrivesAt, ArrivesFrom, Desk, after_key_sign
 use Rattle.io_rules.specs.Io.{Io, first_io, kept_at, open_path}
 use Rattle.event_rules.specs.Terminals.{TerminalsOnlyGain}
 use Rattle.civil_time.specs.CivilTime.{is_time_packet}
-use Rattle.file_rules.specs.Files.{Files}
+use Rattle.file_rules.specs.Files.{Files, with_io}
 use Rattle.file_laws.specs.Kinds.{AreKinds}
 use Rattle.file_laws.proofs.Starts.{kinds-same, kinds-start}
 use Rattle.time_rules.specs.Clock.{IsClock}
@@ -35,7 +35,10 @@ use Rattle.event_rules.specs.Console.{terminals_emptied}
 use Rattle.event_rules.specs.Start.{first_priority, first_process, first_start, no_parent, superuser}
 use Rattle.event_rules.specs.Terminals.{TerminalsOnlyGain}
 use Rattle.machine_model.proofs.Gains.{tick-gains}
-use Rattle.wait_laws.specs.Running.{IsRunning}
+use Rattle.wait_laws.specs.Running.{AreRequested, IsRunning}
+use Rattle.wait_laws.proofs.Requested.{calls-then}
+use Rattle.lock_model.specs.Locks.{request_of}
+use Rattle.lock_model.proofs.Ranks.{first-quiet}
 use Rattle.call_laws.proofs.OthersKept.{living-record, living-within}
 use Rattle.call_laws.specs.Kept.{AreInCalls, AreKept, WaitsInCall}
 use Rattle.call_laws.specs.Terminals.{AreOnTerminals}
@@ -56,14 +59,16 @@ zip-length (x ∷ before) (y ∷ now) gains =
 -- what holds, by its parts
 pub running-then : (s t : State) → IsRunning s → AreKept t.inner t.files.io → AreInCalls t.inner t.files.io
     → length t.inner.records ≤ length t.files.io.calls → AreOnTerminals (length s.terms) t.files.io.paths
-    → length t.terms ≡ length s.terms → AreKinds t.files → IsClock t.clock t.inner.tick → IsRunning t
-running-then s t running kept in_calls places on long kinds clock = record {
+    → length t.terms ≡ length s.terms → AreRequested t.files → AreKinds t.files → IsClock t.clock t.inner.tick
+    → IsRunning t
+running-then s t running kept in_calls places on long requested kinds clock = record {
   kept = kept;
   in_calls = in_calls;
   places = places;
   on = subst (λ (n : ℕ). AreOnTerminals n t.files.io.paths) (sym long) on;
   some = subst (λ (n : ℕ). 0 < n) (sym long) running.some;
   few = subst (λ (n : ℕ). n ≤ 4) (sym long) running.few;
+  requested = requested;
   kinds = kinds;
   clock = clock;
 }
@@ -229,10 +234,29 @@ tick-leaves s t (desk, arrives, is) =
     let left = signals-leave (s.inner.tick + 1) 0 (length s.terms) (desk_of s) desk arrives in
     subst (λ (t : State). SignalsLeave s.inner t.inner) (sym is) (record { memory = left.memory; lives = left.lives; had = left.had })
 
+-- and the registers of a process that lives
+key-regs : (inner : Inner) (user : Option Pid) (signal : Option ℕ) (q : ℕ) → IsLiving inner.records q → regs_at (after_key_signal inner user signal) q ≡ regs_at inner q
+key-regs inner user signal q lives =
+    let goes = goes-key inner user signal q lives in
+    ap (λ (r : Record). r.regs) (there-at (after_key_signal inner user signal).records q goes.new goes.is) ∙ goes.regs
+
+signals-regs : (tick n count : ℕ) (old new : Desk) → ArrivesFrom tick n count old new → (q : ℕ) → IsLiving old.inner.records q → regs_at new.inner q ≡ regs_at old.inner q
+signals-regs tick n zero old new is q lives = ap (λ (desk : Desk). regs_at desk.inner q) is
+signals-regs tick n (suc count) old new (between, here, later) q lives =
+    let first : SignalsLeave old.inner between.inner = subst (SignalsLeave old.inner) (sym here.signal) (key-leaves old.inner here.terminal.user here.answer.signal) in
+    signals-regs tick (n + 1) count between new later q (first.lives q lives)
+    ∙ ap (λ (inner : Inner). regs_at inner q) here.signal
+    ∙ key-regs old.inner here.terminal.user here.answer.signal q lives
+
+pub tick-regs : (s t : State) → Tick s t → (q : ℕ) → IsLiving s.inner.records q → regs_at t.inner q ≡ regs_at s.inner q
+tick-regs s t (desk, arrives, is) q lives =
+    ap (λ (t : State). regs_at t.inner q) is
+    ∙ signals-regs (s.inner.tick + 1) 0 (length s.terms) (desk_of s) desk arrives q lives
+
 -- ---- a tick
 
 -- calls that wait, and paths, are left
-record DeskLeft (old new : Desk) : Type 0 where
+pub record DeskLeft (old new : Desk) : Type 0 where
   pub kept : AreKept old.inner old.io → AreKept new.inner new.io
   pub in_calls : AreInCalls old.inner old.io → AreInCalls new.inner new.io
   pub long : length new.inner.records ≡ length old.inner.records
@@ -279,7 +303,7 @@ arrival-left tick n old new arrives = record {
         arrives.answer.signal).memory)))
         (λ number opened is. ap (λ (io : Io). open_path io q number) arrives.io ∙ is) it
 
-arrivals-left : (tick n count : ℕ) (old new : Desk) → ArrivesFrom tick n count old new → DeskLeft old new
+pub arrivals-left : (tick n count : ℕ) (old new : Desk) → ArrivesFrom tick n count old new → DeskLeft old new
 arrivals-left tick n zero old new is = record {
   kept = λ kept. subst (λ (desk : Desk). AreKept desk.inner desk.io) (sym is) kept;
   in_calls = λ in_calls. subst (λ (desk : Desk). AreInCalls desk.inner desk.io) (sym is) in_calls;
@@ -349,6 +373,7 @@ tick-running s t (desk, arrives, is) running =
     running.places)))
     (subst (λ (t : State). AreOnTerminals (length s.terms) t.files.io.paths) (sym is) (subst (AreOnTerminals (length s.terms)) (sym left.paths) running.on))
     (zip-length s.terms t.terms (tick-gains s t (desk, arrives, is)).terminals)
+    (subst (λ (t : State). AreRequested t.files) (sym is) (calls-then s.files (with_io s.files desk.io) refl left.calls running.requested))
     (subst (λ (t : State). AreKinds t.files) (sym is) (kinds-same s.files desk.io left.paths running.kinds))
     (subst (λ (t : State). IsClock t.clock t.inner.tick) (sym is) (clock-later s.clock s.inner.tick desk.inner.tick (omega (arith, tick)) running.clock))
 
@@ -360,12 +385,13 @@ choice-running s t is running =
     (subst (λ (t : State). length t.inner.records ≤ length t.files.io.calls) (sym is) running.places)
     (subst (λ (t : State). AreOnTerminals (length s.terms) t.files.io.paths) (sym is) running.on)
     (ap (λ (t : State). length t.terms) is)
+    (subst (λ (t : State). AreRequested t.files) (sym is) running.requested)
     (subst (λ (t : State). AreKinds t.files) (sym is) running.kinds)
     (subst (λ (t : State). IsClock t.clock t.inner.tick) (sym is) running.clock)
 
 pub emptied-running : (m : State) → IsRunning m → IsRunning (record m { terms = terminals_emptied m.terms })
 emptied-running m running =
-    running-then m (record m { terms = terminals_emptied m.terms }) running running.kept running.in_calls running.places running.on (simp length-map) running.kinds running.clock
+    running-then m (record m { terms = terminals_emptied m.terms }) running running.kept running.in_calls running.places running.on (simp length-map) running.requested running.kinds running.clock
 
 -- ---- the start
 
@@ -407,6 +433,8 @@ start-running boot s starts some few time = subst IsRunning (sym starts.is) (rec
   on = subst (λ (io : Io). AreOnTerminals (length boot.terms) io.paths) (sym io_is) (on-first (length boot.terms) some);
   some = some;
   few = few;
+  requested =
+      λ p request is. absurd (none-some request (sym (ap (λ (files : Files). request_of files.records.locks p) starts.mounted.is ∙ first-quiet p) ∙ is));
   kinds = kinds-start boot.images boot.drives starts.files starts.mounted;
   clock = record { civil = time; set = omega arith };
 })

@@ -1,11 +1,29 @@
 -- Facts of every state of a run.
-use Rattle.std.specs.Prelude.{◌<◌, ◌≤◌, List, length}
+use Rattle.std.specs.Prelude.{◌≡◌, ℕ, ◌<◌, ◌≤◌, Some, List, length}
 use Rattle.std.specs.List.{AllByRecursion}
+use Rattle.lock_model.specs.Laws.{Covers}
+use Rattle.lock_model.specs.Locks.{request_of}
+use Rattle.lock_model.specs.declared.lock.Request.{Request}
+use Rattle.io_rules.specs.Io.{kept_at}
+use Rattle.file_rules.specs.Files.{Files}
+use Rattle.file_rules.specs.Locking.{call_of}
 use Rattle.file_laws.specs.Kinds.{AreKinds}
 use Rattle.call_laws.specs.Kept.{AreInCalls, AreKept}
 use Rattle.call_laws.specs.Terminals.{AreOnTerminals}
 use Rattle.time_rules.specs.Clock.{IsClock}
 use Rattle.machine_model.specs.State.{State}
+
+-- a process that waits in this request keeps its call, and owns the lock that it asks for, which has all bytes that the
+-- call moves
+pub record IsRequested (files : Files) (p : ℕ) (request : Request) : Type 0 where
+  pub kept : kept_at files.io p ≡ Some (call_of request)
+  pub owner : request.lock.owner.0 ≡ p
+  pub covers : Covers request.lock.range request.count
+
+-- each request for a record is of a call that waits
+abbrev pub AreRequested : Files → Type 0
+AreRequested files =
+    (p : ℕ) (request : Request) → request_of files.records.locks p ≡ Some request → IsRequested files p request
 
 -- the facts of a state of a run
 pub record IsRunning (s : State) : Type 0 where
@@ -16,6 +34,7 @@ pub record IsRunning (s : State) : Type 0 where
   pub on : AreOnTerminals (length s.terms) s.files.io.paths
   pub some : 0 < length s.terms
   pub few : length s.terms ≤ 4
+  pub requested : AreRequested s.files
   pub kinds : AreKinds s.files  -- paths and directories of processes are on what is there
   pub clock : IsClock s.clock s.inner.tick
 

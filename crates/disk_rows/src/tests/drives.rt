@@ -1,9 +1,9 @@
 use device_table::devices::Devices;
 use file_drives::disks::Disks;
-use file_rules::places::FilePlace;
 use file_state::state::FileState;
 use fixtures::volume::smallest;
 use io_model::path::Target;
+use lock_model::place::FilePlace;
 use os9_base::registers::Pid;
 use os9_outer::drive::BlockDriver;
 use os9_outer::ram_drive::RamDrive;

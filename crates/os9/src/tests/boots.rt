@@ -16,6 +16,15 @@ const CREATE: [u8; 41] = [
     0x2F, 0x44, 0x30, 0x2F, 0x78, 0x0D, 0x26, 0x53, 0x07,
 ];
 
+/// A program that makes the file `/D0/x`, writes `abcd`, reads it for update, and exits with 0.
+const RECORD: [u8; 70] = [
+    0x87, 0xCD, 0x00, 0x46, 0x00, 0x0D, 0x11, 0x81, 0x6E, 0x00, 0x12, 0x00, 0xC8, 0x53, 0x79, 0x73,
+    0x47, 0xEF, 0x30, 0x8C, 0x24, 0x86, 0x03, 0xC6, 0x03, 0x10, 0x3F, 0x83, 0x30, 0x8C, 0x20, 0x10,
+    0x8E, 0x00, 0x04, 0x10, 0x3F, 0x8A, 0x8E, 0x00, 0x00, 0xCE, 0x00, 0x00, 0x10, 0x3F, 0x88, 0x30,
+    0xE8, 0xC0, 0x10, 0x3F, 0x89, 0x5F, 0x10, 0x3F, 0x06, 0x2F, 0x44, 0x30, 0x2F, 0x78, 0x0D, 0x61,
+    0x62, 0x63, 0x64, 0x67, 0x0D, 0x61,
+];
+
 /// The most bytes of a boot file in the 8 sectors from sector 8 on.
 const MOST_BOOT: usize = 2048;
 
@@ -116,6 +125,50 @@ fn image_is_written_back(rt: HostRuntime) -> Result<(), Fail> {
     let new_entry = Left::Changed(&[(832, 0xF8), (524, 96)]);
     boot(&rt, rt.alloc(), (&image, &[]), &BOOT, new_entry)?;
     boot(&rt, rt.alloc(), (&image, &[]), &twice, Left::Same)
+}
+
+// The write is past the end of the file, so its range has none. The lock of the read ends with the
+// process. A boot without locks writes an empty history.
+#[test]
+fn history_of_a_boot(rt: HostRuntime) -> Result<(), Fail> {
+    let rows: [(&[u8], &[u8], &[u8]); 2] = [
+        (
+            &RECORD,
+            b"",
+            b"P 2 2 0:000004 00000000 -------- 61626364\n\
+                G 2 2 0:000004 00000000 00000004 61626364\n\
+                D 2 2 0:000004 00000000 00000004 -\n",
+        ),
+        (&HELLO, LINE, b""),
+    ];
+    for (module, out, history) in rows {
+        let image = bootable(rt.alloc(), module, &[(25, 70)])?;
+        let step = Step {
+            words: "boot v --script t --slices s --history h",
+            out,
+            ..QUIET
+        };
+        let mut files = disks(rt.alloc(), &image, &[])?;
+        files.push(file(rt.alloc(), "h", b"before")?)?;
+        let left = shows(&rt, rt.alloc(), files, &step)?;
+        assert!(rt; bytes_of(&left, "h") == history);
+    }
+    Ok(())
+}
+
+// The image is written before the history, which is the file that cannot be written.
+#[test]
+fn history_that_is_not_written(rt: HostRuntime) -> Result<(), Fail> {
+    let image = bootable(rt.alloc(), &CREATE, &[])?;
+    let step = Step {
+        words: "boot v --script t --slices s --history h",
+        host: &[5],
+        status: 3,
+        err: b"os9: cannot write h\n",
+        ..QUIET
+    };
+    let new_entry = Left::Changed(&[(832, 0xF8), (524, 96)]);
+    boot(&rt, rt.alloc(), (&image, &[]), &step, new_entry)
 }
 
 // The first image is accepted; in the second the sector of the root's entries is not marked.

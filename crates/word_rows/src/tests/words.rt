@@ -39,11 +39,16 @@ fn told_run(alloc: Global, command: &str, run: &RunWords) -> Result<String, Allo
     let files = told_words(alloc, &run.files)?;
     let script = run.script.as_ref().map_or("none", |script| script.text());
     let start = told_time(alloc, run.start)?;
-    format!(in alloc;
+    let mut text = format!(in alloc;
         "{command}{files}, script {script}, slices {}, {} blocks, {start}",
         run.slices.text(),
         run.blocks
-    )
+    )?;
+    if let Some(history) = &run.history {
+        text.push_str(", history ")?;
+        text.push_str(history.text())?;
+    }
+    Ok(text)
 }
 
 fn verb_text(verb: Verb) -> &'static str {
@@ -146,7 +151,7 @@ fn run_words_are_read(rt: HostRuntime) -> Result<(), Fail> {
     are_read(&rt, rt.alloc(), &RUNS)
 }
 
-const BOOTS: [(&str, &str); 2] = [
+const BOOTS: [(&str, &str); 4] = [
     (
         "boot a --script t --slices s",
         "boot a, script t, slices s, 64 blocks, at 90 1 1 0 0 0",
@@ -154,6 +159,14 @@ const BOOTS: [(&str, &str); 2] = [
     (
         "boot a b --slices=s a d --script=t --blocks=8",
         "boot a b a d, script t, slices s, 8 blocks, at 90 1 1 0 0 0",
+    ),
+    (
+        "boot a --script t --slices s --history h",
+        "boot a, script t, slices s, 64 blocks, at 90 1 1 0 0 0, history h",
+    ),
+    (
+        "boot --history=-h --slices=s --blocks 9 --script=t a",
+        "boot a, script t, slices s, 9 blocks, at 90 1 1 0 0 0, history -h",
     ),
 ];
 
@@ -268,7 +281,7 @@ fn debug_words_are_read(rt: HostRuntime) -> Result<(), Fail> {
     are_read(&rt, rt.alloc(), &SESSIONS)
 }
 
-const BAD_WORDS: [&str; 69] = [
+const BAD_WORDS: [&str; 73] = [
     "",
     "run h --slices",
     "run h --slices ",
@@ -286,6 +299,10 @@ const BAD_WORDS: [&str; 69] = [
     "boot e --slices s",
     "boot e --script t",
     "boot e --script t --slices s --history",
+    "boot e --script t --slices s --history=",
+    "boot e --script t --slices s --history h --history h",
+    "run h --slices s --history h",
+    "debug h --slices s --commands c --history h",
     "boot a b c d e --script t --slices s",
     "run h --slices s --slices s",
     "run h --slices s --blocks",

@@ -4,14 +4,14 @@ use Rattle.os9_outer.specs.TerminalState.{terminal_states}
 use Rattle.file_drives.specs.Drives.{boxed_drive_view, drive_views}
 use Rattle.file_start.specs.Start.{HaveImages}
 use Rattle.os9_kernel.specs.Outside.{outside}
-use Rattle.boot_run.specs.Machine.{Setup}
+use Rattle.boot_run.specs.Machine.{Setup, history_left}
 use Rattle.boot_run.specs.World.{world_of}
 use Rattle.boot_images.specs.Outcome.{setup_of}
 use Rattle.boot_images.proofs.RunLemmas.{have-images, have-volumes, runs-between}
 use Rattle.boot_images.proofs.machine.run_images.Goals as goal
 
-pub run_machine-end-requires : goal.run_machine-end-requires
-run_machine-end-requires g c =
+pub run_machine-outcome-requires : goal.run_machine-outcome-requires
+run_machine-outcome-requires g c =
     let was = c.args.devices.now.drives in
     let now = c.insert_images.new.devices.drives in
     let view = boxed_drive_view (λ table. (g.dyn-1.0.entry table).1) in
@@ -33,9 +33,9 @@ pub returns-clause-run : goal.returns-clause-run
 returns-clause-run g c =
     let before = world_of g.H.Host c.args.host.now (outside (λ table. (g.dyn-1.0.entry table).1) c.args.devices.now.drives.items (λ table. (g.dyn-2.0.entry table).1) c.args.devices.now.terms.items) in
     let inside = outside (λ table. (g.dyn-1.0.entry table).1) c.insert_images.new.devices.drives.items (λ table. (g.dyn-2.0.entry table).1) c.insert_images.new.devices.terms.items in
-    let ran = world_of g.H.Host c.run_machine-end.new.host (outside (λ table. (g.dyn-1.0.entry table).1)
-    c.run_machine-end.new.devices.drives.items (λ table. (g.dyn-2.0.entry table).1)
-    c.run_machine-end.new.devices.terms.items) in
+    let ran = world_of g.H.Host c.run_machine-outcome.new.host (outside (λ table. (g.dyn-1.0.entry table).1)
+    c.run_machine-outcome.new.devices.drives.items (λ table. (g.dyn-2.0.entry table).1)
+    c.run_machine-outcome.new.devices.terms.items) in
     let left = outside (λ table. (g.dyn-1.0.entry table).1) c.eject_images.new.devices.drives.items (λ table. (g.dyn-2.0.entry table).1) c.eject_images.new.devices.terms.items in
     let given : Setup = record {
       file = c.as_slice.result.now;
@@ -56,14 +56,14 @@ returns-clause-run g c =
           c.as_slice-2.ensures.value i;
       slices = c.as_slice-3.ensures.value i;
     } in
-    let items : length c.run_machine-end.new.devices.drives.items ≡ length c.args.devices.now.drives.items = omega (
+    let items : length c.run_machine-outcome.new.devices.drives.items ≡ length c.args.devices.now.drives.items = omega (
       arith,
-      c.run_machine-end.ensures.drives,
+      c.run_machine-outcome.ensures.drives,
       c.insert_images.ensures.drives,
-      c.run_machine-end.new.devices.drives.ok.0,
+      c.run_machine-outcome.new.devices.drives.ok.0,
       c.args.devices.now.drives.ok.0,
     ) in
-    let many = length-map c.run_machine-end.new.devices.drives.items
+    let many = length-map c.run_machine-outcome.new.devices.drives.items
     (boxed_drive_view (λ table. (g.dyn-1.0.entry table).1)) ∙ items ∙ sym
     (length-map c.args.devices.now.drives.items (boxed_drive_view (λ table. (g.dyn-1.0.entry table).1))) in
     let have : HaveImages c.len.result c.args.images.now (drive_views (λ table. (g.dyn-1.0.entry table).1)
@@ -76,5 +76,5 @@ returns-clause-run g c =
     let terms_left = ap (λ terms. terminal_states (λ table. (g.dyn-2.0.entry table).1) terms.items) c.eject_images.ensures.terms_kept in
     runs-between (setup_of c.args.start.now c.args.images.now) given before ran inside left c.eject_images.new.images
     c.requires.devices.room (c.eject_images.ensures.count ∙ c.insert_images.ensures.count) many
-    c.eject_images.ensures.taken c.run_machine-end.result same c.insert_images.ensures.held terms_put terms_left
-    (c.run_machine-end.ensures.call c.args.images.now have)
+    c.eject_images.ensures.taken (history_left c.run_machine-outcome.result.records) c.run_machine-outcome.result.end same c.insert_images.ensures.held terms_put terms_left
+    (c.run_machine-outcome.ensures.call c.args.images.now have)

@@ -1,8 +1,9 @@
-use Rattle.std.proofs.Common.{◌≡◌, List, All, length, ap, subst, refl, sym, ◌∙◌, arith}
+use Rattle.std.proofs.Common.{◌≡◌, List, [], All, length, ap, subst, refl, sym, ◌∙◌, arith}
 use Rattle.std.specs.Vec.{vec_len}
 use Rattle.std.proofs.lemmas.List.{length-map}
 use Rattle.os9_outer.specs.TerminalState.{TerminalState, terminal_states}
 use Rattle.key_loading.specs.Loaded.{HasNoKeys, loaded}
+use Rattle.lock_model.specs.Records.{Records}
 use Rattle.file_rules.specs.Files.{NoneFailed}
 use Rattle.file_drives.specs.Drives.{drive_states, drive_views, media_of}
 use Rattle.os9_kernel.specs.Outside.{outside}
@@ -45,7 +46,7 @@ returns-in-Err-clause-call g c = λ images have.
     let untouched = where-refused c.in-Err.error (λ same. ap (λ devices. outside (λ table. (g.dyn-1.0.entry table).1)
     devices.drives.items (λ table. (g.dyn-2.0.entry table).1) devices.terms.items) same)
     c.in-Err.ensures.untouched in
-    subst (MachineCall setup before (world_of g.H.Host c.args.host.now started)) (sym c.end_of_start.ensures)
+    subst (MachineCall setup [] before (world_of g.H.Host c.args.host.now started)) (sym c.end_of_start-end.ensures)
     (called-refused setup c.args.config before started c.in-Err.error refl have.as_many
     c.in-Err.ensures.starts.refused untouched c.in-Err.ensures.starts.drives (drives-started c.args.config.images
     _ _ _ c.requires.volumes c.in-Err.ensures.starts.drives)
@@ -80,9 +81,10 @@ returns-in-Ok-run_slices-clause-call g c = λ images have.
     (outside (λ table. (g.dyn-1.0.entry table).1) c.load_keys.new.devices.drives.items
     (λ table. (g.dyn-2.0.entry table).1) c.load_keys.new.devices.terms.items) c.requires.terminals c.requires.time
     c.in-Ok.ensures.starts.drives.moves drives c.in-Ok.ensures.starts.drives.media terms
-    (c.in-Ok.ensures.starts.stands images have) _ _ _ c.living.result c.ticks.result c.run_end.result
+    (c.in-Ok.ensures.starts.stands images have) _ _ _ c.living.result c.ticks.result c.run_end-end.result
     c.in-Ok-run_slices.ensures.ran (λ t tied. c.living.ensures _ t tied) (λ t tied. c.ticks.ensures.machine _ t
-    tied) c.run_end.ensures.idle c.run_end.ensures.lives
+    tied) c.run_end-end.ensures.idle c.run_end-end.ensures.lives _
+    (λ t tied. ap (λ (records : Records). records.history) (c.into_records.ensures _ t tied))
 
 pub returns-in-Err-Output-clause-call : goal.returns-in-Err-Output-clause-call
 returns-in-Err-Output-clause-call g c = λ images have.

@@ -5,7 +5,7 @@ use Rattle.file_drives.specs.Drives.{boxed_drive_view, drive_views}
 use Rattle.file_start.specs.Start.{HaveImages}
 use Rattle.os9_kernel.specs.Outside.{outside}
 use Rattle.boot_run.specs.Console.{IsObserved}
-use Rattle.boot_run.specs.Machine.{Setup}
+use Rattle.boot_run.specs.Machine.{Setup, history_left}
 use Rattle.boot_run.specs.World.{world_of}
 use Rattle.boot_images.proofs.RunLemmas.{have-images, have-volumes, runs-between}
 use Rattle.console_run.specs.Keyboard.{keyboard_state}
@@ -14,8 +14,8 @@ use Rattle.console_boot.specs.Images.{LeavesSession, session_setup}
 use Rattle.console_boot.proofs.SessionLemmas.{session-between}
 use Rattle.console_boot.proofs.images.run_on_images.Goals as goal
 
-pub run_session-end-requires-clause-machine : goal.run_session-end-requires-clause-machine
-run_session-end-requires-clause-machine g c =
+pub run_session-outcome-requires-clause-machine : goal.run_session-outcome-requires-clause-machine
+run_session-outcome-requires-clause-machine g c =
     let was = c.args.devices.now.drives in
     let now = c.insert_images.new.devices.drives in
     let view = boxed_drive_view (λ table. (g.dyn-1.0.entry table).1) in
@@ -35,24 +35,24 @@ run_session-end-requires-clause-machine g c =
 
 pub returns-clause-run : goal.returns-clause-run
 returns-clause-run g c =
-    let typed = c.run_session-end.new.console.typed in
+    let typed = c.run_session-outcome.new.console.typed in
     let before = world_of g.H.Host c.args.host.now (outside (λ table. (g.dyn-1.0.entry table).1) c.args.devices.now.drives.items (λ table. (g.dyn-2.0.entry table).1) c.args.devices.now.terms.items) in
     let inside = outside (λ table. (g.dyn-1.0.entry table).1) c.insert_images.new.devices.drives.items (λ table. (g.dyn-2.0.entry table).1) c.insert_images.new.devices.terms.items in
-    let ran = world_of g.H.Host c.run_session-end.new.host (outside (λ table. (g.dyn-1.0.entry table).1)
-    c.run_session-end.new.devices.drives.items (λ table. (g.dyn-2.0.entry table).1)
-    c.run_session-end.new.devices.terms.items) in
+    let ran = world_of g.H.Host c.run_session-outcome.new.host (outside (λ table. (g.dyn-1.0.entry table).1)
+    c.run_session-outcome.new.devices.drives.items (λ table. (g.dyn-2.0.entry table).1)
+    c.run_session-outcome.new.devices.terms.items) in
     let left = outside (λ table. (g.dyn-1.0.entry table).1) c.eject_images.new.devices.drives.items (λ table. (g.dyn-2.0.entry table).1) c.eject_images.new.devices.terms.items in
     let setup = session_setup c.args.start.now c.args.images.now typed in
     let given : Setup = record setup { file = c.as_slice.result.now } in
     let same : given ≡ setup = λ i. record setup { file = c.as_slice.ensures.value i } in
-    let items : length c.run_session-end.new.devices.drives.items ≡ length c.args.devices.now.drives.items = omega (
+    let items : length c.run_session-outcome.new.devices.drives.items ≡ length c.args.devices.now.drives.items = omega (
       arith,
-      c.run_session-end.ensures.places.drives,
+      c.run_session-outcome.ensures.places.drives,
       c.insert_images.ensures.drives,
-      c.run_session-end.new.devices.drives.ok.0,
+      c.run_session-outcome.new.devices.drives.ok.0,
       c.args.devices.now.drives.ok.0,
     ) in
-    let many = length-map c.run_session-end.new.devices.drives.items
+    let many = length-map c.run_session-outcome.new.devices.drives.items
     (boxed_drive_view (λ table. (g.dyn-1.0.entry table).1)) ∙ items ∙ sym
     (length-map c.args.devices.now.drives.items (boxed_drive_view (λ table. (g.dyn-1.0.entry table).1))) in
     let have : HaveImages c.len.result c.args.images.now (drive_views (λ table. (g.dyn-1.0.entry table).1)
@@ -64,19 +64,20 @@ returns-clause-run g c =
     let terms_put = ap (λ terms. terminal_states (λ table. (g.dyn-2.0.entry table).1) terms.items) c.insert_images.ensures.terms_kept in
     let terms_left = ap (λ terms. terminal_states (λ table. (g.dyn-2.0.entry table).1) terms.items) c.eject_images.ensures.terms_kept in
     let from = keyboard_state g.K.Keyboard c.args.console.now.keyboard in
-    let to = keyboard_state g.K.Keyboard c.run_session-end.new.console.keyboard in
-    let call = c.run_session-end.ensures.call c.args.images.now have in
+    let to = keyboard_state g.K.Keyboard c.run_session-outcome.new.console.keyboard in
+    let history = history_left c.run_session-outcome.result.records in
+    let call = c.run_session-outcome.ensures.call c.args.images.now have in
     let count = c.eject_images.ensures.count ∙ c.insert_images.ensures.count in
     record {
       machine = runs-between setup given before ran inside left c.eject_images.new.images c.requires.devices.room
-          count many c.eject_images.ensures.taken (run_end c.run_session-end.result) same c.insert_images.ensures.held
+          count many c.eject_images.ensures.taken history (run_end c.run_session-outcome.result.end) same c.insert_images.ensures.held
           terms_put terms_left call.machine;
       at_line = call.at_line;
       keyboard = call.keyboard;
       session = λ told.
-          subst (λ (setup : Setup). IsSessionTo (LeavesSession setup c.eject_images.new.images typed before (record ran { devices = left })) c.run_session-end.result from to) same
+          subst (λ (setup : Setup). IsSessionTo (LeavesSession setup c.eject_images.new.images history typed before (record ran { devices = left })) c.run_session-outcome.result.end from to) same
           (session-between given typed before ran inside left c.eject_images.new.images count
-          c.eject_images.ensures.taken c.insert_images.ensures.held terms_put terms_left c.run_session-end.result
+          c.eject_images.ensures.taken history c.insert_images.ensures.held terms_put terms_left c.run_session-outcome.result.end
           from to (call.session (subst (λ (terms : List TerminalState). All IsObserved terms) (sym terms_put)
           told)));
     }

@@ -4,7 +4,11 @@ use Rattle.std.proofs.lemmas.List.{length-map}
 use Rattle.os9_outer.specs.TerminalState.{TerminalState, terminal_states}
 use Rattle.key_loading.specs.Loaded.{AreUnloaded, loaded}
 use Rattle.file_drives.specs.Drives.{drive_views}
+use Rattle.lock_model.specs.Records.{Records}
+use Rattle.lock_model.specs.declared.history.Entry.{Entry}
+use Rattle.machine_model.specs.State.{State}
 use Rattle.os9_kernel.specs.Outside.{Outside, outside}
+use Rattle.os9_kernel.specs.Tie.{Represents}
 use Rattle.boot_run.specs.Machine.{MachineCall, setup_with}
 use Rattle.boot_run.specs.World.{world_of}
 use Rattle.boot_run.proofs.MachineLemmas.{called-output, called-refused, called-whole, called-without_memory, drives-counted, drives-started, images-there, where-refused}
@@ -50,7 +54,7 @@ returns-in-Err-clause-call g c =
     let setup = setup_with c.args.config c.args.file.now images (kept_keys typed) (kept_slices typed) in
     record {
       machine =
-          subst (MachineCall setup before (world_of g.H.Host c.args.host.now started)) (sym c.end_of_start.ensures)
+          subst (MachineCall setup [] before (world_of g.H.Host c.args.host.now started)) (sym c.end_of_start.ensures)
           (called-refused setup c.args.config before started c.in-Err.error refl have.as_many
           c.in-Err.ensures.starts.refused untouched c.in-Err.ensures.starts.drives
           (drives-started c.args.config.images _ _ _ c.requires.machine.volumes c.in-Err.ensures.starts.drives)
@@ -77,6 +81,9 @@ returns-in-Over-clause-call g c =
     let to = keyboard_state g.K.Keyboard c.run_turns.new.console.keyboard in
     let ran = rw c.in-Over.is at c.in-Ok-run_turns.ensures.ran in
     let later : Outside = record { drives = started.drives; terms = loaded (kept_keys typed) started.terms } in
+    let history : List Entry = c.into_records.result.history in
+    let entered : (t : State) → Represents c.run_turns.new.kernel after.devices t → history ≡ t.files.records.history =
+    λ t tied. ap (λ (records : Records). records.history) (c.into_records.ensures _ t tied) in
     λ images have.
     let setup = setup_with c.args.config c.args.file.now images (kept_keys typed) (kept_slices typed) in
     record {
@@ -85,17 +92,17 @@ returns-in-Over-clause-call g c =
           starts.drives.moves refl starts.drives.media (ap (λ terms. loaded (kept_keys typed) terms) kept)
           (starts.stands images have) _ c.run_turns.new.kernel after c.living.result c.ticks.result
           c.run_end-end.result ran.ran (λ t tied. c.living.ensures _ t tied) (λ t tied. c.ticks.ensures.machine _
-          t tied) c.run_end-end.ensures.idle c.run_end-end.ensures.lives;
+          t tied) c.run_end-end.ensures.idle c.run_end-end.ensures.lives history entered;
       at_line = tt;
       keyboard = asks-over c.living.result c.ticks.result c.run_end-end.result from to c.run_end-end.ensures.idle c.run_end-end.ensures.lives;
       session = session-over setup typed from to c.in-Ok.kernel c.run_turns.new.kernel before after started
-          c.requires.machine.terminals.unloaded starts.drives.moves kept (starts.stands images have) c.living.result
+          c.requires.machine.terminals.unloaded starts.drives.moves kept (starts.stands images have) history entered c.living.result
           c.ticks.result c.run_end-end.result ran.session (λ t tied. c.living.ensures _ t tied)
           c.run_end-end.ensures.idle c.run_end-end.ensures.lives;
     }
 
-pub returns-clause-call : goal.returns-clause-call
-returns-clause-call g c =
+pub returns-in-LineLost-clause-call : goal.returns-in-LineLost-clause-call
+returns-in-LineLost-clause-call g c =
     let before = world_of g.H.Host c.args.host.now (outside (λ table. (g.dyn-1.0.entry table).1) c.args.devices.now.drives.items (λ table. (g.dyn-2.0.entry table).1) c.args.devices.now.terms.items) in
     let started = outside (λ table. (g.dyn-1.0.entry table).1) c.new.new.devices.drives.items (λ table. (g.dyn-2.0.entry table).1) c.new.new.devices.terms.items in
     let starts = c.in-Ok.ensures.starts in
@@ -108,6 +115,9 @@ returns-clause-call g c =
     let to = keyboard_state g.K.Keyboard c.run_turns.new.console.keyboard in
     let ran = rw c.in-LineLost.is at c.in-Ok-run_turns.ensures.ran in
     let later : Outside = record { drives = started.drives; terms = loaded (kept_keys typed) started.terms } in
+    let history : List Entry = c.into_records.result.history in
+    let entered : (t : State) → Represents c.run_turns.new.kernel after.devices t → history ≡ t.files.records.history =
+    λ t tied. ap (λ (records : Records). records.history) (c.into_records.ensures _ t tied) in
     λ images have.
     let setup = setup_with c.args.config c.args.file.now images (kept_keys typed) (kept_slices typed) in
     record {
@@ -116,12 +126,12 @@ returns-clause-call g c =
           starts.drives.moves refl starts.drives.media (ap (λ terms. loaded (kept_keys typed) terms) kept)
           (starts.stands images have) _ c.run_turns.new.kernel after c.living.result c.ticks.result
           c.run_end-end.result ran.ran (λ t tied. c.living.ensures _ t tied) (λ t tied. c.ticks.ensures.machine _
-          t tied) c.run_end-end.ensures.idle c.run_end-end.ensures.lives;
+          t tied) c.run_end-end.ensures.idle c.run_end-end.ensures.lives history entered;
       at_line = not-output c.living.result c.ticks.result c.run_end-end.result c.run_end-end.ensures.idle c.run_end-end.ensures.lives;
       keyboard = tt;
       session = session-lost setup typed from to c.in-Ok.kernel c.run_turns.new.kernel before after started
           c.requires.machine.terminals.unloaded starts.drives.moves kept (starts.stands images have)
-          c.run_end-end.result ran.session;
+          history entered c.run_end-end.result ran.session;
     }
 
 pub returns-in-Err-Output-clause-call : goal.returns-in-Err-Output-clause-call
@@ -204,8 +214,8 @@ returns-in-Over-clause-places g c = record {
       );
 }
 
-pub returns-clause-places : goal.returns-clause-places
-returns-clause-places g c = record {
+pub returns-in-LineLost-clause-places : goal.returns-in-LineLost-clause-places
+returns-in-LineLost-clause-places g c = record {
   terms = c.in-Ok-run_turns.ensures.places.terms ∙ ap vec_len c.in-Ok.ensures.terms_kept;
   drives =
       omega (

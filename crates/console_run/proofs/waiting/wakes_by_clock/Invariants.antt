@@ -8,4 +8,4 @@ use Rattle.console_run.proofs.waiting.wakes_by_clock.Given as goal
 -- no process so far sleeps until a tick
 abbrev pub invariant-loop-number : goal.invariant-loop-number
 invariant-loop-number l =
-    (devices : Outside) (s : State) → Represents l.kernel devices s → (k : ℕ) → k < l.number → wakes_by_clock s.inner k ≡ false
+    (devices : Outside) (s : State) → Represents l.kernel devices s → (k : ℕ) → k < l.number → wakes_by_clock s k ≡ false

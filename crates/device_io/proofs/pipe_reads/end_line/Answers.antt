@@ -1,7 +1,7 @@
 use Rattle.std.proofs.Common.{Bool, if◌then◌else◌, sym, ◌∙◌, subst}
 use Rattle.io_rules.specs.Attempts.{caller_of}
 use Rattle.io_rules.specs.Pipes.{count_regs}
-use Rattle.io_rules.specs.Step.{IoEnd, stores, answers, keeps}
+use Rattle.io_rules.specs.Step.{stores, answers, keeps}
 use Rattle.device_io.specs.Leaving.{Leaves}
 use Rattle.device_io.proofs.LeavingLemmas.{leaves-answer, leaves-wait}
 use Rattle.device_io.proofs.pipe_reads.end_line.Goals as goal

@@ -40,7 +40,7 @@ returns-in-Err-fd-clause-finds g c m was now tied stands =
     let most = i_chgdir_calls asker was terms in
     let execute_is : c.is_for_execution.result ≡ is_for_execution asker.caller.regs.a = c.is_for_execution.ensures ∙ ap (λ (regs : Regs). is_for_execution regs.a) (c.regs-mode.ensures.tied m tied) in
     let mid = c.locate.new.files in
-    let new : FileState = record { io = mid.io; disks = c.fd.new.self; directories = mid.directories } in
+    let new : FileState = record mid { disks = c.fd.new.self } in
     let loc = found (IsLocated look was) look seen was c.in-Ok.located mid _ _ (c.in-Ok.ensures.locates m was now tied stands) in
     let enough = chgdir-within asker was terms c.is_for_execution.result execute_is c.mode_refusal-refusal.result loc.it loc.answer in
     locates-same (next_step look (allows_to_go asker)) (looks_for_directory asker was terms) most most _ was _ _ _
@@ -48,7 +48,7 @@ returns-in-Err-fd-clause-finds g c m was now tied stands =
     c.mode_refusal-refusal.result (c.regs-mode.ensures.tied m tied) c.is_for_execution.ensures c.is_mode.ensures
     c.mode_refusal-refusal.ensures) refl
     (refuses-same (next_step look (allows_to_go asker)) most _ c.number.result was _ _ _ c.number.ensures
-    (read-failed look seen was c.in-Ok.located mid new _ _ _ loc refl refl (allows_to_go asker) most enough Fd c.in-Err-fd.fault c.in-Err-fd.ensures.device c.in-Err-fd.ensures.drive))
+    (read-failed look seen was c.in-Ok.located mid new _ _ _ loc refl refl refl (allows_to_go asker) most enough Fd c.in-Err-fd.fault c.in-Err-fd.ensures.device c.in-Err-fd.ensures.drive))
 
 pub returns-in-Ok-fd-clause-finds : goal.returns-in-Ok-fd-clause-finds
 returns-in-Ok-fd-clause-finds g c m was now tied stands =
@@ -59,14 +59,14 @@ returns-in-Ok-fd-clause-finds g c m was now tied stands =
     let most = i_chgdir_calls asker was terms in
     let execute_is : c.is_for_execution.result ≡ is_for_execution asker.caller.regs.a = c.is_for_execution.ensures ∙ ap (λ (regs : Regs). is_for_execution regs.a) (c.regs-mode.ensures.tied m tied) in
     let mid = c.locate.new.files in
-    let new : FileState = record { io = mid.io; disks = c.fd.new.self; directories = mid.directories } in
+    let new : FileState = record mid { disks = c.fd.new.self } in
     let loc = found (IsLocated look was) look seen was c.in-Ok.located mid _ _ (c.in-Ok.ensures.locates m was now tied stands) in
     let enough = chgdir-within asker was terms c.is_for_execution.result execute_is c.mode_refusal-refusal.result loc.it loc.answer in
     locates-same (next_step look (allows_to_go asker)) (looks_for_directory asker was terms) most most _ was _ _ _
     (looks-same asker was terms c.regs-mode.result c.is_for_execution.result c.is_mode.result
     c.mode_refusal-refusal.result (c.regs-mode.ensures.tied m tied) c.is_for_execution.ensures c.is_mode.ensures
     c.mode_refusal-refusal.ensures) refl
-    (tested look seen was c.in-Ok.located mid new _ _ _ loc refl refl asker most enough c.in-Ok-fd.ensures.drive c.user-user.result c.regs-mode.result.a c.if_directory.result
+    (tested look seen was c.in-Ok.located mid new _ _ _ loc refl refl refl asker most enough c.in-Ok-fd.ensures.drive c.user-user.result c.regs-mode.result.a c.if_directory.result
     (user-is c.args.s.now m c.args.p.0 c.user-user.result tied c.user-user.ensures.user)
     (ap (λ (regs : Regs). regs.a) (sym (c.regs-mode.ensures.tied m tied)))
     (c.if_directory.ensures loc.it.found.file

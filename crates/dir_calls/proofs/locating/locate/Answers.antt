@@ -36,7 +36,7 @@ returns-in-Along-clause-locates g c m was now tied stands =
     c.args.files.now _ _ _ refl
     (user-is c.args.s.now m c.args.p.0 c.user.result tied c.user.ensures.user) stands
     (starts-along c.args.files.now.disks _ c.in-Ok.route.way c.in-Along.from c.in-Along.first c.in-Along.is c.in-Ok.ensures.start)
-    refl refl c.call_walk.result c.behind_list.result c.behind_list.ensures
+    refl refl refl c.call_walk.result c.behind_list.result c.behind_list.ensures
     (c.call_walk.ensures.walks m it.list.names (c.lead.ensures.same.represents m tied)
     (names-along (asker_of m c.args.p.0 now) was (vec_len c.args.devices.now.terms) c.args.execute c.args.refusal
     (cells_at m c.args.p.0) c.in-Ok.route it c.in-Along.from c.in-Along.first c.in-Along.is))

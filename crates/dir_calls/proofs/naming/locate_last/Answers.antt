@@ -52,7 +52,7 @@ returns-in-Some-clause-locates g c m was now tied stands =
     c.args.files.now _ _ _ refl
     (user-is c.args.s.now m c.args.p.0 c.user.result tied c.user.ensures.user) stands
     (starts-along c.args.files.now.disks _ c.in-Ok.route.way c.in-Along.from c.in-Along.first c.in-Along.is c.in-Ok.ensures.start)
-    refl refl last.0 last.1 c.call_walk_to_last.result c.behind_list.result c.behind_list.ensures
+    refl refl refl last.0 last.1 c.call_walk_to_last.result c.behind_list.result c.behind_list.ensures
     (c.call_walk_to_last.ensures.walks m it.list.names (c.lead.ensures.same.represents m tied) stand)
 
 pub returns-in-Some-clause-there : goal.returns-in-Some-clause-there

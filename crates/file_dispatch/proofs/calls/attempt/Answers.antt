@@ -1,8 +1,7 @@
-use Rattle.std.proofs.Common.{◌∙◌, refl, sym, vec_len}
-use Rattle.std.proofs.lemmas.List.{length-map, length-replicate}
-use Rattle.file_dispatch.proofs.Lifting.{never-memory, some-terms, tries-of, unused_terminal}
+use Rattle.std.proofs.Common.{◌∙◌, sym}
+use Rattle.std.proofs.lemmas.List.{length-map}
+use Rattle.file_dispatch.proofs.Lifting.{tries-of}
 use Rattle.file_dispatch.proofs.OnCalls.{call-is, call-tries, may-as, time-for}
-use Rattle.file_dispatch.specs.Bounds.{attempt_calls}
 use Rattle.file_dispatch.specs.Calls.{list_call}
 use Rattle.file_dispatch.specs.Numbers.{number_call}
 use Rattle.file_dispatch.specs.declared.calls.CallKind.TheVariants as Kind
@@ -30,11 +29,3 @@ returns-in-List-clause-call g c time is =
     (c.attempt_on_list.ensures.call time _ (time-for c.args.call (list_call c.in-List.list) c.args.now time
     (call-is c.kind_of.result (Kind.List c.in-List.list) c.args.call c.in-List.is c.kind_of.ensures) is)
     (length-map _ _ ∙ sym c.args.devices.now.terms.ok.0) m was tied stands kinds)))
-
-pub returns-in-List-clause-drives_kept : goal.returns-in-List-clause-drives_kept
-returns-in-List-clause-drives_kept g c is =
-    let terms = some-terms (vec_len c.args.devices.now.terms) in
-    absurd (never-memory (attempt_calls (list_call c.in-List.list)) (list_call c.in-List.list) c.args.now c.args.p.0
-    c.attempt_on_list.result terms terms c.args.s.now c.attempt_on_list.new.s c.args.files.now
-    c.attempt_on_list.new.files _ _ c.requires.sound
-    (c.attempt_on_list.ensures.call c.args.now terms (λ _. refl) (length-replicate (vec_len c.args.devices.now.terms) unused_terminal)) is)

@@ -1,6 +1,6 @@
 use Rattle.std.proofs.Common.{ap, refl, sym}
 use Rattle.file_rules.specs.declared.path_call.PathCall.TheVariants as Call
-use Rattle.file_dispatch.proofs.OnCalls.{at-time, call-attempts, time-for}
+use Rattle.file_dispatch.proofs.OnCalls.{at-time-within, call-attempts, time-for}
 use Rattle.file_dispatch.specs.Calls.{list_call}
 use Rattle.file_dispatch.proofs.lists.attempt_on_list.Goals as goal
 
@@ -8,7 +8,7 @@ pub returns-in-Create-clause-call : goal.returns-in-Create-clause-call
 returns-in-Create-clause-call g c time terms is long =
     call-attempts (list_call c.args.call) Call.Create time c.args.p.0 (sym (ap list_call c.in-Create.is))
     c.i_create.result terms terms c.args.s.now c.i_create.new.s c.args.files.now c.i_create.new.files _ _
-    (at-time Call.Create c.args.now time c.args.p.0 refl (time-for (list_call c.args.call) Call.Create c.args.now
+    (at-time-within Call.Create c.args.now time c.args.p.0 refl (time-for (list_call c.args.call) Call.Create c.args.now
     time (sym (ap list_call c.in-Create.is)) is) c.i_create.result terms terms _ _ (c.i_create.ensures.call terms
     long))
 
@@ -22,7 +22,7 @@ pub returns-in-MakDir-clause-call : goal.returns-in-MakDir-clause-call
 returns-in-MakDir-clause-call g c time terms is long =
     call-attempts (list_call c.args.call) Call.MakDir time c.args.p.0 (sym (ap list_call c.in-MakDir.is))
     c.i_makdir.result terms terms c.args.s.now c.i_makdir.new.s c.args.files.now c.i_makdir.new.files _ _
-    (at-time Call.MakDir c.args.now time c.args.p.0 refl (time-for (list_call c.args.call) Call.MakDir c.args.now
+    (at-time-within Call.MakDir c.args.now time c.args.p.0 refl (time-for (list_call c.args.call) Call.MakDir c.args.now
     time (sym (ap list_call c.in-MakDir.is)) is) c.i_makdir.result terms terms _ _ (c.i_makdir.ensures.call terms
     long))
 

@@ -20,8 +20,7 @@ returns-in-Seek-clause-call g c time is m was tied stands kinds =
 
 pub returns-in-Close-clause-call : goal.returns-in-Close-clause-call
 returns-in-Close-clause-call g c time is m was tied stands kinds =
-    number-tries c.args.call Number.Close m was time c.args.p.0 c.in-Close.is c.attempt_on_device-in-Close.result _ _
-    _ _ (c.attempt_on_device-in-Close.ensures.call Call.Close m was time tied stands refl)
+    number-tries c.args.call Number.Close m was time c.args.p.0 c.in-Close.is c.close_path.result _ _ _ _ (c.close_path.ensures.call time m was tied stands kinds)
 
 pub returns-in-Use-clause-call : goal.returns-in-Use-clause-call
 returns-in-Use-clause-call g c time is m was tied stands kinds =

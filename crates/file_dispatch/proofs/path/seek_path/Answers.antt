@@ -21,5 +21,6 @@ returns-in-None-clause-call c now views terms m was tied stands kinds =
     uncalled-in Call.Seek m was now p c.seek_nothing.result c.seek_nothing.new.s 0 (seeks_nothing (caller_of m p)
     was.io) c.args.s.now c.args.files.now _ views terms terms (seeks-on-device m was now p terms none)
     (lifts-quiet Call.Seek m was now p c.seek_nothing.result c.seek_nothing.new.s c.args.files.now
-    c.seek_nothing.new.io views terms (λ io. seeks_nothing (caller_of m p) io) stands (seeks-on-device m was now p
-    terms none) (seeks-quiet (caller_of m p) was.io) (c.seek_nothing.ensures.call m tied))
+    c.seek_nothing.new.io c.cancel.new.self views terms (λ io. seeks_nothing (caller_of m p) io) stands
+    c.cancel.ensures (seeks-on-device m was now p terms none) (seeks-quiet (caller_of m p) was.io)
+    (c.seek_nothing.ensures.call m tied))

@@ -1,12 +1,16 @@
-use Rattle.std.proofs.Common.{Option, ap}
+use Rattle.std.proofs.Common.{◌≡◌, Option, IfSome, ap, refl, subst, sym}
 use Rattle.std.specs.Option.{option_map_or}
+use Rattle.os9_base.specs.declared.registers.Regs.{Regs}
+use Rattle.io_rules.specs.declared.io_call.IoCall.TheVariants as Device
+use Rattle.lock_model.specs.Locks.{request_of}
 use Rattle.file_rules.specs.Attempts.{asker_of}
 use Rattle.file_rules.specs.Files.{OpenFile}
 use Rattle.file_rules.specs.declared.path_call.PathCall.TheVariants as Call
 use Rattle.io_model.specs.declared.terminal.ReadKind.TheVariants.{WholeLine}
 use Rattle.file_io.proofs.CallLemmas.{known-a, line-step}
-use Rattle.file_io.proofs.OpenedLemmas.{has-file}
-use Rattle.file_io.proofs.TryingLemmas.{attempts-in}
+use Rattle.file_io.proofs.AgainLemmas.{again-no_read, kept-request, may-ask}
+use Rattle.file_io.proofs.OpenedLemmas.{has-file, is-named}
+use Rattle.file_io.proofs.TryingLemmas.{tries-in}
 use Rattle.file_io.specs.Calls.{reading_attempt_calls}
 use Rattle.file_io.specs.Opened.{found_on}
 use Rattle.file_io.specs.Reading.{read_opened}
@@ -18,13 +22,26 @@ read_opened-requires-clause-opened g c = record {
   file = has-file c.args.files.now _ c.requires.sound c.args.p.0 _ c.args.opened.now c.requires.opened;
 }
 
+pub read_opened-requires-clause-no_read : goal.read_opened-requires-clause-no_read
+read_opened-requires-clause-no_read g c =
+    again-no_read c.args.files.now.io c.args.p.0 _ c.args.opened.now Device.ReadLn _ c.requires.again.again refl
+    (is-named c.args.files.now _ c.requires.sound c.args.p.0 _ c.args.opened.now c.requires.opened)
+
+pub read_opened-requires-clause-may : goal.read_opened-requires-clause-may
+read_opened-requires-clause-may g c = record {
+  asks = may-ask c.args.files.now _ c.args.p.0 _ c.args.opened.now c.requires.sound c.requires.opened c.requires.again.kept;
+  count =
+      subst (λ (r : Regs). IfSome (request_of c.args.files.now.records.locks c.args.p.0) (λ request. request.count ≡ r.y)) (sym c.regs-regs.ensures.regs)
+      (kept-request Device.ReadLn _ c.args.files.now c.args.p.0 c.requires.again);
+}
+
 pub returns-clause-call : goal.returns-clause-call
 returns-clause-call g c now terms m was tied stands kinds =
     let p = c.args.p.0 in
     let it = known-a c.args.files.now _ was p c.args.opened.now stands kinds c.args.s.now m tied c.requires.opened in
     let asker = asker_of m p now in
     let found = found_on c.args.opened.now it.volume it.file in
-    attempts-in m was now p c.read_opened.result _ _ terms Call.ReadLn (read_opened WholeLine (asker_of m p now) was
-    found) (line-step (asker_of m p now) was found it.found) (reading_attempt_calls asker found) _
-    (ap (λ (o : Option OpenFile). option_map_or (reading_attempt_calls asker) o 0) it.found)
+    tries-in m was now p c.read_opened.result _ _ terms Call.ReadLn (read_opened WholeLine (asker_of m p now) was
+    found) (line-step (asker_of m p now) was found it.found) (reading_attempt_calls asker was found) _
+    (ap (λ (o : Option OpenFile). option_map_or (reading_attempt_calls asker was) o 0) it.found)
     (c.read_opened.ensures.call now m was it.volume it.file terms tied stands it.is it.there)

@@ -9,7 +9,7 @@ use Rattle.proc_state.specs.Tie.{Represents}
 use Rattle.file_rules.specs.Attempts.{asker_of}
 use Rattle.file_rules.specs.Step.{done}
 use Rattle.file_state.specs.declared.state.FileState.{FileState}
-use Rattle.file_io.proofs.TryingLemmas.{regs-tied, ends-done, ends-if-false, ends-if-true, ends-refused, ends-refuses-false, ends-refuses-true}
+use Rattle.file_io.proofs.TryingLemmas.{ends-if-false, ends-if-true, ends-refuses-false, ends-refuses-true, regs-tied, tries-done, tries-refused}
 use Rattle.file_io.specs.Opened.{found_on}
 use Rattle.file_io.specs.Reading.{read_file, read_named}
 use Rattle.file_io.proofs.reads.read_named.Goals as goal
@@ -22,7 +22,7 @@ returns-then-not-can_read-clause-call g c now m was v file terms tied stands is 
     ends-refuses-true m was now p c.refuse.result c.args.s.now new _ terms
     (not (can_read c.args.opened.now.desc.mode)) E_BMODE _
     (ap (λ (b : Bool). not b) (sym c.can_read.ensures ∙ c.if-not-can_read.true))
-    (ends-refused m was now p c.refuse.result c.args.s.now c.args.files.now new.io _ terms stands E_BMODE (record { end_is = c.refuse.ensures.end; tied = tied; io_is = c.refuse.ensures.io }))
+    (tries-refused m was now p c.refuse.result c.args.s.now c.args.files.now new.io _ terms stands E_BMODE (record { end_is = c.refuse.ensures.end; tied = tied; io_is = c.refuse.ensures.io }))
 
 pub returns-then-regs-eq0-clause-call : goal.returns-then-regs-eq0-clause-call
 unfolding read_named
@@ -37,7 +37,7 @@ returns-then-regs-eq0-clause-call g c now m was v file terms tied stands is ther
     (not (can_read c.args.opened.now.desc.mode)) E_BMODE _
     (ap (λ (b : Bool). not b) (sym c.can_read.ensures ∙ c.if-not-can_read.false))
     (ends-if-true m was now p c.answer.result c.answer.new.s new _ terms ((regs_at m p).y == 0) (done (regs_at m p) was) (read_file c.args.kind asker was found) (eq-eqb (regs_at m p).y 0 none)
-    (ends-done m was now p c.answer.result c.answer.new.s c.args.files.now new.io _ terms stands (λ (io : Io). io)
+    (tries-done m was now p c.answer.result c.answer.new.s c.args.files.now new.io _ terms stands (λ (io : Io). io)
     (regs_at m p) (record {
       end_is = c.answer.ensures.end;
       tied = subst (λ (r : Regs). Represents c.answer.new.s

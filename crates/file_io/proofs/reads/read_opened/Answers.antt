@@ -5,7 +5,7 @@ use Rattle.call_rules.specs.Inner.{cells_at, regs_at}
 use Rattle.call_rules.specs.UserBytes.{user_bytes}
 use Rattle.file_rules.specs.Attempts.{asker_of}
 use Rattle.file_state.specs.declared.state.FileState.{FileState}
-use Rattle.file_io.proofs.TryingLemmas.{none-of, regs-tied, some-of, ends-refused, ends-refuses-false, ends-refuses-true}
+use Rattle.file_io.proofs.TryingLemmas.{ends-refuses-false, ends-refuses-true, none-of, regs-tied, some-of, tries-refused}
 use Rattle.file_io.specs.Opened.{found_on}
 use Rattle.file_io.specs.Reading.{read_named, read_opened}
 use Rattle.file_io.proofs.reads.read_opened.Goals as goal
@@ -24,7 +24,7 @@ returns-then-not-is_named-clause-call g c now m was v file terms tied stands is 
     (read_named c.args.kind (asker_of m p now) was (found_on c.args.opened.now v file))
     (none-of (user_bytes (cells_at m p) (regs_at m p).x (regs_at m p).y) c.is_named.result named
     c.if-not-is_named.true)
-    (ends-refused m was now p c.refuse.result c.args.s.now c.args.files.now new.io _ terms stands E_BPADDR (record { end_is = c.refuse.ensures.end; tied = tied; io_is = c.refuse.ensures.io }))
+    (tries-refused m was now p c.refuse.result c.args.s.now c.args.files.now new.io _ terms stands E_BPADDR (record { end_is = c.refuse.ensures.end; tied = tied; io_is = c.refuse.ensures.io }))
 
 pub returns-clause-call : goal.returns-clause-call
 unfolding read_opened

@@ -1,28 +1,59 @@
-use Rattle.std.proofs.Common.{◌≡◌, ◌∙◌, ℕ, Option, Some, None, List, length, take, ap, sym, refl, subst, arith}
+use Rattle.std.proofs.Common.{◌≡◌, ◌≢◌, ◌∙◌, ℕ, Option, Some, None, List, length, take, ap, sym, refl, subst, arith}
 use Rattle.std.specs.Option.{option_map_or}
 use Rattle.std.proofs.lemmas.List.{length-take-le}
+use Rattle.os9_base.specs.declared.calls.TheConstants.{I_WRITLN}
 use Rattle.os9_base.specs.declared.errors.TheConstants.{E_BPADDR}
 use Rattle.os9_base.specs.declared.registers.Regs.{Regs}
 use Rattle.call_rules.specs.Inner.{cells_at, regs_at}
-use Rattle.user_names.specs.UserLines as User
-use Rattle.io_rules.specs.Transfer.{line_at}
+use Rattle.io_rules.specs.declared.io_call.IoCall.TheVariants as Device
+use Rattle.lock_model.specs.Locks.{request_of}
+use Rattle.lock_model.specs.Records.{Records}
+use Rattle.proc_rules.specs.Records.{record_at}
+use Rattle.proc_rules.specs.declared.record.Record.{Record}
 use Rattle.file_rules.specs.Attempts.{asker_of}
 use Rattle.file_rules.specs.Files.{OpenFile, open_file}
+use Rattle.file_rules.specs.Locking.{request_kept}
 use Rattle.file_rules.specs.Step.{needs}
-use Rattle.file_rules.specs.Write.{sends_bytes}
+use Rattle.file_rules.specs.Write.{line_moved, sends_bytes}
 use Rattle.file_rules.specs.declared.path_call.PathCall.TheVariants as Call
 use Rattle.file_state.specs.declared.state.FileState.{FileState}
-use Rattle.file_io.proofs.CallLemmas.{known-a, write_line-step}
-use Rattle.device_io.proofs.LineLemmas.{line-same}
-use Rattle.file_io.proofs.OpenedLemmas.{may-be-written}
-use Rattle.file_io.proofs.TryingLemmas.{attempts-in, regs-tied, ends-needs-none, ends-needs-some, ends-refused}
+use Rattle.file_io.proofs.AgainLemmas.{again-no_read, may-ask}
+use Rattle.file_io.proofs.CallLemmas.{known-a, line-moved, write_line-step}
+use Rattle.file_io.proofs.OpenedLemmas.{is-named, may-be-written}
+use Rattle.file_io.proofs.TryingLemmas.{ends-needs-none, ends-needs-some, regs-tied, tries-in, tries-refused}
 use Rattle.file_io.specs.Calls.{line_count, writing_attempt_calls}
 use Rattle.file_io.specs.Opened.{found_on}
-use Rattle.file_io.specs.Writing.{write_opened}
+use Rattle.file_io.specs.Writing.{line_of, write_opened}
 use Rattle.file_io.proofs.writes.write_line.Goals as goal
+
+pub line_count-requires-clause-kept : goal.line_count-requires-clause-kept
+line_count-requires-clause-kept g c = c.requires.again.kept
 
 pub send-requires-clause-file : goal.send-requires-clause-file
 send-requires-clause-file g c = may-be-written c.args.files.now _ c.requires.sound c.args.p.0 _ c.args.opened.now c.requires.opened
+
+pub send-requires-clause-no_read : goal.send-requires-clause-no_read
+send-requires-clause-no_read g c =
+    again-no_read c.args.files.now.io c.args.p.0 _ c.args.opened.now Device.WritLn _ c.requires.again.again refl
+    (is-named c.args.files.now _ c.requires.sound c.args.p.0 _ c.args.opened.now c.requires.opened)
+
+pub refuse-requires-clause-no_read : goal.refuse-requires-clause-no_read
+refuse-requires-clause-no_read g c =
+    again-no_read c.args.files.now.io c.args.p.0 _ c.args.opened.now Device.WritLn _ c.requires.again.again refl
+    (is-named c.args.files.now _ c.requires.sound c.args.p.0 _ c.args.opened.now c.requires.opened)
+
+pub send-requires-clause-may : goal.send-requires-clause-may
+send-requires-clause-may g c =
+    let same : c.regs-regs.result ≡ (record_at c.line_count.new.s.table c.args.p.0).regs =
+    c.regs-regs.ensures.regs ∙ ap (λ (table : List (Option Record)). (record_at table c.args.p.0).regs) (sym c.line_count.ensures.same.table) in
+    record {
+      asks = may-ask c.args.files.now _ c.args.p.0 _ c.args.opened.now c.requires.sound c.requires.opened c.requires.again.kept;
+      sends = λ some. record {
+        moves = refl;
+        some = c.in-Some.ensures.some (subst (λ (r : Regs). r.y ≢ 0) (sym same) some);
+      };
+      done = ap (λ (r : Regs). record r { y = c.in-Some.count }) same;
+    }
 
 pub returns-in-None-clause-call : goal.returns-in-None-clause-call
 returns-in-None-clause-call g c terms m was tied stands kinds =
@@ -31,19 +62,20 @@ returns-in-None-clause-call g c terms m was tied stands kinds =
     let asker = asker_of m p now in
     let it = known-a c.args.files.now _ was p c.args.opened.now stands kinds c.args.s.now m tied c.requires.opened in
     let found = found_on c.args.opened.now it.volume it.file in
-    let s = c.read_line.new.self in
+    let s = c.line_count.new.s in
+    let request = request_of c.args.files.now.records.locks p in
     let new : FileState = record c.args.files.now { io = c.refuse.new.io } in
     let same : c.regs-regs.result ≡ regs_at m p = c.regs-regs.ensures.regs ∙ regs-tied c.args.s.now m p tied in
-    let absent : line_at (cells_at m p) (regs_at m p).x (regs_at m p).y ≡ None =
-    sym (line-same (cells_at m p) (regs_at m p).x (regs_at m p).y) ∙ subst (λ (r : Regs). User.line_at (cells_at m p) r.x r.y ≡ None) same (c.in-None.ensures.line m tied) in
-    attempts-in m was now p c.refuse.result _ _ terms Call.WritLn
-    (needs (line_at (cells_at m p) (regs_at m p).x (regs_at m p).y) E_BPADDR (sends_bytes asker was found))
-    (write_line-step asker was found it.found) _ _ refl
-    (ends-needs-none m was now p c.refuse.result s new _ terms (line_at (cells_at m p) (regs_at m p).x (regs_at m p).y) E_BPADDR (sends_bytes asker was found) absent
-    (ends-refused m was now p c.refuse.result s c.args.files.now new.io _ terms stands E_BPADDR
+    let line = line_moved asker (request_kept asker was) in
+    let absent : line ≡ None =
+    line-moved asker was found request (ap (λ (records : Records). request_of records.locks p) stands.records)
+    ∙ subst (λ (r : Regs). line_of request (cells_at m p) r ≡ None) same (c.in-None.ensures.line m tied) in
+    tries-in m was now p c.refuse.result _ _ terms Call.WritLn (needs line E_BPADDR (sends_bytes asker was found I_WRITLN)) (write_line-step asker was found it.found) _ _ refl
+    (ends-needs-none m was now p c.refuse.result s new _ terms line E_BPADDR (sends_bytes asker was found I_WRITLN) absent
+    (tries-refused m was now p c.refuse.result s c.args.files.now new.io _ terms stands E_BPADDR
     (record {
       end_is = c.refuse.ensures.end;
-      tied = c.in-None.ensures.same.represents m tied;
+      tied = c.line_count.ensures.same.represents m tied;
       io_is =
           c.refuse.ensures.io;
     })))
@@ -56,17 +88,21 @@ returns-in-Some-clause-call g c terms m was tied stands kinds =
     let asker = asker_of m p now in
     let it = known-a c.args.files.now _ was p c.args.opened.now stands kinds c.args.s.now m tied c.requires.opened in
     let found = found_on c.args.opened.now it.volume it.file in
-    let s = c.read_line.new.self in
-    let line : List ℕ = take c.in-Some.count s.buffer.items in
+    let s = c.line_count.new.s in
+    let count = c.in-Some.count in
+    let bytes : List ℕ = take count s.buffer.items in
+    let request = request_of c.args.files.now.records.locks p in
     let same : c.regs-regs.result ≡ regs_at m p = c.regs-regs.ensures.regs ∙ regs-tied c.args.s.now m p tied in
-    let present : line_at (cells_at m p) (regs_at m p).x (regs_at m p).y ≡ Some line =
-    sym (line-same (cells_at m p) (regs_at m p).x (regs_at m p).y) ∙ subst (λ (r : Regs). User.line_at (cells_at m p) r.x r.y ≡ Some line) same (c.in-Some.ensures.line m tied) in
-    let long : length line ≡ c.in-Some.count = length-take-le c.in-Some.count s.buffer.items (omega (arith, c.in-Some.ensures.short)) in
-    let few : option_map_or (writing_attempt_calls (line_count asker)) (open_file was p (regs_at m p).a) 0 ≡ writing_attempt_calls c.in-Some.count found =
-    ap (λ (o : Option OpenFile). option_map_or (writing_attempt_calls (line_count asker)) o 0) it.found
-    ∙ ap (λ (o : Option (List ℕ)). writing_attempt_calls (option_map_or (λ (l : List ℕ). length l) o 0) found) present ∙ ap (λ n. writing_attempt_calls n found) long in
-    attempts-in m was now p c.send.result _ _ terms Call.WritLn
-    (needs (line_at (cells_at m p) (regs_at m p).x (regs_at m p).y) E_BPADDR (sends_bytes asker was found))
-    (write_line-step asker was found it.found) (writing_attempt_calls c.in-Some.count found) _ few
-    (ends-needs-some m was now p c.send.result c.send.new.s c.send.new.files _ terms (line_at (cells_at m p) (regs_at m p).x (regs_at m p).y) line E_BPADDR (sends_bytes asker was found) present
-    (c.send.ensures.call m was it.volume it.file terms (c.in-Some.ensures.same.represents m tied) stands it.is it.there))
+    let line = line_moved asker (request_kept asker was) in
+    let present : line ≡ Some bytes =
+    line-moved asker was found request (ap (λ (records : Records). request_of records.locks p) stands.records)
+    ∙ subst (λ (r : Regs). line_of request (cells_at m p) r ≡ Some bytes) same (c.in-Some.ensures.line m tied) in
+    let long : length bytes ≡ count = length-take-le count s.buffer.items (omega arith) in
+    let few : option_map_or (writing_attempt_calls (line_count asker was) asker was) (open_file was p (regs_at m p).a) 0 ≡ writing_attempt_calls count asker was found =
+    ap (λ (o : Option OpenFile). option_map_or (writing_attempt_calls (line_count asker was) asker was) o 0) it.found
+    ∙ ap (λ (o : Option (List ℕ)). writing_attempt_calls (option_map_or (λ (l : List ℕ). length l) o 0) asker was found) present ∙ ap (λ n. writing_attempt_calls n asker was found) long in
+    tries-in m was now p c.send.result _ _ terms Call.WritLn
+    (needs line E_BPADDR (sends_bytes asker was found I_WRITLN)) (write_line-step asker was found it.found)
+    (writing_attempt_calls count asker was found) _ few
+    (ends-needs-some m was now p c.send.result c.send.new.s c.send.new.files _ terms line bytes E_BPADDR (sends_bytes asker was found I_WRITLN) present
+    (c.send.ensures.call m was it.volume it.file terms (c.line_count.ensures.same.represents m tied) stands it.is it.there))

@@ -6,7 +6,7 @@ use Rattle.io_model.specs.Path.{new_number}
 use Rattle.rbf_walk.specs.declared.error.DirError.TheVariants.{File}
 use Rattle.file_rules.specs.Attempts.{asker_of}
 use Rattle.file_rules.specs.Files.{with_drives, with_volume}
-use Rattle.file_rules.specs.declared.places.FilePlace.{FilePlace}
+use Rattle.lock_model.specs.declared.place.FilePlace.{FilePlace}
 use Rattle.file_drives.specs.Drives.{drive_states, drive_views}
 use Rattle.file_state.specs.declared.state.FileState.{FileState}
 use Rattle.file_open.proofs.CallLemmas.{within-sum}
@@ -46,9 +46,9 @@ returns-in-Err-clause-makes g c m was list dir most before tied read found next 
     let user : c.args.found.now.user ≡ user_at m p = c.requires.place.user ∙ sym (user-tied c.args.s.now m p tied) in
     let changed = change-answered m was now p terms list name dir place found number numbered new before views
     c.args.files.now _ (Err (File c.in-Err.fault)) c.regs-attr.result.b c.args.found.now.user _ read.read refl
-    refl bits user c.in-Err.ensures.changed in
+    refl refl bits user c.in-Err.ensures.changed in
     let called = change-called m was now p terms list name dir place found number numbered new before views most
-    c.args.files.now _ (Err (File c.in-Err.fault)) _ read refl refl c.in-Err.ensures.changed in
+    c.args.files.now _ (Err (File c.in-Err.fault)) _ read refl refl refl c.in-Err.ensures.changed in
     refused-ends m p new views c.refuse-in-Err.result c.args.s.now c.refuse-in-Err.new.io c.refuse-in-Err.ensures.io _
     (c.refuse-in-Err.ensures.end ∙ ap Error c.number.ensures) tied was now terms (most + calls_at_place dir.volume
     dir.file) (makes_there asker was list name dir) _ before changed.stands
@@ -68,9 +68,9 @@ returns-in-Ok-clause-makes g c m was list dir most before tied read found next t
     let bits : c.regs-attr.result.b ≡ (regs_at m p).b = ap (λ (r : Regs). r.b) (c.regs-attr.ensures.regs ∙ sym (regs-tied c.args.s.now m p tied)) in
     let user : c.args.found.now.user ≡ user_at m p = c.requires.place.user ∙ sym (user-tied c.args.s.now m p tied) in
     let changed = change-answered m was now p terms list name dir place found number numbered new before views
-    c.args.files.now _ (Ok c.in-Ok.n) c.regs-attr.result.b c.args.found.now.user _ read.read refl refl bits user
-    c.in-Ok.ensures.changed in
-    let called = change-called m was now p terms list name dir place found number numbered new before views most c.args.files.now _ (Ok c.in-Ok.n) _ read refl refl c.in-Ok.ensures.changed in
+    c.args.files.now _ (Ok c.in-Ok.n) c.regs-attr.result.b c.args.found.now.user _ read.read refl refl refl bits
+    user c.in-Ok.ensures.changed in
+    let called = change-called m was now p terms list name dir place found number numbered new before views most c.args.files.now _ (Ok c.in-Ok.n) _ read refl refl refl c.in-Ok.ensures.changed in
     make-ends m was now p terms list name dir place found number numbered new before views c.in-Ok.n changed
     c.begin_on.result c.begin_on.new.s c.begin_on.new.files (most + calls_at_place dir.volume dir.file) called
     (c.begin_on.ensures.begins m (with_drives (with_volume was dir.place.drive changed.left) (drive_states views)) now list views tied changed.stands next)

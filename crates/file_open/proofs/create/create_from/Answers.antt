@@ -29,7 +29,7 @@ returns-in-Err-clause-creates g c m was list tied stands names next proper terms
     let last = last-there list.names (some-stand _ c.args.first list.names names) in
     along-named m was now p list c.args.from last.0 last.1 c.refuse.result c.walk_to_last_from.new.s _ _ _ terms
     (walk-ends m was now p terms walker c.args.from (before_last list.names) c.args.files.now new _ _ who.user stands
-    c.requires.file refl refl (creates_in asker was list last.0) (new_file_calls asker last.0) _ who.execute
+    c.requires.file refl refl refl (creates_in asker was list last.0) (new_file_calls asker last.0) _ who.execute
     c.refuse.result c.walk_to_last_from.new.s c.in-Err.error it c.refuse.new.io c.refuse.ensures.io
     (c.refuse.ensures.end ∙ ap Error c.number.ensures) (c.walk_to_last_from.ensures.same.represents m tied)
     (λ v. create-walk-stays asker was list v walker.execute last.0 c.args.from (before_last list.names)))
@@ -47,13 +47,13 @@ returns-in-Ok-clause-creates g c m was list tied stands names next proper terms 
     let whole = c.in-Ok.ensures.walks list.names (who.stand c.args.first list.names names) in
     let it = whole.walks in
     let found = (finds m was now p terms walker c.args.from (before_last list.names) c.args.files.now new _ _ who.user
-    stands c.requires.file refl refl (creates_in asker was list name) place it).found in
+    stands c.requires.file refl refl refl (creates_in asker was list name) place it).found in
     let views = drive_views (λ table. (g.dyn-1.0.entry table).1) c.create_in.new.devices.drives.items in
     along-named m was now p list c.args.from name whole.name c.create_in.result c.create_in.new.s c.create_in.new.files _ views terms
     (walk-goes m was now p terms walker c.args.from (before_last list.names) c.args.files.now new _ _ who.user stands
-    c.requires.file refl refl (creates_in asker was list name) (new_file_calls asker name) _ who.execute
+    c.requires.file refl refl refl (creates_in asker was list name) (new_file_calls asker name) _ who.execute
     c.create_in.result c.create_in.new.s place it c.create_in.new.files views
     (c.create_in.ensures.creates m was list found _ _ (c.walk_to_last_from.ensures.same.represents m tied)
-    (read-there m was now p terms walker c.args.from (before_last list.names) c.args.files.now new _ _ who.user stands c.requires.file refl refl (creates_in asker was list name) place it)
-    (found-at m was now p terms walker c.args.from (before_last list.names) c.args.files.now new _ _ who.user stands c.requires.file refl refl (creates_in asker was list name) place it) next
+    (read-there m was now p terms walker c.args.from (before_last list.names) c.args.files.now new _ _ who.user stands c.requires.file refl refl refl (creates_in asker was list name) place it)
+    (found-at m was now p terms walker c.args.from (before_last list.names) c.args.files.now new _ _ who.user stands c.requires.file refl refl refl (creates_in asker was list name) place it) next
     (last-proper list name proper whole.name) terms))

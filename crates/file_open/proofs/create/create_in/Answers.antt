@@ -6,7 +6,7 @@ use Rattle.rbf_create.specs.Places.{AnswersPlace, place_calls}
 use Rattle.file_rules.specs.Attempts.{asker_of}
 use Rattle.file_rules.specs.Open.{says_directory}
 use Rattle.file_rules.specs.Step.{reaches}
-use Rattle.file_rules.specs.declared.places.FilePlace.{FilePlace}
+use Rattle.lock_model.specs.declared.place.FilePlace.{FilePlace}
 use Rattle.file_drives.specs.Drives.{drive_views}
 use Rattle.file_state.specs.declared.state.FileState.{FileState}
 use Rattle.file_open.proofs.CreateLemmas.{creates-directory, creates-on}
@@ -47,7 +47,7 @@ returns-in-Err-clause-creates g c m was list dir most before tied read found nex
     let who = walker-tied c.args.s.now m c.args.p walker c.walker_of-walker.ensures.process tied c.walker_of-walker.ensures.walker in
     let bits : (regs_at m p).b ≡ c.regs-attr.result.b = ap (λ (r : Regs). r.b) (regs-tied c.args.s.now m p tied ∙ sym c.regs-attr.ensures.regs) in
     let says : says_directory (regs_at m p).b ≡ false = ap says_directory bits ∙ sym c.says_directory.ensures.says ∙ c.if-says_directory.false in
-    let after = read-on was place dir found c.args.files.now new before _ views most read _ _ refl refl c.in-Err.ensures.drive in
+    let after = read-on was place dir found c.args.files.now new before _ views most read _ _ refl refl refl c.in-Err.ensures.drive in
     let answer = of-found was place dir found c.args.files.now new before _ views most read
     (λ v file. AnswersPlace file name walker.user walker.execute (Err c.in-Err.error)) c.in-Err.ensures.answer in
     let finding : ℕ = place_calls dir.file name walker.user walker.execute in
@@ -75,7 +75,7 @@ returns-in-Ok-clause-creates g c m was list dir most before tied read found next
     let who = walker-tied c.args.s.now m c.args.p walker c.walker_of-walker.ensures.process tied c.walker_of-walker.ensures.walker in
     let bits : (regs_at m p).b ≡ c.regs-attr.result.b = ap (λ (r : Regs). r.b) (regs-tied c.args.s.now m p tied ∙ sym c.regs-attr.ensures.regs) in
     let says : says_directory (regs_at m p).b ≡ false = ap says_directory bits ∙ sym c.says_directory.ensures.says ∙ c.if-says_directory.false in
-    let after = read-on was place dir found c.args.files.now new before _ views most read None _ refl refl c.in-Ok.ensures.drive in
+    let after = read-on was place dir found c.args.files.now new before _ views most read None _ refl refl refl c.in-Ok.ensures.drive in
     let answer = of-found was place dir found c.args.files.now new before _ views most read
     (λ v file. AnswersPlace file name walker.user walker.execute (Ok c.in-Ok.found.place)) c.in-Ok.ensures.answer
     in

@@ -48,7 +48,7 @@ returns-in-Device-clause-call g c now terms many m was tied stands kinds =
     (ap (i_open asker was) many ∙ opens-routed asker was count c.mode_refusal-refusal.result
     (walker_at c.args.s.now c.args.p).execute refusal_is (ap (λ (r : Regs). is_for_execution r.a) (sym same))
     (cells_at m p) c.in-Ok.route Device route c.in-Device.is ∙ sym (ap (opens_device asker was) many)) refl
-    (device-ends _ IoCall.Open m was now p c.args.files.now _ (vec_len c.args.devices.now.drives) c.i_open.result c.i_open.new.s c.i_open.new.io terms stands
+    (device-ends _ IoCall.Open m was now p c.args.files.now _ (vec_len c.args.devices.now.drives) c.i_open.result c.i_open.new.s c.i_open.new.io _ terms stands c.cancel.ensures
     (as-many c.args.files.now _ was stands ∙ views-many _ c.args.devices.now.drives.items ∙ sym c.args.devices.now.drives.ok.0)
     (c.i_open.ensures.call m terms (c.find_way.ensures.same.represents m tied) many))
 

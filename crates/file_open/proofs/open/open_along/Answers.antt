@@ -21,7 +21,7 @@ returns-in-Err-clause-opens g c now m was list tied stands names next terms =
     let new : FileState = record c.args.files.now { disks = c.walk_from.new.disks } in
     let who = walker-tied c.args.s.now m c.args.p walker c.walker_of-walker.ensures.process tied c.walker_of-walker.ensures.walker in
     let it = c.in-Err.ensures.walks list.names (who.names c.args.first list.names names) in
-    walk-ends m was now p terms walker c.args.from list.names c.args.files.now new _ _ who.user stands c.requires.file refl refl (opens_found asker was list) (λ v file. 1) _ who.execute
+    walk-ends m was now p terms walker c.args.from list.names c.args.files.now new _ _ who.user stands c.requires.file refl refl refl (opens_found asker was list) (λ v file. 1) _ who.execute
     c.refuse.result c.walk_from.new.s c.in-Err.error it c.refuse.new.io c.refuse.ensures.io (c.refuse.ensures.end ∙ ap Error c.number.ensures) (c.walk_from.ensures.same.represents m tied)
     (λ v. walk-stays asker was v walker.execute list c.args.from)
 
@@ -34,10 +34,10 @@ returns-in-Ok-clause-opens g c now m was list tied stands names next terms =
     let new : FileState = record c.args.files.now { disks = c.walk_from.new.disks } in
     let who = walker-tied c.args.s.now m c.args.p walker c.walker_of-walker.ensures.process tied c.walker_of-walker.ensures.walker in
     let it = c.in-Ok.ensures.walks list.names (who.names c.args.first list.names names) in
-    let found = (finds m was now p terms walker c.args.from list.names c.args.files.now new _ _ who.user stands c.requires.file refl refl (opens_found asker was list) place it).found in
+    let found = (finds m was now p terms walker c.args.from list.names c.args.files.now new _ _ who.user stands c.requires.file refl refl refl (opens_found asker was list) place it).found in
     let views = drive_views (λ table. (g.dyn-1.0.entry table).1) c.open_place.new.devices.drives.items in
-    walk-goes m was now p terms walker c.args.from list.names c.args.files.now new _ _ who.user stands c.requires.file refl refl (opens_found asker was list) (λ v file. 1) _ who.execute
+    walk-goes m was now p terms walker c.args.from list.names c.args.files.now new _ _ who.user stands c.requires.file refl refl refl (opens_found asker was list) (λ v file. 1) _ who.execute
     c.open_place.result c.open_place.new.s place it c.open_place.new.files views
     (c.open_place.ensures.opens now m was list found _ _ (c.walk_from.ensures.same.represents m tied)
-    (read-there m was now p terms walker c.args.from list.names c.args.files.now new _ _ who.user stands c.requires.file refl refl (opens_found asker was list) place it)
-    (found-at m was now p terms walker c.args.from list.names c.args.files.now new _ _ who.user stands c.requires.file refl refl (opens_found asker was list) place it) next terms)
+    (read-there m was now p terms walker c.args.from list.names c.args.files.now new _ _ who.user stands c.requires.file refl refl refl (opens_found asker was list) place it)
+    (found-at m was now p terms walker c.args.from list.names c.args.files.now new _ _ who.user stands c.requires.file refl refl refl (opens_found asker was list) place it) next terms)

@@ -1,5 +1,5 @@
 use Rattle.std.proofs.Common.{Err, Ok, Option, rules, subst}
-use Rattle.file_rules.specs.declared.places.FilePlace.{FilePlace}
+use Rattle.lock_model.specs.declared.place.FilePlace.{FilePlace}
 use Rattle.file_start.proofs.StartLemmas.{fails-as, moves-as, root-moves, root-reads}
 use Rattle.file_start.specs.Start.{FailsOn}
 use Rattle.file_start.proofs.start.give_root.Goals as goal

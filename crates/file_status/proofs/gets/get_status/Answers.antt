@@ -5,7 +5,7 @@ use Rattle.file_status.proofs.gets.get_status.Goals as goal
 
 pub get_status_of-requires-clause-there : goal.get_status_of-requires-clause-there
 get_status_of-requires-clause-there g c =
-    file-there c.args.files.now _ c.args.p.0 (record_at c.args.s.now.table c.args.p.0).regs.a c.args.opened.now c.requires.sound c.requires.named
+    file-there c.args.files.now _ c.args.p.0 (record_at c.args.s.now.table c.args.p.0).regs.a c.args.opened.now c.requires.sound c.requires.named.file
 
 pub returns-clause-call : goal.returns-clause-call
 returns-clause-call g c now terms m was tied stands kinds =

@@ -1,15 +1,27 @@
+use Rattle.std.proofs.Common.{refl}
+use Rattle.io_rules.specs.declared.io_call.IoCall.TheVariants as Device
 use Rattle.proc_rules.specs.Records.{record_at}
 use Rattle.file_status.proofs.AttemptLemmas.{set-attempt}
-use Rattle.file_status.proofs.OpenLemmas.{data-file-there, file-there}
+use Rattle.file_status.proofs.OpenLemmas.{asks-there, data-file-there, file-there, no-read-there}
 use Rattle.file_status.proofs.sets.set_status.Goals as goal
+
+pub set_status_of-requires-clause-no_read : goal.set_status_of-requires-clause-no_read
+set_status_of-requires-clause-no_read g c =
+    no-read-there c.args.files.now _ c.args.p.0 (record_at c.args.s.now.table c.args.p.0).regs.a c.args.opened.now
+    c.requires.sound c.requires.named.file Device.SetStt (record_at c.args.s.now.table c.args.p.0).regs refl
+    c.requires.again.again
+
+pub set_status_of-requires-clause-asks : goal.set_status_of-requires-clause-asks
+set_status_of-requires-clause-asks g c =
+    asks-there c.args.files.now _ c.args.p.0 (record_at c.args.s.now.table c.args.p.0).regs.a c.args.opened.now c.requires.sound c.requires.named.file c.requires.named.path c.requires.again.kept
 
 pub set_status_of-requires-clause-there : goal.set_status_of-requires-clause-there
 set_status_of-requires-clause-there g c =
-    file-there c.args.files.now _ c.args.p.0 (record_at c.args.s.now.table c.args.p.0).regs.a c.args.opened.now c.requires.sound c.requires.named
+    file-there c.args.files.now _ c.args.p.0 (record_at c.args.s.now.table c.args.p.0).regs.a c.args.opened.now c.requires.sound c.requires.named.file
 
 pub set_status_of-requires-clause-written : goal.set_status_of-requires-clause-written
 set_status_of-requires-clause-written g c may =
-    data-file-there c.args.files.now _ c.args.p.0 (record_at c.args.s.now.table c.args.p.0).regs.a c.args.opened.now c.requires.sound c.requires.named may
+    data-file-there c.args.files.now _ c.args.p.0 (record_at c.args.s.now.table c.args.p.0).regs.a c.args.opened.now c.requires.sound c.requires.named.file may
 
 pub returns-clause-call : goal.returns-clause-call
 returns-clause-call g c terms m was tied stands kinds =

@@ -45,8 +45,14 @@ returns-in-Err-clause-io g c = (reading-keeps _ _ _ _ _ _ _ _ _ c.requires.sound
 pub returns-in-Err-clause-directories : goal.returns-in-Err-clause-directories
 returns-in-Err-clause-directories g c = (reading-keeps _ _ _ _ _ _ _ _ _ c.requires.sound c.read_program.ensures.call).directories
 
+pub returns-in-Err-clause-records : goal.returns-in-Err-clause-records
+returns-in-Err-clause-records g c = (reading-keeps _ _ _ _ _ _ _ _ _ c.requires.sound c.read_program.ensures.call).records
+
 pub returns-in-Ok-clause-io : goal.returns-in-Ok-clause-io
 returns-in-Ok-clause-io g c = (reading-keeps _ _ _ _ _ _ _ _ _ c.requires.sound c.read_program.ensures.call).io
 
 pub returns-in-Ok-clause-directories : goal.returns-in-Ok-clause-directories
 returns-in-Ok-clause-directories g c = (reading-keeps _ _ _ _ _ _ _ _ _ c.requires.sound c.read_program.ensures.call).directories
+
+pub returns-in-Ok-clause-records : goal.returns-in-Ok-clause-records
+returns-in-Ok-clause-records g c = (reading-keeps _ _ _ _ _ _ _ _ _ c.requires.sound c.read_program.ensures.call).records

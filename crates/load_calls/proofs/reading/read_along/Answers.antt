@@ -22,7 +22,7 @@ returns-in-Err-clause-along g c m was now list tied stands names next =
     let new : FileState = record c.args.files.now { disks = c.call_walk.new.disks } in
     let same : user_at m c.args.p.0 ≡ c.user-user.result = same-user c.args.s.now m c.args.p.0 tied ∙ sym c.user-user.ensures.user in
     walk-ends (asker_of m c.args.p.0 now) c.args.p c.user-user.result was list c.args.from c.args.files.now new _ _
-    same stands c.requires.file refl refl c.in-Err.error c.number.result c.call_walk.new.s.buffer.items
+    same stands c.requires.file refl refl refl c.in-Err.error c.number.result c.call_walk.new.s.buffer.items
     c.number.ensures
     (c.in-Err.ensures.walks m list.names tied names)
 
@@ -32,7 +32,7 @@ returns-in-Ok-clause-along g c m was now list tied stands names next =
     let asker = asker_of m c.args.p.0 now in
     let same : user_at m c.args.p.0 ≡ c.user-user.result = same-user c.args.s.now m c.args.p.0 tied ∙ sym c.user-user.ensures.user in
     let at = walk-arrives asker c.args.p c.user-user.result was list c.args.from c.args.files.now mid _ _ same stands
-    c.requires.file refl refl c.in-Ok.place (c.in-Ok.ensures.walks m list.names tied names) in
+    c.requires.file refl refl refl c.in-Ok.place (c.in-Ok.ensures.walks m list.names tied names) in
     arrived-reads asker was list c.args.from c.in-Ok.place mid c.read_there.new.files _ _ _ at c.args.next c.user-user.result c.read_there.result c.read_there.new.s.buffer.items same next
     (c.read_there.ensures.there was at.found (record { before = _; read = at.read; there = at.there }))
 

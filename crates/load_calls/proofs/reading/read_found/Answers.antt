@@ -18,6 +18,6 @@ returns-in-Ok-clause-found g c was found has fd =
     let new : FileState = record c.args.files.now { disks = c.load_whole.new.disks } in
     let buffer : List ℕ = c.load_whole.new.s.buffer.items in
     whole-answers c.args.user c.args.next was found c.args.place c.args.files.now has.before _ has.there has.read new
-    _ refl refl c.in-Ok.size c.load_whole.result c.read_whole.result buffer c.read_whole.ensures.read
+    _ refl refl refl c.in-Ok.size c.load_whole.result c.read_whole.result buffer c.read_whole.ensures.read
     (c.in-Ok.ensures.size _ (with_drives was (drive_states _)) found has.read.stands has.there.place_is fd) c.load_whole.ensures.drive c.load_whole.ensures.device
     (c.load_whole.ensures.ok was.volumes found.volume found.file has.read.stands.mounted has.there.volume_is has.there.file_is)

@@ -9,8 +9,8 @@ pub returns-in-Err-clause-there : goal.returns-in-Err-clause-there
 returns-in-Err-clause-there g c was found has =
     let new : FileState = record c.args.files.now { disks = c.fd.new.self } in
     fd-broken c.args.user c.args.next was found c.args.place c.args.files.now has.before _ has.there has.read new _
-    refl refl c.in-Err.fault c.number.result c.args.s.now.buffer.items c.number.ensures c.in-Err.ensures.drive
-    c.in-Err.ensures.device
+    refl refl refl c.in-Err.fault c.number.result c.args.s.now.buffer.items c.number.ensures
+    c.in-Err.ensures.drive c.in-Err.ensures.device
 
 pub returns-in-Ok-clause-there : goal.returns-in-Ok-clause-there
 returns-in-Ok-clause-there g c was found has =
@@ -19,9 +19,9 @@ returns-in-Ok-clause-there g c was found has =
     reads-behind (program_there c.args.user was c.args.next found) 1
     (size_calls found.file (program_size c.args.user was found)) was c.read_found.result
     c.read_found.new.s.buffer.items c.read_found.new.files _ _ _
-    (fd-only c.args.user c.args.next was found c.args.place c.args.files.now has.before _ has.there has.read mid _ refl refl c.in-Ok.ensures.drive)
+    (fd-only c.args.user c.args.next was found c.args.place c.args.files.now has.before _ has.there has.read mid _ refl refl refl c.in-Ok.ensures.drive)
     (c.read_found.ensures.found was found (record {
       before = has.before;
-      read = fd-read c.args.user c.args.next was found c.args.place c.args.files.now has.before _ has.there has.read mid _ refl refl c.in-Ok.ensures.drive;
+      read = fd-read c.args.user c.args.next was found c.args.place c.args.files.now has.before _ has.there has.read mid _ refl refl refl c.in-Ok.ensures.drive;
       there = has.there;
     }) fd)

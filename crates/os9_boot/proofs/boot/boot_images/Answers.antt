@@ -7,7 +7,9 @@ use Rattle.os9_boot.proofs.BootLemmas.{boot-ended, boot-refused, boot-texts-refu
 use Rattle.os9_boot.proofs.MachineLemmas.{runs-after}
 use Rattle.os9_words.specs.Notes.{HasRead, notes_of}
 use Rattle.os9_words.specs.declared.command.Command.TheVariants.{Boot as BootCommand}
+use Rattle.boot_run.specs.Machine.{history_left}
 use Rattle.boot_run.specs.World.{world_of}
+use Rattle.os9_boot.specs.History.{output_bytes, outputs_of}
 use Rattle.command_files.specs.FileNames.{run_inputs}
 use Rattle.os9_boot.proofs.NameLemmas.{behind-end, behind-images, behind-texts, images-unwritten, names-read, names-stopped, names-written, texts-unwritten}
 use Rattle.os9_boot.proofs.boot.boot_images.Goals as goal
@@ -42,7 +44,7 @@ returns-in-Err-accept_images-clause-call g c =
 pub returns-clause-call : goal.returns-clause-call
 returns-clause-call g c =
     let devices = outside (λ table. (g.dyn-1.0.entry table).1) c.args.devices.now.drives.items (λ table. (g.dyn-2.0.entry table).1) c.args.devices.now.terms.items in
-    let left = outside (λ table. (g.dyn-1.0.entry table).1) c.run_images-end.new.devices.drives.items (λ table. (g.dyn-2.0.entry table).1) c.run_images-end.new.devices.terms.items in
+    let left = outside (λ table. (g.dyn-1.0.entry table).1) c.run_images-outcome.new.devices.drives.items (λ table. (g.dyn-2.0.entry table).1) c.run_images-outcome.new.devices.terms.items in
     let count : c.len-terminals.result ≡ length (terminal_states (λ table. (g.dyn-2.0.entry table).1)
     c.args.devices.now.terms.items) = rw length-map
     (omega (arith, c.len-terminals.ensures, c.args.devices.now.terms.ok.0)) in
@@ -50,11 +52,11 @@ returns-clause-call g c =
     c.in-Ok-read_texts.texts.slices.items (rw (c.as_slice.ensures.value, count) at
     c.in-Ok-read_texts.ensures.keys) (rw c.as_slice-2.ensures.value at c.in-Ok-read_texts.ensures.slices)
     c.in-Ok-accept_images.file.items c.in-Ok-accept_images.ensures.well_formed c.in-Ok-accept_images.ensures.bytes
-    c.in-Ok.ensures.count _ _ _ _ _ (runs-after _ _ _ _ _ _ (c.in-Ok.ensures.kept devices)
-    c.run_images-end.ensures.run) (c.write_back.ensures.ended left)
+    c.in-Ok.ensures.count _ _ _ _ _ _ (runs-after _ _ _ _ _ _ _ (c.in-Ok.ensures.kept devices)
+    c.run_images-outcome.ensures.run) (c.write_back.ensures.ended left)
 
 pub returns-clause-drives : goal.returns-clause-drives
-returns-clause-drives g c = c.run_images-end.ensures.run.drives
+returns-clause-drives g c = c.run_images-outcome.ensures.run.drives
 
 -- ---- the names
 
@@ -67,7 +69,7 @@ returns-in-Err-read_texts-clause-noted g c =
     let end = c.in-Err-read_texts.end in
     let refused = c.in-Err-read_texts.ensures.refused in
     names-read (BootCommand boot) end _ _ (behind-texts c.len-terminals.result c.as_slice.result.now
-    c.as_slice-2.result.now end refused) c.in-Ok.ensures.noted _ (texts-unwritten boot.files
+    c.as_slice-2.result.now end refused) c.in-Ok.ensures.noted _ (texts-unwritten (outputs_of boot)
     c.len-terminals.result c.as_slice.result.now c.as_slice-2.result.now end refused) refl
 
 pub returns-in-Err-accept_images-clause-noted : goal.returns-in-Err-accept_images-clause-noted
@@ -75,18 +77,19 @@ returns-in-Err-accept_images-clause-noted g c =
     let boot = c.args.boot.now in
     let end = c.in-Err-accept_images.end in
     let refused = c.in-Err-accept_images.ensures.refused in
-    names-read (BootCommand boot) end _ _ (behind-images c.in-Ok.files.images end refused) c.in-Ok.ensures.noted _ (images-unwritten boot.files c.in-Ok.files.images end refused) refl
+    names-read (BootCommand boot) end _ _ (behind-images c.in-Ok.files.images end refused) c.in-Ok.ensures.noted _ (images-unwritten (outputs_of boot) c.in-Ok.files.images end refused) refl
 
 pub returns-clause-noted : goal.returns-clause-noted
 returns-clause-noted g c =
-    let left = outside (λ table. (g.dyn-1.0.entry table).1) c.run_images-end.new.devices.drives.items (λ table. (g.dyn-2.0.entry table).1) c.run_images-end.new.devices.terms.items in
+    let left = outside (λ table. (g.dyn-1.0.entry table).1) c.run_images-outcome.new.devices.drives.items (λ table. (g.dyn-2.0.entry table).1) c.run_images-outcome.new.devices.terms.items in
     let back = c.write_back.ensures.noted in
-    let behind = behind-end c.args.boot.now.files c.run_images-end.new.images c.run_images-end.result
-    c.write_back.result (world_of g.H.Host c.run_images-end.new.host left)
+    let behind = behind-end (outputs_of c.args.boot.now)
+    (output_bytes (outputs_of c.args.boot.now) c.run_images-outcome.new.images
+    (history_left c.run_images-outcome.result.records)) c.run_images-outcome.result.end c.write_back.result (world_of g.H.Host c.run_images-outcome.new.host left)
     (world_of g.H.Host c.write_back.new.host left) (c.write_back.ensures.ended left) in
     let read : HasRead (run_inputs c.args.boot.now) (notes_of g.H.Host c.args.host.now)
-    (notes_of g.H.Host c.run_images-end.new.host) = record {
-      is = c.run_images-end.ensures.notes_kept ∙
+    (notes_of g.H.Host c.run_images-outcome.new.host) = record {
+      is = c.run_images-outcome.ensures.notes_kept ∙
           c.in-Ok.ensures.noted.is;
     } in
     names-written (BootCommand c.args.boot.now) c.write_back.result _ _ behind read back.written _ back.writes back.noted

@@ -35,12 +35,12 @@ returns-clause-call g c =
     rw c.end_of_run.ensures (run-ended _ c.args.run.now c.in-Ok.files c.in-Ok.ensures.contents
     c.in-Ok-read_texts.texts.keys.items c.in-Ok-read_texts.texts.slices.items
     (rw (c.as_slice.ensures.value, count) at c.in-Ok-read_texts.ensures.keys) (rw c.as_slice-2.ensures.value at
-    c.in-Ok-read_texts.ensures.slices) _ _ c.run_images.result
-    (runs-after _ _ _ _ _ _ (c.in-Ok.ensures.kept devices) (rw c.none-images.ensures at
-    c.run_images.ensures.run)))
+    c.in-Ok-read_texts.ensures.slices) _ _ _ c.run_images-outcome.result.end
+    (runs-after _ _ _ _ _ _ _ (c.in-Ok.ensures.kept devices) (rw c.none-images.ensures at
+    c.run_images-outcome.ensures.run)))
 
 pub returns-clause-drives : goal.returns-clause-drives
-returns-clause-drives g c = c.run_images.ensures.run.drives
+returns-clause-drives g c = c.run_images-outcome.ensures.run.drives
 
 -- ---- the names
 
@@ -56,4 +56,6 @@ returns-in-Err-read_texts-clause-noted g c =
 
 pub returns-clause-noted : goal.returns-clause-noted
 returns-clause-noted g c =
-    rw c.end_of_run.ensures (names-read (RunCommand c.args.run.now) (ends_run c.run_images.result) _ _ (behind-run c.run_images.result) c.in-Ok.ensures.noted _ refl c.run_images.ensures.notes_kept)
+    let end = c.run_images-outcome.result.end in
+    rw c.end_of_run.ensures (names-read (RunCommand c.args.run.now) (ends_run end) _ _ (behind-run end)
+    c.in-Ok.ensures.noted _ refl c.run_images-outcome.ensures.notes_kept)

@@ -1,6 +1,5 @@
 -- Each step is one of the call.
 use Rattle.std.proofs.Common.{[], refl, subst}
-use Rattle.os9_words.specs.Notes.{notes_of}
 use Rattle.boot_run.specs.World.{world_of}
 use Rattle.os9_boot.specs.Asm.{MakesModule, asm_file_name}
 use Rattle.os9_boot.specs.Steps.{RefusesSource, WritesOut}

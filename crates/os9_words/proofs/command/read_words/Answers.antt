@@ -4,11 +4,19 @@ use Rattle.std.proofs.lemmas.Slice.Eq.{bytes_eq-Decides}
 use Rattle.os9_words.specs.Command.{command_of}
 use Rattle.os9_words.proofs.command.read_words.Goals as goal
 
-other : (command : List ℕ) (words : List (List ℕ)) → command ≢ codes "run" → command ≢ codes "boot" → command ≢ codes "check" → command ≢ codes "stress" → command ≢ codes "vol" → command ≢ codes "asm" → command ≢ codes "debug" → command_of (command ∷ words) ≡ None
+other : (command : List ℕ) (words : List (List ℕ)) → command ≢ codes "run" → command ≢ codes "boot"
+    → command ≢ codes "check" → command ≢ codes "stress" → command ≢ codes "vol" → command ≢ codes "asm"
+    → command ≢ codes "debug" → command_of (command ∷ words) ≡ None
 other command words not_run not_boot not_check not_stress not_vol not_asm not_debug =
-    by (bytes_eq command (codes "run")) (bytes_eq command (codes "boot")) (bytes_eq command (codes "check")) (bytes_eq command (codes "stress")) (bytes_eq command (codes "vol")) (bytes_eq command (codes "asm")) (bytes_eq command (codes "debug")) refl refl refl refl refl refl refl
+    by (bytes_eq command (codes "run")) (bytes_eq command (codes "boot")) (bytes_eq command (codes "check"))
+    (bytes_eq command (codes "stress")) (bytes_eq command (codes "vol")) (bytes_eq command (codes "asm"))
+    (bytes_eq command (codes "debug")) refl refl refl refl refl refl refl
   where
-    by : (run boot check stress vol asm debug : Bool) → bytes_eq command (codes "run") ≡ run → bytes_eq command (codes "boot") ≡ boot → bytes_eq command (codes "check") ≡ check → bytes_eq command (codes "stress") ≡ stress → bytes_eq command (codes "vol") ≡ vol → bytes_eq command (codes "asm") ≡ asm → bytes_eq command (codes "debug") ≡ debug → command_of (command ∷ words) ≡ None
+    by : (run boot check stress vol asm debug : Bool) → bytes_eq command (codes "run") ≡ run
+        → bytes_eq command (codes "boot") ≡ boot → bytes_eq command (codes "check") ≡ check
+        → bytes_eq command (codes "stress") ≡ stress → bytes_eq command (codes "vol") ≡ vol
+        → bytes_eq command (codes "asm") ≡ asm → bytes_eq command (codes "debug") ≡ debug
+        → command_of (command ∷ words) ≡ None
     by true boot check stress vol asm debug r b c s v a d = absurd (not_run ((bytes_eq-Decides command (codes "run")).0 r))
     by false true check stress vol asm debug r b c s v a d = absurd (not_boot ((bytes_eq-Decides command (codes "boot")).0 b))
     by false false true stress vol asm debug r b c s v a d = absurd (not_check ((bytes_eq-Decides command (codes "check")).0 c))
@@ -18,7 +26,10 @@ other command words not_run not_boot not_check not_stress not_vol not_asm not_de
     by false false false false false false true r b c s v a d = absurd (not_debug ((bytes_eq-Decides command (codes "debug")).0 d))
     by false false false false false false false r b c s v a d = rw (r, b, c, s, v, a, d) refl
 
-no_command : (words : List (String Global)) (command : String Global) → 1 ≤ length words → command ≡ get_or words 0 command → string_bytes command ≢ codes "run" → string_bytes command ≢ codes "boot" → string_bytes command ≢ codes "check" → string_bytes command ≢ codes "stress" → string_bytes command ≢ codes "vol" → string_bytes command ≢ codes "asm" → string_bytes command ≢ codes "debug" → command_of (map string_bytes words) ≡ None
+no_command : (words : List (String Global)) (command : String Global) → 1 ≤ length words → command ≡ get_or words 0
+    command → string_bytes command ≢ codes "run" → string_bytes command ≢ codes "boot" → string_bytes command ≢ codes
+    "check" → string_bytes command ≢ codes "stress" → string_bytes command ≢ codes "vol" → string_bytes command ≢
+    codes "asm" → string_bytes command ≢ codes "debug" → command_of (map string_bytes words) ≡ None
 no_command [] command some is not_run not_boot not_check not_stress not_vol not_asm not_debug = absurd (omega (arith, some))
 no_command (word ∷ words) command some is not_run not_boot not_check not_stress not_vol not_asm not_debug =
     other (string_bytes word) (map string_bytes words) (λ e. not_run (ap string_bytes is ∙ e))

@@ -92,3 +92,6 @@ returns-clause-counts g c v file on is marks are =
     (none_grows _ c.args.loaded.now c.requires.loaded c.in-Some.count c.if-count-ne0.false) _ c.in_ok-fill.ensures.fills _ c.in_ok-finish.ensures.done v file on is marks are) _ _
     _ _ _ (no_counts c.in-Some.count _) (no_counts _ _) c.in_ok-fill.ensures.counts
     c.in_ok-finish.ensures.counts
+
+pub lay_longer-requires-clause-loaded : goal.lay_longer-requires-clause-loaded
+lay_longer-requires-clause-loaded g c = record { file = c.requires.file; read = c.requires.loaded }

@@ -4,16 +4,15 @@ use Rattle.proc_rules.specs.Records.{IsLiving, record_at}
 use Rattle.call_rules.specs.Inner.{Inner}
 use Rattle.os9_kernel.proofs.Columns.{living-within, record-put}
 use Rattle.os9_kernel.proofs.Represented.{some-machine}
-use Rattle.os9_kernel.proofs.Standing.{stands-interrupted}
 use Rattle.os9_kernel.proofs.kernel.Kernel.break_off.Goals as goal
 
 pub returns-in-Some-clause-files : goal.returns-in-Some-clause-files
 returns-in-Some-clause-files c views files stands =
-    stands-interrupted c.args.self.now.files views files c.args.p.0 c.interrupt.new.self c.interrupt.ensures.io stands
+    c.interrupt.ensures.files views files stands
 
 pub returns-in_default-clause-files : goal.returns-in_default-clause-files
 returns-in_default-clause-files c views files stands =
-    stands-interrupted c.args.self.now.files views files c.args.p.0 c.interrupt.new.self c.interrupt.ensures.io stands
+    c.interrupt.ensures.files views files stands
 
 pub returns-in-Some-clause-signal : goal.returns-in-Some-clause-signal
 returns-in-Some-clause-signal c =

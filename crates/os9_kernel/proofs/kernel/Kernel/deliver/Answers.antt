@@ -6,8 +6,9 @@ use Rattle.proc_rules.specs.Records.{IsLiving, record_at, is_waiting}
 use Rattle.call_rules.specs.Delivery.{delivered, after_delivery}
 use Rattle.call_rules.specs.Inner.{Inner, no_own, own_at}
 use Rattle.io_rules.specs.Io.{Io}
-use Rattle.io_rules.specs.Waiting.{interrupted_count, io_interrupted}
-use Rattle.file_rules.specs.Files.{Files, with_io}
+use Rattle.io_rules.specs.Waiting.{interrupted_count}
+use Rattle.file_rules.specs.Files.{Files}
+use Rattle.file_rules.specs.Locking.{files_interrupted}
 use Rattle.file_state.specs.Tie.{StandsFor}
 use Rattle.event_rules.specs.Event.{broken_off, delivery_end}
 use Rattle.machine_model.specs.Event.{before_delivery, files_after_delivery}
@@ -78,7 +79,7 @@ returns-in-Ended-clause-event c devices =
           let left = files_after_delivery s.files p.0 (delivered (before_delivery s p.0) p.0 c.args.signal) in
           let stands : StandsFor c.end.new.self devices.drives left = subst (λ (files : Files). StandsFor c.end.new.self devices.drives files)
           (ended-so s.files p.0 ∙ files-ended-so d c.deliver.result end c.in-Ended.is s.files p.0 ∙ ap (λ (m : Inner). files_after_delivery s.files p.0 (delivered m p.0 c.args.signal)) before)
-          (c.end.ensures devices.drives (with_io s.files (io_interrupted s.files.io p.0)) (c.break_off.ensures.files devices.drives s.files tied.files)) in
+          (c.end.ensures devices.drives (files_interrupted s.files p.0) (c.break_off.ensures.files devices.drives s.files tied.files)) in
           event-here old p act next devices s tied new _ (after_delivery m p.0 d) left c.break_off.ensures.chosen
           c.break_off.ensures.clock (c.deliver.ensures.tied m c.args.signal (tied_found here s.inner tied.inner)
           (signal_found here s.inner tied.inner)) stands (

@@ -10,14 +10,16 @@ use Rattle.call_rules.specs.Attempts.{after_attempt}
 use Rattle.call_rules.specs.CallResult.{CallResult}
 use Rattle.call_rules.specs.Inner.{Inner, no_own}
 use Rattle.call_rules.specs.declared.proc_call.ProcCall.{ProcCall}
-use Rattle.file_rules.specs.Memory.{LacksMemory}
+use Rattle.file_rules.specs.Memory.{LacksEntry, LacksMemory}
 use Rattle.file_dispatch.specs.Attempts.{MayAttempt}
 use Rattle.file_drives.specs.Drives.{boxed_drive_view, drive_views}
 use Rattle.file_rules.specs.Attempts.{FileAttempts, io_effect}
 use Rattle.file_state.specs.Tie.{StandsFor}
 use Rattle.file_state.specs.declared.state.FileState.{FileState}
 use Rattle.io_rules.specs.Attempts.{result_of}
-use Rattle.io_rules.specs.Waiting.{io_waits_for}
+use Rattle.lock_model.specs.Records.{Records}
+use Rattle.file_rules.specs.Locking.{call_wait}
+use Rattle.file_state.specs.Attempt.{settled}
 use Rattle.event_rules.specs.declared.ends.EventEnd.{EventEnd}
 use Rattle.proc_rules.specs.declared.record.Record.{Record}
 use Rattle.proc_rules.specs.Records.{is_waiting, record_at}
@@ -33,12 +35,12 @@ use Rattle.os9_kernel.proofs.Asking.{may-attempt-here}
 use Rattle.os9_kernel.proofs.Calling.{end-tied, goes-on, lives-so}
 use Rattle.os9_kernel.proofs.Changing.{keeps-attempt, keeps-drives}
 use Rattle.os9_kernel.proofs.Counting.{attempt-within-at, leaves-drives}
-use Rattle.os9_kernel.proofs.Holding.{holds-still}
+use Rattle.os9_kernel.proofs.Holding.{holds-mounted, holds-still}
 use Rattle.os9_kernel.proofs.PathCalls.{attempt-tick, cases-memory, is-clock, is-sound, lives-on, now-here, time-for, time-shown, wants-so}
 use Rattle.os9_kernel.proofs.Pending.{attempt-lowers}
 use Rattle.os9_kernel.proofs.Represented.{no-call}
 use Rattle.os9_kernel.proofs.Serving.{path-served}
-use Rattle.os9_kernel.proofs.Waiting.{cause-so, code-held, records-kept, waits-so}
+use Rattle.os9_kernel.proofs.Waiting.{code-held, records-kept, rests-so, waits-so}
 use Rattle.os9_kernel.proofs.kernel.Kernel.path_call.Goals as goal
 
 pub time_for-time-requires : goal.time_for-time-requires
@@ -76,9 +78,8 @@ returns-clause-event g c =
     let before : Outside = outside (λ table. (g.dyn-1.0.entry table).1) c.args.devices.now.drives.items (λ table. (g.dyn-2.0.entry table).1) c.args.devices.now.terms.items in
     let after : Outside = outside (λ table. (g.dyn-1.0.entry table).1) c.attempt-end.new.devices.drives.items (λ table. (g.dyn-2.0.entry table).1) c.attempt-end.new.devices.terms.items in
     let other : c.event_end.result ≢ EventEnd.NoMemory → c.attempt-end.result ≢ NoMemory = (λ other out. other (c.event_end.ensures ∙ ap event_end_of out)) in
-    let same_drives : c.attempt-end.result ≡ NoMemory → after.drives ≡ before.drives =
-    (λ out. ap (λ drives. drive_views (λ table. (g.dyn-1.0.entry table).1) drives.items)
-    (c.attempt-end.ensures.drives_kept out)) in
+    let settled_is : new.files ≡ settled p.0 c.attempt-end.result c.attempt-end.new.files =
+    c.tell_end.ensures.files ∙ ap (λ (records : Records). let files : FileState = record c.attempt-end.new.files { records = records } in files) c.forget_request.ensures in
     let (s0, tied0) = c.requires.stands in
     let (time, is_time) = time-shown old before s0 tied0 in
     let fits = time-for old.clock old.processes.tick c.args.call made time c.time_for-time.ensures is_time in record {
@@ -88,7 +89,7 @@ returns-clause-event g c =
           let attempt : FileAttempts c.args.call s.inner s.files time p.0 it.result it.left s.terms after.terms =
           subst (λ (terms : List TerminalState). FileAttempts c.args.call s.inner s.files time p.0 it.result
           it.left terms after.terms) (sym (terms-are old p act next before s tied)) it.attempt in
-          let stands : StandsFor new.files after.drives it.left = subst (λ (files : FileState). StandsFor files after.drives it.left) (sym c.tell_end.ensures.files) it.stands in
+          let stands : StandsFor new.files after.drives it.left = subst (λ (files : FileState). StandsFor files after.drives it.left) (sym settled_is) it.stands in
           let rest : Rest = record { files = it.left; clock = s.clock; terms = after.terms } in
           event-then old p act next before s tied new after _ (after_attempt s.inner p.0 it.result) it.left s.clock
           after.terms c.tell_end.ensures.chosen there stands (clock-is old p act next before s tied ∙ sym
@@ -111,11 +112,20 @@ returns-clause-event g c =
             now = time;
             is_now = now-here old before s tied time is_time;
             lacks =
-                subst (λ (terms : List TerminalState). LacksMemory c.args.call s.inner s.files time p.0 terms
-                after.terms) (sym (terms-are old p act next before s tied))
-                ((c.attempt-end.ensures.call time fits s.inner s.files tied.inner tied.files
-                tied.running.kinds).memory is);
-            drives = holds-still old before s tied after (same_drives is);
+                elim ((c.attempt-end.ensures.call time fits s.inner s.files tied.inner tied.files tied.running.kinds).memory is) [
+                  | inl byte ↦
+                      inl (record {
+                        lacks = subst (λ (terms : List TerminalState). LacksMemory c.args.call s.inner s.files time p.0 terms after.terms) (sym (terms-are old p act next before s tied)) byte.lacks;
+                        drives = holds-still old before s tied after byte.views;
+                      })
+                  | inr entry ↦
+                      inr (record {
+                        done = entry.done;
+                        lacks = subst (λ (terms : List TerminalState). LacksEntry c.args.call s.inner s.files time p.0
+                            entry.done terms after.terms) (sym (terms-are old p act next before s tied)) entry.lacks;
+                        drives = holds-mounted (record s { files = entry.done }) after.drives entry.drives c.attempt-end.new.files.disks entry.mounted;
+                      })
+                ];
           };
       waits = λ is.
           let waiting = waits-so c.attempt-end.result (sym c.event_end.ensures ∙ is) in
@@ -135,13 +145,14 @@ returns-clause-event g c =
                 c.args.code next.next;
             first = λ fresh.
                 subst (λ (call : Option ProcCall). IfSome (wait_by call (slice_index_or new.processes.own.items p.0
-                no_own) (io_waits_for new.files.io p.0)) (λ wait. wait_at (member_of new.processes.sched.members
-                p.0) ≡ Some wait)) (sym coded.0)
+                no_own) (call_wait new.files.io new.files.records.locks p.0))
+                (λ wait. wait_at (member_of new.processes.sched.members p.0) ≡ Some wait)) (sym coded.0)
                 (subst (λ (files : FileState). IfSome (wait_by None (slice_index_or new.processes.own.items p.0
-                no_own) (io_waits_for files.io p.0)) (λ wait. wait_at (member_of new.processes.sched.members p.0)
-                ≡ Some wait)) (sym c.tell_end.ensures.files)
-                (cause-so (io_waits_for c.attempt-end.new.files.io p.0) now new.processes p.0
-                c.attempt-end.ensures.lives
+                no_own) (call_wait files.io files.records.locks p.0))
+                (λ wait. wait_at (member_of new.processes.sched.members p.0) ≡ Some wait))
+                (sym c.tell_end.ensures.files)
+                (rests-so (call_wait c.attempt-end.new.files.io c.forget_request.new.records.locks p.0) now
+                new.processes p.0 c.attempt-end.ensures.lives
                 (subst (λ (records : List (Option Record)). is_waiting (record_at records p.0).life ≡ false) same
                 fresh) (c.tell_end.ensures.waits waiting)));
           };
@@ -155,7 +166,11 @@ returns-clause-event g c =
       calls = λ s now tied is.
           elim (cases-memory c.attempt-end.result) [
             | inl out ↦
-                leaves-drives old before after (same_drives out) s now tied is
+                elim ((c.attempt-end.ensures.call time fits s.inner s.files tied.inner tied.files tied.running.kinds).memory out) [
+                  | inl byte ↦ leaves-drives old before after byte.views s now tied is
+                  | inr entry ↦
+                      attempt-within-at old p c.args.code next before s tied (on_paths c.args.call) c.requires.serves time now after (now-here old before s tied time is_time) is entry.calls
+                ]
             | inr there ↦
                 attempt-within-at old p c.args.code next before s tied (on_paths c.args.call) c.requires.serves time
                 now after (now-here old before s tied time is_time) is
@@ -164,7 +179,14 @@ returns-clause-event g c =
           ];
       images = λ s drive tied unasked.
           elim (cases-memory c.attempt-end.result) [
-            | inl out ↦ keeps-drives old before after (same_drives out) s drive tied unasked
+            | inl out ↦
+                elim ((c.attempt-end.ensures.call time fits s.inner s.files tied.inner tied.files tied.running.kinds).memory out) [
+                  | inl byte ↦ keeps-drives old before after byte.views s drive tied unasked
+                  | inr entry ↦
+                      keeps-attempt old p c.args.code next before s tied c.args.call c.requires.serves time
+                      (now-here old before s tied time is_time) c.attempt-end.result after drive
+                      entry.images unasked
+                ]
             | inr there ↦
                 keeps-attempt old p c.args.code next before s tied c.args.call c.requires.serves time
                 (now-here old before s tied time is_time) c.attempt-end.result after drive
@@ -197,7 +219,13 @@ returns-clause-drives g c =
     let now = c.attempt-end.new.devices.drives in
     let view = boxed_drive_view (λ table. (g.dyn-1.0.entry table).1) in
     elim (cases-memory c.attempt-end.result) [
-      | inl out ↦ ap (λ drives. vec_len drives) (c.attempt-end.ensures.drives_kept out)
+      | inl out ↦
+          elim ((c.attempt-end.ensures.call time fits s.inner s.files tied.inner tied.files tied.running.kinds).memory out) [
+            | inl byte ↦
+                now.ok.0 ∙ sym (length-map now.items view) ∙ ap length byte.views ∙ length-map was.items view ∙ sym was.ok.0
+            | inr entry ↦
+                now.ok.0 ∙ sym (length-map now.items view) ∙ entry.calls.as_many ∙ length-map was.items view ∙ sym was.ok.0
+          ]
       | inr other ↦
           now.ok.0 ∙ sym (length-map now.items view)
           ∙ ((c.attempt-end.ensures.call time fits s.inner s.files tied.inner tied.files tied.running.kinds).attempted other).calls.as_many

@@ -8,7 +8,7 @@ use Rattle.call_rules.specs.Inner.{Inner, no_own}
 use Rattle.call_rules.specs.declared.proc_call.ProcCall.{ProcCall}
 use Rattle.file_rules.specs.Files.{Files}
 use Rattle.file_state.specs.Tie.{StandsFor}
-use Rattle.io_rules.specs.Waiting.{io_waits_for}
+use Rattle.file_rules.specs.Locking.{call_wait}
 use Rattle.proc_rules.specs.Records.{IsLiving, is_waiting, record_at}
 use Rattle.proc_state.specs.declared.state.ProcState.{ProcState}
 use Rattle.proc_state.specs.Tie.{Represents as RepresentsProcesses}
@@ -81,8 +81,9 @@ returns-clause-event c devices =
                 c.args.code next.next;
             first = λ fresh.
                 subst (λ (call : Option ProcCall). IfSome (wait_by call (slice_index_or new.processes.own.items p.0
-                no_own) (io_waits_for new.files.io p.0)) (λ wait. wait_at (member_of new.processes.sched.members
-                p.0) ≡ Some wait)) (sym (process-served c.args.code c.args.call c.requires.serves))
+                no_own) (call_wait new.files.io new.files.records.locks p.0))
+                (λ wait. wait_at (member_of new.processes.sched.members p.0) ≡ Some wait))
+                (sym (process-served c.args.code c.args.call c.requires.serves))
                 (subst (λ (processes : ProcState). IfSome (waits_for c.args.call (slice_index_or processes.own.items
                 p.0 no_own)) (λ wait. wait_at (member_of processes.sched.members p.0) ≡ Some wait))
                 (sym c.follow.ensures.processes)

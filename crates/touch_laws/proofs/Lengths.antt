@@ -1,4 +1,4 @@
--- How many bytes a process sends, and where the bytes of a call are named.
+-- How many bytes a process sends, and which bytes of a call are named.
 use Rattle.std.proofs.Common.{◌≡◌, ℕ, zero, suc, ◌+◌, ◌<◌, ◌≤◌, ◌==◌, nat_lt, Bool, true, false, Option, Some, None, IsSome, is_some, List, [], ◌∷◌, length, refl, sym, ap, ◌∙◌, arith}
 use Rattle.std.specs.Prelude.{option_map, if◌then◌else◌}
 use Rattle.std.proofs.lemmas.Bool.{ltb-true}
@@ -29,7 +29,7 @@ user-named cells at byte is = by_test (nat_lt at 65536) refl is
     by_test true within is = (ltb-true at 65536 within, is)
     by_test false past is = absurd (none-some byte is)
 
--- the bytes that a call uses fit, where there are some
+-- the bytes that a call uses fit, if there are any
 pub user-fits : (cells : Cells) (at count : ℕ) (bytes : List ℕ) → 0 < count → user_bytes cells at count ≡ Some bytes → FitsIn cells at count
 user-fits cells at zero bytes some is = absurd (omega (arith, some))
 user-fits cells at (suc count) bytes some is = by_byte (user-fits cells (at + 1) count) (user_cell cells at) refl (user_bytes cells (at + 1) count) refl is
@@ -63,7 +63,7 @@ user-fits cells at (suc count) bytes some is = by_byte (user-fits cells (at + 1)
     by_byte fits (Some byte) first (Some rest) later is =
         by_count byte first rest count later (λ more. fits rest more later)
 
--- a line has at most so many bytes, and one at least where it may have one
+-- a line has at most this number of bytes, and one at least if it may have one
 pub record LineLength (most : ℕ) (line : List ℕ) : Type 0 where
   pub few : length line ≤ most
   pub some : 0 < most → 0 < length line

@@ -1,0 +1,374 @@
+-- An attempt is refused or waits as its request is answered, and for no other cause.
+use Rattle.std.proofs.Common.{◌≡◌, ◌≢◌, ◌⊎◌, ℕ, ◌<◌, ◌≤◌, ◌==◌, not, Bool, true, false, Option, Some, None, IsSome, List, length, refl, sym, ap, ◌∙◌, subst, inl, inr, arith}
+use Rattle.std.specs.Prelude.{is_none, nat_le, option_map, if◌then◌else◌}
+use Rattle.std.proofs.lemmas.Bool.{eqb-true, false≢true, leb-true}
+use Rattle.std.proofs.lemmas.Option.{none-some, same_Some}
+use Rattle.os9_base.specs.declared.errors.TheConstants.{E_BMODE, E_BPADDR, E_DEADLK, E_EOF, E_LOCK, E_SLF}
+use Rattle.os9_outer.specs.Drive.{drive_error}
+use Rattle.os9_outer.specs.TerminalState.{TerminalState}
+use Rattle.os9_outer.specs.declared.drive.DriveFault.{DriveFault}
+use Rattle.os9_outer.specs.declared.drive.DriveFault.TheVariants.{NotReady, ReadFault, SeekFault, WriteFault, WriteProtect}
+use Rattle.call_rules.specs.CallResult.{CallResult}
+use Rattle.call_rules.specs.UserBytes.{user_bytes}
+use Rattle.lock_model.specs.Records.{without_lock}
+use Rattle.lock_model.specs.declared.lock.Grant.{Grant}
+use Rattle.lock_model.specs.declared.lock.Grant.TheVariants.{Deadlock, Granted, Locked, Wait}
+use Rattle.lock_model.specs.declared.lock.Request.{Request}
+use Rattle.io_model.specs.declared.terminal.ReadKind.{ReadKind}
+use Rattle.io_model.specs.declared.terminal.ReadKind.TheVariants.{Bytes, WholeLine}
+use Rattle.io_rules.specs.Attempts.{result_by, result_of}
+use Rattle.io_rules.specs.Modes.{can_read, can_write}
+use Rattle.io_rules.specs.Pipes.{count_regs}
+use Rattle.io_rules.specs.Read.{i_read as reads_device, i_readln as reads_device_line}
+use Rattle.io_rules.specs.Status.{i_setstt as sets_of_device}
+use Rattle.io_rules.specs.Step.{IoEnd, IoStep, fails, keeps}
+use Rattle.io_rules.specs.Write.{error_line, i_write as writes_device, i_writln as writes_device_line, f_perr as tells_device}
+use Rattle.file_rules.specs.Attempts.{file_step, files_after, io_effect}
+use Rattle.file_rules.specs.Files.{Asker, Files, OpenFile, open_file, with_records}
+use Rattle.file_rules.specs.Locking.{answer_to, asks, asks_by, call_of, is_for_update, request_kept, request_now}
+use Rattle.file_rules.specs.OnFile.{by_kind, moves_bytes}
+use Rattle.file_rules.specs.Read.{bytes_at, read_claim, read_start, reads_file, reads_freely, reads_locked, reads_on}
+use Rattle.file_rules.specs.Seek.{long_of}
+use Rattle.file_rules.specs.Status.{lock_claim, locks_bytes, locks_range, sets_status, size_claim, sizes_locked}
+use Rattle.file_rules.specs.Step.{Deed, DoesDeed, FileDoes, FileEffect, FileStep, IsBroken, as_io, changes, deed_of, done, drive_of, leaves_so, needs, reaches, refused, refuses}
+use Rattle.file_rules.specs.Write.{line_moved, sends_bytes, write_claim, writes_bytes}
+use Rattle.file_rules.specs.declared.claim.Claim.{Claim}
+use Rattle.file_rules.specs.declared.path_call.PathCall.{PathCall}
+use Rattle.file_rules.specs.declared.path_call.PathCall.TheVariants as Call
+use Rattle.file_rules.specs.declared.status.TheConstants.{SS_LOCK, SS_SIZE}
+use Rattle.os9_base.specs.declared.calls.TheConstants.{F_PERR, I_WRITE, I_WRITLN}
+use Rattle.touch_laws.specs.Attempt.{Attempt, HasFault, asker_in}
+use Rattle.touch_laws.specs.Devices.{number_in}
+use Rattle.touch_laws.specs.Touch.{OneDriveFails}
+use Rattle.touch_laws.proofs.Attempts.{ends-refused}
+use Rattle.touch_laws.proofs.Splits.{not-refused}
+use Rattle.claim_laws.specs.Answered.{DoesAsDevice, IsAnsweredSo}
+use Rattle.touch_laws.specs.Claims.{CanRead, CanWrite, Claims, read_call}
+use Rattle.touch_laws.proofs.Claimed.{claimed}
+use Rattle.touch_laws.proofs.ClaimSteps.{Claimed, LeftSo, is_of_lock}
+
+-- ---- the step of a call that makes a request
+
+is-there : {X : Type 0} (o : Option X) → IsSome o → is_none o ≡ false
+is-there None some = absurd (false≢true some)
+is-there (Some x) some = refl
+
+not-zero : (n : ℕ) → n ≢ 0 → (n == 0) ≡ false
+not-zero n differ = by_test (n == 0) refl
+  where
+    by_test : (zero : Bool) → (n == 0) ≡ zero → zero ≡ false
+    by_test true is = absurd (differ (eqb-true n 0 is))
+    by_test false is = refl
+
+above-zero : (n : ℕ) → 0 < n → (n == 0) ≡ false
+above-zero n some = not-zero n (λ same. omega (arith, some, same))
+
+is-less : (a b : ℕ) → b < a → nat_le a b ≡ false
+is-less a b less = by_test (nat_le a b) refl
+  where
+    by_test : (test : Bool) → nat_le a b ≡ test → test ≡ false
+    by_test true is = let more : a ≤ b = leb-true a b is in absurd (omega (arith, less, more))
+    by_test false is = refl
+
+module _ (asker : Asker) (files : Files) (terms : ℕ) where
+  -- the step of a call makes a request of what it claims
+  abbrev AsksFor : PathCall → OpenFile → Claim → Type 0
+  AsksFor call found claim =
+      (next : FileStep) × (file_step call asker files terms ≡ reaches found.place.drive (asks asker files (request_now asker files found claim) next))
+
+  module _ (found : OpenFile) where
+    abbrev Named : PathCall → Type 0
+    Named call = open_file files asker.caller.process.0 (number_in call asker) ≡ Some found
+
+    -- bytes are moved
+    moves-next : (is_allowed : ℕ → Bool) (next : FileStep) → is_allowed found.opened.desc.mode ≡ true → 0 < asker.caller.regs.y → moves_bytes asker files found is_allowed next ≡ next
+    moves-next is_allowed next may some =
+        ap (λ (b : Bool). refuses (not b) E_BMODE (if asker.caller.regs.y == 0 then done asker.caller.regs files else next)) may
+        ∙ ap (λ (b : Bool). if b then done asker.caller.regs files else next) (above-zero asker.caller.regs.y some)
+
+    read-next : (kind : ReadKind) (otherwise : IoStep) → open_file files asker.caller.process.0 asker.caller.regs.a ≡
+        Some found → CanRead asker found → is_for_update found.opened.desc.mode ≡ true → read_start asker files found
+        < length found.file.contents → (next : FileStep) × (reads_on kind asker files otherwise ≡ reaches
+        found.place.drive (asks asker files (request_now asker files found (read_claim kind asker found
+        (read_start asker files found))) next))
+    read-next kind otherwise named (there, may, some) update more = (
+      _,
+      ap (λ (o : Option OpenFile). by_kind o otherwise
+          (λ opened. refuses (is_none (user_bytes asker.caller.cells asker.caller.regs.x asker.caller.regs.y))
+          E_BPADDR (moves_bytes asker files opened can_read (reads_file kind asker files opened)))) named
+          ∙ ap (λ (b : Bool). refuses b E_BPADDR (moves_bytes asker files found can_read (reads_file kind asker files
+          found))) (is-there (user_bytes asker.caller.cells asker.caller.regs.x asker.caller.regs.y) there)
+          ∙ moves-next can_read (reads_file kind asker files found) may some
+          ∙ ap (λ (b : Bool). reaches found.place.drive (refuses b E_EOF (if is_for_update found.opened.desc.mode then locked else free))) (is-less (length found.file.contents) at more)
+          ∙ ap (λ (b : Bool). reaches found.place.drive (if b then locked else free)) update,
+    )
+      where
+        at : ℕ
+        at = read_start asker files found
+
+        locked : FileStep
+        locked = reads_locked kind asker files found (request_now asker files found (read_claim kind asker found at)) (bytes_at kind asker found at)
+
+        free : FileStep
+        free = reads_freely kind asker files found
+
+    by-read : (kind : ReadKind) → Named (read_call kind) → CanRead asker found → is_for_update found.opened.desc.mode
+        ≡ true → read_start asker files found < length found.file.contents → AsksFor (read_call kind) found
+        (read_claim kind asker found (read_start asker files found))
+    by-read Bytes named can update more = read-next Bytes (reads_device asker.caller files.io) named can update more
+    by-read WholeLine named can update more = read-next WholeLine (reads_device_line asker.caller files.io) named can update more
+
+    by-write : (bytes : List ℕ) → Named Call.Write → CanWrite asker found → user_bytes asker.caller.cells
+        asker.caller.regs.x asker.caller.regs.y ≡ Some bytes → AsksFor Call.Write found
+        (write_claim found I_WRITE (length bytes))
+    by-write bytes named (may, some) is = (
+      _,
+      ap (λ (o : Option OpenFile). by_kind o (writes_device asker.caller files.io)
+          (λ opened. needs (user_bytes asker.caller.cells asker.caller.regs.x asker.caller.regs.y) E_BPADDR
+          (sends_bytes asker files opened I_WRITE))) named
+          ∙ ap (λ (o : Option (List ℕ)). needs o E_BPADDR (sends_bytes asker files found I_WRITE)) is
+          ∙ moves-next can_write (writes_bytes asker files found I_WRITE bytes (count_regs asker.caller (length bytes))) may some,
+    )
+
+    by-line : (bytes : List ℕ) → Named Call.WritLn → CanWrite asker found
+        → line_moved asker (request_kept asker files) ≡ Some bytes → AsksFor Call.WritLn found
+        (write_claim found I_WRITLN (length bytes))
+    by-line bytes named (may, some) is = (
+      _,
+      ap (λ (o : Option OpenFile). by_kind o (writes_device_line asker.caller files.io)
+          (λ opened. needs (line_moved asker (request_kept asker files)) E_BPADDR (sends_bytes asker files opened
+          I_WRITLN))) named
+          ∙ ap (λ (o : Option (List ℕ)). needs o E_BPADDR (sends_bytes asker files found I_WRITLN)) is
+          ∙ moves-next can_write (writes_bytes asker files found I_WRITLN bytes (count_regs asker.caller (length bytes))) may some,
+    )
+
+    by-error : Named Call.PErr → can_write found.opened.desc.mode ≡ true → AsksFor Call.PErr found (write_claim found F_PERR (length (error_line asker.caller.regs.b)))
+    by-error named may = (
+      _,
+      ap (λ (o : Option OpenFile). by_kind o (tells_device asker.caller files.io)
+          (λ opened. refuses (not (can_write opened.opened.desc.mode)) E_BMODE (writes_bytes asker files opened F_PERR
+          (error_line asker.caller.regs.b) asker.caller.regs))) named
+          ∙ ap (λ (b : Bool). refuses (not b) E_BMODE (writes_bytes asker files found F_PERR (error_line asker.caller.regs.b) asker.caller.regs)) may,
+    )
+
+    -- the status that is set
+    set-named : Named Call.SetStt → file_step Call.SetStt asker files terms ≡ sets_status asker files found asker.caller.regs.b
+    set-named named =
+        ap (λ (o : Option OpenFile). by_kind o (sets_of_device asker.caller files.io) (λ opened. sets_status asker files opened asker.caller.regs.b)) named
+
+    by-size : Named Call.SetStt → asker.caller.regs.b ≡ SS_SIZE → can_write found.opened.desc.mode ≡ true → AsksFor Call.SetStt found (size_claim found (long_of asker.caller.regs))
+    by-size named code may = (
+      _,
+      set-named named
+          ∙ ap (sets_status asker files found) code
+          ∙ ap (λ (b : Bool). refuses (not b) E_BMODE (reaches found.place.drive (sizes_locked asker files found
+          (long_of asker.caller.regs) (request_now asker files found
+          (size_claim found (long_of asker.caller.regs)))))) may,
+    )
+
+    by-lock : Named Call.SetStt → asker.caller.regs.b ≡ SS_LOCK → is_for_update found.opened.desc.mode ≡ true
+        → long_of asker.caller.regs ≢ 0 → AsksFor Call.SetStt found (lock_claim found (long_of asker.caller.regs))
+    by-lock named code update some = (
+      _,
+      set-named named
+          ∙ ap (sets_status asker files found) code
+          ∙ ap (λ (b : Bool). refuses (not b) E_BMODE (locks_bytes asker files found (long_of asker.caller.regs))) update
+          ∙ ap (λ (b : Bool). if b then done asker.caller.regs
+          (with_records files (without_lock files.records found.opened.path.0)) else reaches found.place.drive
+          (locks_range asker files found (request_now asker files found
+          (lock_claim found (long_of asker.caller.regs))))) (not-zero (long_of asker.caller.regs) some),
+    )
+
+    -- a call that claims makes its request
+    comes-to : (call : PathCall) (claim : Claim) → Named call → Claims call asker files found claim → AsksFor call found claim
+    comes-to call claim named (Claims.reads kind is can update more claim_is) =
+        subst (AsksFor call found) (sym claim_is)
+        (subst (λ (call : PathCall). AsksFor call found (read_claim kind asker found
+        (read_start asker files found))) (sym is) (by-read kind (subst Named is named) can update more))
+    comes-to call claim named (Claims.writes bytes is can there claim_is) =
+        subst (AsksFor call found) (sym claim_is)
+        (subst (λ (call : PathCall). AsksFor call found (write_claim found I_WRITE (length bytes))) (sym is)
+        (by-write bytes (subst Named is named) can there))
+    comes-to call claim named (Claims.writes_line bytes is can there claim_is) =
+        subst (AsksFor call found) (sym claim_is)
+        (subst (λ (call : PathCall). AsksFor call found (write_claim found I_WRITLN (length bytes))) (sym is)
+        (by-line bytes (subst Named is named) can there))
+    comes-to call claim named (Claims.tells_error is may claim_is) =
+        subst (AsksFor call found) (sym claim_is)
+        (subst (λ (call : PathCall). AsksFor call found
+        (write_claim found F_PERR (length (error_line asker.caller.regs.b)))) (sym is)
+        (by-error (subst Named is named) may))
+    comes-to call claim named (Claims.sizes is code may claim_is) =
+        subst (AsksFor call found) (sym claim_is) (subst (λ (call : PathCall). AsksFor call found (size_claim found (long_of asker.caller.regs))) (sym is) (by-size (subst Named is named) code may))
+    comes-to call claim named (Claims.locks is code update some claim_is) =
+        subst (AsksFor call found) (sym claim_is)
+        (subst (λ (call : PathCall). AsksFor call found (lock_claim found (long_of asker.caller.regs))) (sym is)
+        (by-lock (subst Named is named) code update some))
+
+-- ---- how it ends
+
+-- how an attempt ends whose request is answered so, if it does not go on
+abbrev end_by_answer : Request → Grant → IoEnd → Type 0
+end_by_answer request Granted end = Unit {0}
+end_by_answer request Locked end = end ≡ fails E_LOCK
+end_by_answer request Deadlock end = end ≡ fails E_DEADLK
+end_by_answer request Wait end = end ≡ keeps (call_of request)
+
+module _ (asker : Asker) (files : Files) (drive : ℕ) (request : Request) (next : FileStep) where
+  asked-ends : (grant : Grant) (it : FileEffect) (before after : List TerminalState)
+      → DoesDeed (deed_of (asks_by grant files request next) files) asker files it before after
+      → end_by_answer request grant it.end
+  asked-ends Granted it before after does = tt
+  asked-ends Locked it before after (is, same) = ap (λ (it : FileEffect). it.end) is
+  asked-ends Deadlock it before after (is, same) = ap (λ (it : FileEffect). it.end) is
+  asked-ends Wait it before after (is, same) = ap (λ (it : FileEffect). it.end) is
+
+  well-ends : (grant : Grant) → answer_to asker files request ≡ grant → (step : FileStep) → step ≡ reaches drive
+      (asks asker files request next) → (it : FileEffect) (before after : List TerminalState)
+      → DoesDeed (deed_of step files) asker files it before after → end_by_answer request grant it.end
+  well-ends grant answer step is it before after does =
+      asked-ends grant it before after
+      (subst (λ (grant : Grant). DoesDeed (deed_of (asks_by grant files request next) files) asker files it before
+      after) answer (subst (λ (step : FileStep). DoesDeed (deed_of step files) asker files it before after) is
+      does))
+
+module _ (it : Attempt) where
+  abbrev asker : Asker
+  asker = asker_in it
+
+  abbrev step : FileStep
+  step = file_step it.call asker it.files (length it.before)
+
+  -- a drive failed in it
+  pub broken-fault : IsBroken step asker it.files it.attempted.effect → HasFault it
+  broken-fault broken =
+      subst (λ (result : CallResult). OneDriveFails (drive_of step) it.files result it.new) (sym it.attempted.result_is)
+      (subst (λ (new : Files). OneDriveFails (drive_of step) it.files (result_of it.inner it.process (io_effect it.attempted.effect)) new) (sym it.attempted.state)
+      (subst (λ (effect : FileEffect). OneDriveFails (drive_of step) it.files (result_of it.inner it.process (io_effect effect)) (files_after it.process effect)) (sym broken.effect_is) (record {
+        drive = broken.drive;
+        reaches = broken.reached;
+        number = broken.number;
+        failed = broken.failed;
+        answer = refl;
+        old = broken.old;
+        was = broken.is;
+        left = broken.left;
+        is = refl;
+      })))
+
+  -- an attempt that makes a request ends as that is answered, or a drive fails in it
+  ends-so : (grant : Grant) (so : IsAnsweredSo grant it) → end_by_answer so.request grant it.attempted.effect.end ⊎ HasFault it
+  ends-so grant so = by_does it.attempted.does
+    where
+      by_does : FileDoes step asker it.files it.attempted.effect it.before it.after → end_by_answer so.request grant it.attempted.effect.end ⊎ HasFault it
+      by_does (inl well) =
+          let (next, is) = comes-to asker it.files (length it.before) so.requests.found it.call so.requests.claim so.requests.names so.requests.claims in
+          inl (subst (end_by_answer so.request grant) (sym (ap (λ (effect : FileEffect). effect.end) well.effect_is))
+          (subst (λ (request : Request). end_by_answer request grant well.it.end) (sym so.requests.is)
+          (well-ends asker it.files so.requests.found.place.drive (request_now asker it.files so.requests.found
+          so.requests.claim) next grant (subst (λ (request : Request). answer_to asker it.files request ≡ grant)
+          so.requests.is so.answer) step is well.it it.before it.after well.does)))
+      by_does (inr (broken, same)) = inr (broken-fault broken)
+
+  result-by : (end : IoEnd) → it.attempted.effect.end ≡ end → it.result ≡ result_by end it.inner it.process (io_effect it.attempted.effect)
+  result-by end is = it.attempted.result_is ∙ ap (λ (end : IoEnd). result_by end it.inner it.process (io_effect it.attempted.effect)) is
+
+  pub deadlock-refuses : IsAnsweredSo Deadlock it → (it.result ≡ CallResult.refused E_DEADLK) ⊎ HasFault it
+  deadlock-refuses so = by_end (ends-so Deadlock so)
+    where
+      by_end : (it.attempted.effect.end ≡ fails E_DEADLK) ⊎ HasFault it → (it.result ≡ CallResult.refused E_DEADLK) ⊎ HasFault it
+      by_end (inl is) = inl (result-by (fails E_DEADLK) is)
+      by_end (inr fault) = inr fault
+
+  pub lock-refuses : IsAnsweredSo Locked it → (it.result ≡ CallResult.refused E_LOCK) ⊎ HasFault it
+  lock-refuses so = by_end (ends-so Locked so)
+    where
+      by_end : (it.attempted.effect.end ≡ fails E_LOCK) ⊎ HasFault it → (it.result ≡ CallResult.refused E_LOCK) ⊎ HasFault it
+      by_end (inl is) = inl (result-by (fails E_LOCK) is)
+      by_end (inr fault) = inr fault
+
+  -- ---- and for no other cause
+
+  -- the number of a drive's fault is of no lock
+  pub fault-number : (fault : Option DriveFault) (number : ℕ) → option_map drive_error fault ≡ Some number → is_of_lock number ≡ false
+  fault-number None number is = absurd (none-some number is)
+  fault-number (Some fault) number is = subst (λ (n : ℕ). is_of_lock n ≡ false) (same_Some (drive_error fault) number is) (by_fault fault)
+    where
+      by_fault : (fault : DriveFault) → is_of_lock (drive_error fault) ≡ false
+      by_fault WriteProtect = refl
+      by_fault ReadFault = refl
+      by_fault WriteFault = refl
+      by_fault NotReady = refl
+      by_fault SeekFault = refl
+
+  -- how a lock refuses it
+  abbrev Opposed : ℕ → Type 0
+  Opposed number =
+      (number ≡ E_LOCK) × IsAnsweredSo Locked it ⊎ (number ≡ E_DEADLK) × IsAnsweredSo Deadlock it
+
+  same-number : (one other : ℕ) → fails one ≡ fails other → other ≡ one
+  same-number one other is = cc
+
+  not-kept : (request : Request) (number : ℕ) → keeps (call_of request) ≡ fails number → ⊥
+  not-kept request number is = cc
+
+  left-opposed : (effect : FileEffect) → LeftSo it.call asker it.files (length it.before) effect → (number : ℕ) → is_of_lock number ≡ true → effect.end ≡ fails number → Opposed number
+  left-opposed effect (LeftSo.still so) number of_lock is = absurd (false≢true (sym (so.number number is) ∙ of_lock))
+  left-opposed effect (LeftSo.held request kind bytes granted fits done recorded) number of_lock is =
+      absurd (not-refused done.regs number (sym done.end ∙ is))
+  left-opposed effect (LeftSo.ended found names done recorded) number of_lock is =
+      absurd (not-refused done.regs number (sym done.end ∙ is))
+  left-opposed effect (LeftSo.waited request requests answer left) number of_lock is =
+      absurd (not-kept request number (sym (ap (λ (it : FileEffect). it.end) left) ∙ is))
+  left-opposed effect (LeftSo.opposed request requests (inl (answer, left))) number of_lock is =
+      inl (same-number E_LOCK number (sym (ap (λ (it : FileEffect). it.end) left) ∙ is), record { request = request; requests = requests; answer = answer })
+  left-opposed effect (LeftSo.opposed request requests (inr (answer, left))) number of_lock is =
+      inr (same-number E_DEADLK number (sym (ap (λ (it : FileEffect). it.end) left) ∙ is), record { request = request; requests = requests; answer = answer })
+
+  deed-opposed : (reached : Option ℕ) (deed : Deed) → deed_of step it.files ≡ deed → Claimed it.call asker it.files
+      (length it.before) reached deed → (effect : FileEffect) → DoesDeed deed asker it.files effect it.before it.after
+      → (number : ℕ) → is_of_lock number ≡ true → effect.end ≡ fails number → DoesAsDevice it ⊎ Opposed number
+  deed-opposed reached (leaves_so left) deed_is claimed effect (is, same) number of_lock ends =
+      inr (left-opposed left claimed number of_lock (sym (ap (λ (it : FileEffect). it.end) is) ∙ ends))
+  deed-opposed reached (as_io io) deed_is claimed effect does number of_lock ends = inl (io, deed_is)
+  deed-opposed reached (changes change) deed_is claimed effect (inl changed, same) number of_lock ends =
+      let done = claimed.answered changed.number in
+      absurd (not-refused done.regs number (sym done.end ∙ sym (ap (λ (it : FileEffect). it.end) changed.effect_is) ∙ ends))
+  deed-opposed reached (changes change) deed_is claimed effect (inr long, same) number of_lock ends =
+      let same_is : number ≡ E_SLF = same-number E_SLF number (sym (ap (λ (it : FileEffect). it.end) long.effect_is) ∙ ends) in
+      absurd (false≢true (sym (ap is_of_lock same_is) ∙ of_lock))
+
+  opposed : (number : ℕ) → is_of_lock number ≡ true → it.result ≡ CallResult.refused number → DoesAsDevice it ⊎ Opposed number
+  opposed number of_lock is =
+      by_does it.attempted.does (ends-refused it.attempted.effect.end it.inner it.process (io_effect it.attempted.effect) number (sym it.attempted.result_is ∙ is))
+    where
+      by_does : FileDoes step asker it.files it.attempted.effect it.before it.after → it.attempted.effect.end ≡ fails number → DoesAsDevice it ⊎ Opposed number
+      by_does (inl well) ends =
+          deed-opposed (drive_of step) (deed_of step it.files) refl (claimed it.call asker it.files
+          (length it.before)) well.it well.does number of_lock
+          (sym (ap (λ (it : FileEffect). it.end) well.effect_is) ∙ ends)
+      by_does (inr (broken, same)) ends =
+          let same_is : number ≡ broken.number = same-number broken.number number (sym (ap (λ (it : FileEffect). it.end) broken.effect_is) ∙ ends) in
+          absurd (false≢true (sym (fault-number _ broken.number broken.failed.last) ∙ ap is_of_lock (sym same_is) ∙ of_lock))
+
+  pub deadlock-only : it.result ≡ CallResult.refused E_DEADLK → DoesAsDevice it ⊎ IsAnsweredSo Deadlock it
+  deadlock-only is = by_cause (opposed E_DEADLK refl is)
+    where
+      by_cause : DoesAsDevice it ⊎ Opposed E_DEADLK → DoesAsDevice it ⊎ IsAnsweredSo Deadlock it
+      by_cause (inl device) = inl device
+      by_cause (inr (inl (same, so))) = absurd (differ same)
+        where
+          differ : E_DEADLK ≡ E_LOCK → ⊥
+          differ is = omega (arith, is)
+      by_cause (inr (inr (same, so))) = inr so
+
+  pub lock-only : it.result ≡ CallResult.refused E_LOCK → DoesAsDevice it ⊎ IsAnsweredSo Locked it
+  lock-only is = by_cause (opposed E_LOCK refl is)
+    where
+      by_cause : DoesAsDevice it ⊎ Opposed E_LOCK → DoesAsDevice it ⊎ IsAnsweredSo Locked it
+      by_cause (inl device) = inl device
+      by_cause (inr (inl (same, so))) = inr so
+      by_cause (inr (inr (same, so))) = absurd (differ same)
+        where
+          differ : E_LOCK ≡ E_DEADLK → ⊥
+          differ is = omega (arith, is)

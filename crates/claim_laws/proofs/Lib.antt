@@ -1,0 +1,7 @@
+pub mod Answers
+mod Bytes
+pub mod Contents
+pub mod Covering
+pub mod Cycles
+mod Open
+mod Volumes

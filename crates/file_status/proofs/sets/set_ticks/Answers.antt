@@ -1,0 +1,15 @@
+use Rattle.file_state.specs.declared.state.FileState.{FileState}
+use Rattle.file_status.proofs.TickLemmas.{still-there, ticked-on, ticks-set}
+use Rattle.file_status.proofs.sets.set_ticks.Goals as goal
+
+pub set_ticks-requires : goal.set_ticks-requires
+set_ticks-requires c =
+    still-there c.args.files.now c.answer-end.new.files c.args.p.0 c.args.opened.now c.answer-end.ensures.files c.requires.path.desc
+
+pub returns-clause-call : goal.returns-clause-call
+returns-clause-call c now views m was it terms tied stands open_is =
+    let new : FileState = record c.answer-end.new.files { io = c.set_ticks.new.self } in
+    ticks-set _ m was now c.args.p.0 c.answer-end.result c.answer-end.new.s c.args.files.now new views terms c.args.opened.now it stands open_is
+    c.regs-regs.result (c.regs-regs.ensures.tied m tied)
+    (ticked-on c.args.files.now c.answer-end.new.files c.args.p.0 c.args.opened.now c.regs-regs.result.x c.set_ticks.new.self c.answer-end.ensures.files c.requires.path.desc c.set_ticks.ensures)
+    c.answer-end.ensures.end (c.answer-end.ensures.tied m tied)

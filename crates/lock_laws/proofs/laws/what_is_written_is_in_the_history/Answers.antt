@@ -1,0 +1,11 @@
+use Rattle.lock_laws.proofs.Histories.{event-gains, event-gains-own, event-gains-read}
+use Rattle.lock_laws.proofs.Writes.{event-written}
+use Rattle.lock_laws.proofs.laws.what_is_written_is_in_the_history.Goals as goal
+
+pub returns : goal.returns
+returns c = record {
+  gains = event-gains;
+  own = event-gains-own;
+  read = event-gains-read;
+  written = event-written;
+}

@@ -1,0 +1,58 @@
+-- Bytes of files that are locked, and those that are written, with the history (Level Two manual, RBF record locking;
+-- the history is this project's own).
+use Rattle.std.specs.Prelude.{◌≡◌, ◌⊎◌, ℕ, ◌<◌, ◌≤◌, Option, Some, None, List, [], ◌∷◌, ◌++◌, length}
+use Rattle.std.specs.List.{AllByRecursion}
+use Rattle.lock_model.specs.Laws.{IsIn}
+use Rattle.lock_model.specs.declared.history.Entry.{Entry}
+use Rattle.lock_model.specs.declared.lock.EntryKind.TheVariants.{Drop, Get, Put}
+use Rattle.lock_model.specs.declared.lock.Range.{Range}
+use Rattle.lock_model.specs.declared.place.FilePlace.{FilePlace}
+use Rattle.rbf_change.specs.Contents.{bytes_from}
+use Rattle.file_rules.specs.Files.{Files}
+use Rattle.claim_laws.specs.Contents.{ChangesWithin, KeepsByte, contents_of}
+use Rattle.machine_model.specs.State.{State}
+
+-- each byte that a file has in a range stays; if the range has no end, the file is given none in it
+pub record KeepsLocked (range : Range) (old new : List ℕ) : Type 0 where
+  pub kept : (at : ℕ) → IsIn at range → at < length old → KeepsByte at old new
+  pub none_new : range.end ≡ None → (at : ℕ) → range.start ≤ at → at < length new → at < length old
+
+-- the history has gained these entries
+pub record HasGained (s t : State) : Type 0 where
+  pub entries : List Entry
+  pub is : t.files.records.history ≡ s.files.records.history ++ entries
+
+-- an entry is that of a lock that ended without a Get or a Put, or one of the chosen process
+abbrev pub IsEntryOf : Option ℕ → Entry → Type 0
+IsEntryOf chosen entry = (entry.kind ≡ Drop) ⊎ (chosen ≡ Some entry.process)
+
+-- each entry that the history has gained is one of these
+pub record GainsOwn (s t : State) : Type 0 where
+  pub gained : HasGained s t
+  pub own : AllByRecursion (IsEntryOf s.chosen) gained.entries
+
+-- contents have these bytes from a place on
+abbrev pub HasBytes : List ℕ → ℕ → List ℕ → Type 0
+HasBytes contents at bytes = bytes_from contents at (length bytes) ≡ bytes
+
+-- if an entry is that of a read, it has the bytes that the file had from the start of its range on
+abbrev pub IsReadOf : Files → Entry → Type 0
+IsReadOf files entry =
+    entry.kind ≡ Get → HasBytes (contents_of files entry.file) entry.range.start entry.bytes
+
+-- each entry that the history has gained is so
+pub record GainsRead (s t : State) : Type 0 where
+  pub gained : HasGained s t
+  pub read : AllByRecursion (IsReadOf s.files) gained.entries
+
+-- the last entry of the history is new: the chosen process wrote a range of the file, which has all that has changed,
+-- but for the bytes that fill a gap between the old end and the range; the file has the bytes of the entry then from
+-- the start of the range on (SS.Size enters none)
+pub record IsWritten (s t : State) (place : FilePlace) : Type 0 where
+  pub entry : Entry
+  pub last : t.files.records.history ≡ s.files.records.history ++ entry ∷ []
+  pub writes : entry.kind ≡ Put
+  pub process : s.chosen ≡ Some entry.process
+  pub file : entry.file ≡ place
+  pub within : ChangesWithin entry.range (contents_of s.files place) (contents_of t.files place)
+  pub bytes : HasBytes (contents_of t.files place) entry.range.start entry.bytes
