@@ -33,7 +33,8 @@ use Rattle.os9_boot.proofs.MachineLemmas.{EndsSo, IsOfMachine, RunFails, machine
 use Rattle.session_text.specs.Typed.{kept_keys, kept_slices}
 use Rattle.session_text.specs.declared.typed.Typed.{Typed}
 use Rattle.console_run.specs.Keyboard.{KeyboardState}
-use Rattle.console_run.specs.Session.{AsksKeyboard, HasSession, IsSessionTo, StopsSession}
+use Rattle.console_run.specs.Lines.{KeepsLines}
+use Rattle.console_run.specs.Session.{AsksKeyboard, HasSession, IsPartTo, IsSessionTo, StopsFor, StopsSession}
 use Rattle.console_run.specs.TypedTurn.{TypedTurn}
 use Rattle.console_run.specs.declared.session.SessionEnd.TheVariants.{LineLost, OfRun}
 use Rattle.console_run.specs.declared.turns.Stop.{Stop}
@@ -43,11 +44,13 @@ use Rattle.console_boot.specs.Images.{LeavesSession, RunsConsole}
 -- ---- ends before a machine ran
 
 -- memory was out
-pub out-of-memory : (boot : RunWords) (typed : Typed) (from to : KeyboardState) (before after : World) → after ≡ before → ConsoleCall boot typed NoMemory from to before after
-out-of-memory boot typed from to before after same = record {
+pub out-of-memory : (boot : RunWords) (typed : Typed) (from to : KeyboardState) (before after : World)
+    → KeepsLines typed from to → after ≡ before → ConsoleCall boot typed NoMemory from to before after
+out-of-memory boot typed from to before after lines same = record {
   comes = by before.files;
   may = tt;
   keyboard = tt;
+  lines = lines;
   devices = tt;
   host = kept-counts before after same;
   files = same-changes (output_names (outputs_of boot)) before.files after.files (λ i. (same i).files);
@@ -59,11 +62,12 @@ out-of-memory boot typed from to before after same = record {
 
 -- an image could not be read, or memory was out
 pub console-stopped : (boot : RunWords) (typed : Typed) (keyboard : KeyboardState) (before after : World) (end : End)
-    → StopsAtRead (run_file_name boot) before after end → ConsoleCall boot typed end keyboard keyboard before after
-console-stopped boot typed keyboard before after (CannotRead input) (name, named, it) = record {
+    → KeepsLines typed keyboard keyboard → StopsAtRead (run_file_name boot) before after end → ConsoleCall boot typed end keyboard keyboard before after
+console-stopped boot typed keyboard before after (CannotRead input) lines (name, named, it) = record {
   comes = by before.files;
   may = tt;
   keyboard = refl;
+  lines = lines;
   devices = record { out = it.out; devices = it.devices };
   host = (name, named, it.failed);
   files = it.files;
@@ -72,8 +76,8 @@ console-stopped boot typed keyboard before after (CannotRead input) (name, named
     by : (files : Option Files) → IfSome files (λ files. ConsoleComesTo files boot typed keyboard keyboard before after (CannotRead input))
     by None = tt
     by (Some files) = tt
-console-stopped boot typed keyboard before after NoMemory same = out-of-memory boot typed keyboard keyboard before after same
-console-stopped boot typed keyboard before after end stops = absurd stops
+console-stopped boot typed keyboard before after NoMemory lines same = out-of-memory boot typed keyboard keyboard before after lines same
+console-stopped boot typed keyboard before after end lines stops = absurd stops
 
 -- what follows of the images that were read
 of-files : (told : Option Files) (boot : RunWords) (images : List (List ℕ)) (fact : Files → Type 0)
@@ -84,27 +88,29 @@ of-files (Some files) boot images fact has follows = follows files has
 
 -- the images were refused
 pub console-refused : (boot : RunWords) (typed : Typed) (keyboard : KeyboardState) (before after : World) (end : End)
-    (images : List (List ℕ)) → after ≡ before → IfSome before.files (λ files. images ≡ images_of files boot.files)
+    (images : List (List ℕ)) → KeepsLines typed keyboard keyboard → after ≡ before → IfSome before.files (λ files. images ≡ images_of files boot.files)
     → RefusesImages images end → ConsoleCall boot typed end keyboard keyboard before after
-console-refused boot typed keyboard before after (BadImage number fault) images same has refused = record {
+console-refused boot typed keyboard before after (BadImage number fault) images lines same has refused = record {
   comes = of-files before.files boot images (λ files. ConsoleComesTo files boot typed keyboard keyboard before after
       (BadImage number fault)) has (λ files is. subst (λ images. IsFirstFault images number fault) is refused);
   may = tt;
   keyboard = refl;
+  lines = lines;
   devices = still-silent before after same;
   host = kept-counts before after same;
   files = λ i. (same i).files;
 }
-console-refused boot typed keyboard before after BadBounds images same has refused = record {
+console-refused boot typed keyboard before after BadBounds images lines same has refused = record {
   comes = of-files before.files boot images (λ files. ConsoleComesTo files boot typed keyboard keyboard before after BadBounds) has (λ files is. subst LackBootFile is refused);
   may = tt;
   keyboard = refl;
+  lines = lines;
   devices = still-silent before after same;
   host = kept-counts before after same;
   files = λ i. (same i).files;
 }
-console-refused boot typed keyboard before after NoMemory images same has refused = out-of-memory boot typed keyboard keyboard before after same
-console-refused boot typed keyboard before after end images same has refused = absurd refused
+console-refused boot typed keyboard before after NoMemory images lines same has refused = out-of-memory boot typed keyboard keyboard before after lines same
+console-refused boot typed keyboard before after end images lines same has refused = absurd refused
 
 -- ---- a machine ran
 
@@ -140,27 +146,27 @@ leaves-then setup images history typed before mid after turns t out devices it =
 
 stops-then : (setup : Setup) (images : List (List ℕ)) (history : List Entry) (typed : Typed) (lives : Bool) (stop : Stop)
     (from to : KeyboardState) (before mid after : World) → after.out ≡ mid.out → after.devices ≡ mid.devices
-    → StopsSession (LeavesSession setup images history typed before mid) lives stop from to
-    → StopsSession (LeavesSession setup images history typed before after) lives stop from to
+    → StopsSession (LeavesSession setup images history typed before mid) lives stop from to before mid
+    → StopsSession (LeavesSession setup images history typed before after) lives stop from to before after
 stops-then setup images history typed lives stop from to before mid after out devices it = record {
   turns = it.turns;
   t = it.t;
   came = leaves-then setup images history typed before mid after it.turns it.t out devices it.came;
   living = it.living;
-  stops = it.stops;
+  stops = subst (λ (stream : Option (List ℕ)). StopsFor stop it.turns it.t from to before.out stream) (sym out) it.stops;
 }
 
 module _ (setup : Setup) (typed : Typed) (outputs : Outputs) (images : List (List ℕ)) (history : List Entry)
     (from to : KeyboardState) (before mid after : World) (answer : End) (still : mid.files ≡ before.files) where
-  none-refused : (fault : BootFault) → WasSession setup outputs typed from to before after (boot_end fault)
-  none-refused OutOfMemory = tt
-  none-refused (BadModuleFault at error) = tt
-  none-refused NoFirstFault = tt
-  none-refused TooLargeFault = tt
+  none-refused : (fault : BootFault) → after.files ≡ before.files → to ≡ from → WasSession setup outputs typed from to before after (boot_end fault)
+  none-refused OutOfMemory kept asks = λ told. inl (kept, inl asks)
+  none-refused (BadModuleFault at error) kept asks = tt
+  none-refused NoFirstFault kept asks = tt
+  none-refused TooLargeFault kept asks = tt
 
   -- it ran to its end, and its images were written
   ends-as : (lives : Bool) → (All IsObserved before.devices.terms → StopsSession (LeavesSession setup images history typed
-      before mid) lives Stop.Over from to) → after.out ≡ mid.out → after.devices ≡ mid.devices
+      before mid) lives Stop.Over from to before mid) → after.out ≡ mid.out → after.devices ≡ mid.devices
       → IfObserved (WritesAll (output_names outputs) (output_bytes outputs images history)) mid.files after.files
       → All IsObserved before.devices.terms → EndsAsSession setup outputs typed lives from to before after
   ends-as lives it out devices wrote told = record {
@@ -172,7 +178,7 @@ module _ (setup : Setup) (typed : Typed) (outputs : Outputs) (images : List (Lis
 
   -- or up to one
   ends-part : (lives : Bool) → (All IsObserved before.devices.terms → StopsSession (LeavesSession setup images history typed
-      before mid) lives Stop.Over from to) → after.out ≡ mid.out → after.devices ≡ mid.devices → (number : ℕ)
+      before mid) lives Stop.Over from to before mid) → after.out ≡ mid.out → after.devices ≡ mid.devices → (number : ℕ)
       → IfObserved (WritesUpTo number (output_names outputs) (output_bytes outputs images history)) mid.files after.files
       → All IsObserved before.devices.terms → EndsUnwritten setup outputs typed number from to before after
   ends-part lives it out devices number wrote told = record {
@@ -205,17 +211,23 @@ module _ (setup : Setup) (typed : Typed) (outputs : Outputs) (images : List (Lis
           after answer
       by (inl (is, kept, all)) = subst (WasSession setup outputs typed from to before after) (sym is) (was wrote.out_kept wrote.devices_kept all)
       by (inr (number, (written, inl (is, failed)))) = subst (WasSession setup outputs typed from to before after) (sym is) (was-part number (part wrote.out_kept wrote.devices_kept number written))
-      by (inr (number, (written, inr (is, kept)))) = subst (WasSession setup outputs typed from to before after) (sym is) tt
+      by (inr (number, (written, inr (is, kept)))) =
+          subst (WasSession setup outputs typed from to before after) (sym is) (λ told. inr (number, part wrote.out_kept wrote.devices_kept number written told))
 
   was-session : (end : RunEnd) → (All IsObserved before.devices.terms → IsSessionTo (LeavesSession setup images history typed
-      before mid) (OfRun end) from to) → EndsBoot outputs (output_bytes outputs images history) end answer mid after → WasSession setup outputs typed
-      from to before after answer
-  was-session (Run.Ended begun) it ends = was-written Ended (λ out devices wrote. ends-as false it out devices wrote) (λ out devices number wrote. ends-part false it out devices number wrote) ends
-  was-session (Run.Living begun) it ends = was-written Living (λ out devices wrote. ends-as true it out devices wrote) (λ out devices number wrote. ends-part true it out devices number wrote) ends
-  was-session (Run.Refused fault) it (is, same) = subst (WasSession setup outputs typed from to before after) (sym is) (none-refused fault)
-  was-session (Run.DriveFailed drive number) it (is, same) = subst (WasSession setup outputs typed from to before after) (sym is) tt
-  was-session Run.OutputFailed it (is, same) = subst (WasSession setup outputs typed from to before after) (sym is) tt
-  was-session Run.NoMemory it (is, same) = subst (WasSession setup outputs typed from to before after) (sym is) tt
+      before mid) (OfRun end) from to before mid) → AsksKeyboard (OfRun end) from to
+      → (All IsObserved before.devices.terms → IsPartTo setup typed (OfRun end) from to before) → EndsBoot outputs (output_bytes outputs images history)
+      end answer mid after → WasSession setup outputs typed from to before after answer
+  was-session (Run.Ended begun) it asks part ends = was-written Ended (λ out devices wrote. ends-as false it out
+      devices wrote) (λ out devices number wrote. ends-part false it out devices number wrote) ends
+  was-session (Run.Living begun) it asks part ends = was-written Living (λ out devices wrote. ends-as true it out
+      devices wrote) (λ out devices number wrote. ends-part true it out devices number wrote) ends
+  was-session (Run.Refused fault) it asks part (is, same) =
+      subst (WasSession setup outputs typed from to before after) (sym is) (none-refused fault (ap (λ (world : World). world.files) same ∙ still) asks)
+  was-session (Run.DriveFailed drive number) it asks part (is, same) = subst (WasSession setup outputs typed from to before after) (sym is) tt
+  was-session Run.OutputFailed it asks part (is, same) = subst (WasSession setup outputs typed from to before after) (sym is) part
+  was-session Run.NoMemory it asks part (is, same) =
+      subst (WasSession setup outputs typed from to before after) (sym is) (λ told. inl (ap (λ (world : World). world.files) same ∙ still, part told))
 
 -- ---- the keyboard
 
@@ -302,13 +314,14 @@ console-ended boot typed file images new history from to before mid after end an
     let setup : Setup = boot_setup boot file images typed in
     let it = machine-ends setup (outputs_of boot) new history before mid after end answer ran.machine ends in
     let was : WasSession setup (outputs_of boot) typed from to before after answer =
-    was-session setup typed (outputs_of boot) new history from to before mid after answer ran.machine.files_kept end ran.session ends in
+    was-session setup typed (outputs_of boot) new history from to before mid after answer ran.machine.files_kept end ran.session ran.keyboard ran.stopped ends in
     record {
       comes = of-files before.files boot images (λ files. ConsoleComesTo files boot typed from to before after answer)
           has (λ files is. console-comes files boot typed setup from to before after (sets-up files boot typed file
           images volumes whole is) answer it.kind it.comes was);
       may = may-end (outputs_of boot) before after answer it.kind it.host;
       keyboard = keyboard-left (outputs_of boot) (output_bytes (outputs_of boot) new history) from to mid after answer end ran.keyboard ends;
+      lines = ran.lines;
       devices = subst (λ count. LeavesDevices count before after answer) many it.devices;
       host = fails-as boot before after answer it.host;
       files = it.files;
@@ -332,6 +345,7 @@ console-lost boot typed file images new history from to before after volumes who
           })));
       may = tt;
       keyboard = tt;
+      lines = ran.lines;
       devices = tt;
       host = ran.machine.no_fault ran.at_line;
       files = same-changes (output_names (outputs_of boot)) before.files after.files ran.machine.files_kept;

@@ -1,5 +1,5 @@
 -- A session with images in the drives.
-use Rattle.std.proofs.Common.{◌≡◌, Bool, true, false, List, ℕ, Some, length, slice_get, sym, subst, ap, ◌∙◌}
+use Rattle.std.proofs.Common.{◌≡◌, Bool, true, false, List, ℕ, Some, length, slice_get, sym, subst, ap, ◌∙◌, inl, inr}
 use Rattle.lock_model.specs.declared.history.Entry.{Entry}
 use Rattle.rbf_model.specs.Volume.{Vol}
 use Rattle.os9_outer.specs.TerminalState.{TerminalState}
@@ -14,9 +14,9 @@ use Rattle.image_laws.proofs.Images.{written-back}
 use Rattle.image_laws.proofs.Runs.{run-keeps-ends}
 use Rattle.image_laws.proofs.Starts.{start-has-images}
 use Rattle.os9_kernel.specs.Outside.{Outside}
-use Rattle.boot_run.specs.Machine.{Setup, boot_of}
+use Rattle.boot_run.specs.Machine.{Setup, StartsLoaded, boot_of}
 use Rattle.boot_run.specs.World.{World}
-use Rattle.boot_run.specs.declared.machine.RunEnd.TheVariants.{Ended, Living}
+use Rattle.boot_run.specs.declared.machine.RunEnd.TheVariants.{Ended, Living, NoMemory, OutputFailed}
 use Rattle.boot_images.specs.Drives.{TakesImages, holding}
 use Rattle.boot_images.specs.Outcome.{IsImageOf}
 use Rattle.boot_images.proofs.DriveLemmas.{counts-holding, counts-without}
@@ -24,7 +24,7 @@ use Rattle.session_text.specs.Typed.{kept_keys, kept_slices}
 use Rattle.session_text.specs.declared.typed.Typed.{Typed}
 use Rattle.console_run.specs.Kept.{load_of}
 use Rattle.console_run.specs.Keyboard.{KeyboardState}
-use Rattle.console_run.specs.Session.{IsSessionTo, LeadsSession, StopsSession, untyped}
+use Rattle.console_run.specs.Session.{IsPartTo, IsSessionTo, LeadsSession, StopsSession, StopsWithin, untyped}
 use Rattle.console_run.specs.TypedTurn.{TypedTurn}
 use Rattle.console_run.specs.declared.session.SessionEnd.{SessionEnd}
 use Rattle.console_run.specs.declared.session.SessionEnd.TheVariants.{LineLost, OfRun}
@@ -42,6 +42,12 @@ module _ (setup : Setup) (typed : Typed) (before ran : World) (inside left : Out
   abbrev after : World
   after = record ran { devices = left }
 
+  starts-before : (s : State) → StartsLoaded (untyped setup) held s → StartsLoaded (untyped setup) before s
+  starts-before s starts =
+      let same : drive_states inside.drives ≡ drive_states before.devices.drives = ap drive_states put ∙ counts-holding setup.images before.devices.drives in
+      subst (λ (drives : List DriveState). Starts (record (boot_of (untyped setup) before) { drives = drives }) s) same
+      (subst (λ (terms : List TerminalState). Starts (record (boot_of (untyped setup) held) { terms = loaded (untyped setup).keys terms }) s) terms_put starts)
+
   module _ (turns : List TypedTurn) (t : State) (it : LeadsSession setup typed history held ran turns t) where
     image-of : (drive : ℕ) (was now : List ℕ) → slice_get setup.images drive ≡ Some was → slice_get new drive ≡ Some now → IsImageOf t drive was now
     image-of drive was now at there =
@@ -56,22 +62,19 @@ module _ (setup : Setup) (typed : Typed) (before ran : World) (inside left : Out
         }
 
     leaves : LeavesSession setup new history typed before after turns t
-    leaves =
-        let same : drive_states inside.drives ≡ drive_states before.devices.drives = ap drive_states put ∙ counts-holding setup.images before.devices.drives in
-        record {
-          s = it.s;
-          starts =
-              subst (λ (drives : List DriveState). Starts (record (boot_of (untyped setup) before) { drives = drives }) it.s) same
-              (subst (λ (terms : List TerminalState). Starts (record (boot_of (untyped setup) held) { terms = loaded (untyped setup).keys terms }) it.s) terms_put it.starts);
-          session = it.session;
-          terminals = terms_left ∙ it.terminals;
-          drives = ap drive_states taken.left ∙ counts-without ran.devices.drives ∙ sym it.drives.counts;
-          volumes = record { as_many = as_many; each = image-of };
-          recorded = it.recorded;
-        }
+    leaves = record {
+      s = it.s;
+      starts = starts-before it.s it.starts;
+      session = it.session;
+      terminals = terms_left ∙ it.terminals;
+      drives = ap drive_states taken.left ∙ counts-without ran.devices.drives ∙ sym it.drives.counts;
+      volumes = record { as_many = as_many; each = image-of };
+      recorded = it.recorded;
+    }
 
   stopped : (lives : Bool) (stop : Stop) (from to : KeyboardState) → StopsSession (LeadsSession setup typed history held ran)
-      lives stop from to → StopsSession (LeavesSession setup new history typed before after) lives stop from to
+      lives stop from to held ran → StopsSession (LeavesSession setup new history typed before after) lives stop from to before
+      after
   stopped lives stop from to it = record {
     turns = it.turns;
     t = it.t;
@@ -81,8 +84,19 @@ module _ (setup : Setup) (typed : Typed) (before ran : World) (inside left : Out
   }
 
   pub session-between : (end : SessionEnd) (from to : KeyboardState) → IsSessionTo (LeadsSession setup typed history held ran)
-      end from to → IsSessionTo (LeavesSession setup new history typed before after) end from to
+      end from to held ran → IsSessionTo (LeavesSession setup new history typed before after) end from to before after
   session-between (OfRun (Ended begun)) from to it = stopped false Stop.Over from to it
   session-between (OfRun (Living begun)) from to it = stopped true Stop.Over from to it
   session-between (OfRun end) from to it = tt
   session-between (LineLost end) from to it = stopped true Stop.LineLost from to it
+
+  within : (from to : KeyboardState) → StopsWithin setup typed from to held → StopsWithin setup typed from to before
+  within from to it = record { s = it.s; starts = starts-before it.s it.starts; part = it.part }
+
+  pub part-between : (end : SessionEnd) (from to : KeyboardState) → IsPartTo setup typed end from to held
+      → IsPartTo setup typed end from to before
+  part-between (OfRun OutputFailed) from to it = within from to it
+  part-between (OfRun NoMemory) from to (inl kept) = inl kept
+  part-between (OfRun NoMemory) from to (inr it) = inr (within from to it)
+  part-between (OfRun end) from to it = tt
+  part-between (LineLost end) from to it = tt

@@ -13,6 +13,7 @@ use Rattle.os9_boot.specs.History.{output_names, outputs_of}
 use Rattle.os9_boot.specs.TopCall.{Reports, words_status}
 use Rattle.session_text.specs.declared.typed.Typed.{Typed}
 use Rattle.console_run.specs.Keyboard.{KeyboardState}
+use Rattle.console_run.specs.Lines.{KeepsLines}
 use Rattle.console_boot.specs.Call.{ConsoleCall}
 use Rattle.console_boot.proofs.CallLemmas.{out-of-memory}
 use Rattle.console_boot.specs.Record.{HasWrittenRecord, Records}
@@ -70,8 +71,9 @@ module _ (words : List (List ℕ)) (from to : KeyboardState) (before after : Wor
   top-unspelled line refused same kept = rw refused (record { words = record { undone = same; line = inl (refl, line) }; keyboard = kept })
 
   -- memory was out before it was known
-  pub top-memory : (typed : Typed) → Reports no_memory_line noted notes → after ≡ before → to ≡ from → TopConsole words from to before after noted notes (status_number NoMemory)
-  top-memory typed line same kept = by (console_of words) refl
+  pub top-memory : (typed : Typed) → KeepsLines typed from to → Reports no_memory_line noted notes → after ≡ before
+      → to ≡ from → TopConsole words from to before after noted notes (status_number NoMemory)
+  top-memory typed lines line same kept = by (console_of words) refl
     where
       by : (found : Option ConsoleWords) → console_of words ≡ found → TopConsole words from to before after noted notes (status_number NoMemory)
       by None is = rw is (record { words = record { undone = same; line = inr (refl, line) }; keyboard = kept })
@@ -80,7 +82,7 @@ module _ (words : List (List ℕ)) (from to : KeyboardState) (before after : Wor
             typed = typed;
             end = NoMemory;
             mid = after;
-            call = out-of-memory read.boot typed from to before after same;
+            call = out-of-memory read.boot typed from to before after lines same;
             recording = Unasked;
             recorded = record { unasked = λ none. (refl, refl); asked = λ never. absurd (false≢true never); out = refl; devices = refl };
             status_is = refl;

@@ -34,14 +34,17 @@ named-so text (Some word) other name value is kept = ap text is ∙ ap (λ (valu
 -- the words that are appended one after the other
 pub replay-is : (given : Given) (one two three four five six all : List (List ℕ)) (script slices : List ℕ) → one ≡ codes "boot" ∷ [] → two ≡ one ++ script ∷ [] → three ≡ two ++ slices ∷ []
     → script ≡ codes "--script=" ++ record_name given ++ codes ".script" → slices ≡ codes "--slices=" ++ record_name given ++ codes ".slices"
-    → four ≡ three ++ option_words (codes "--blocks=") (value_of given (codes "blocks")) → five ≡ four ++ option_words (codes "--time=") (value_of given (codes "time")) → six ≡ five ++ codes "--" ∷ [] → all ≡ six ++ take (most_images + 1) given.arguments
+    → four ≡ three ++ option_words (codes "--blocks=") (value_of given (codes "blocks")) → five ≡ four ++ option_words
+    (codes "--time=") (value_of given (codes "time")) → six ≡ five ++ codes "--" ∷ [] → all ≡ six ++ take
+    (most_images + 1) given.arguments
     → all ≡ replay_words given
 replay-is given one two three four five six all script slices is_one is_two is_three is_script is_slices is_four is_five is_six is_all =
     let blocks : List (List ℕ) = option_words (codes "--blocks=") (value_of given (codes "blocks")) in
     let time : List (List ℕ) = option_words (codes "--time=") (value_of given (codes "time")) in
     let images : List (List ℕ) = take (most_images + 1) given.arguments in
     let names : three ≡ codes "boot" ∷ script ∷ slices ∷ [] = is_three ∙ ap (λ (front : List (List ℕ)). front ++ slices ∷ []) (is_two ∙ ap (λ (front : List (List ℕ)). front ++ script ∷ []) is_one) in
-    let options : five ≡ (codes "boot" ∷ script ∷ slices ∷ blocks) ++ time = is_five ∙ ap (λ (front : List (List ℕ)). front ++ time) (is_four ∙ ap (λ (front : List (List ℕ)). front ++ blocks) names) in
+    let options : five ≡ (codes "boot" ∷ script ∷ slices ∷ blocks) ++ time = is_five ∙ ap (λ (front : List (List ℕ)).
+    front ++ time) (is_four ∙ ap (λ (front : List (List ℕ)). front ++ blocks) names) in
     is_all
     ∙ ap (λ (front : List (List ℕ)). front ++ images) (is_six ∙ ap (λ (front : List (List ℕ)). front ++ codes "--" ∷ []) options)
     ∙ append_assoc ((codes "boot" ∷ script ∷ slices ∷ blocks) ++ time) (codes "--" ∷ []) images

@@ -13,7 +13,8 @@ use Rattle.command_files.specs.declared.status.End.{End}
 use Rattle.command_files.specs.declared.status.End.TheVariants.{Ended, Living, CannotRead, CannotWrite, CannotWriteFile, CannotWriteImage, NoMemory, BadImage, BadText, BadBounds}
 use Rattle.session_text.specs.Typed.{kept_keys, kept_slices}
 use Rattle.console_run.specs.Keyboard.{KeyboardState}
-use Rattle.console_run.specs.Session.{StopsSession}
+use Rattle.console_run.specs.Lines.{KeepsLines}
+use Rattle.console_run.specs.Session.{StopsSession, StopsWithin}
 use Rattle.session_text.specs.declared.typed.Typed.{Typed}
 use Rattle.console_run.specs.declared.turns.Stop.TheVariants.{LineLost, Over}
 use Rattle.console_boot.specs.Images.{LeavesSession}
@@ -37,7 +38,7 @@ pub record EndsAsSession (setup : Setup) (outputs : Outputs) (typed : Typed) (li
     (before after : World) : Type 0 where
   pub images : List (List ℕ)
   pub history : List Entry
-  pub session : StopsSession (LeavesSession setup images history typed before after) lives Over from to
+  pub session : StopsSession (LeavesSession setup images history typed before after) lives Over from to before after
   pub files : IfObserved (WritesAll (output_names outputs) (output_bytes outputs images history)) before.files
       after.files
 
@@ -48,18 +49,20 @@ pub record EndsUnwritten (setup : Setup) (outputs : Outputs) (typed : Typed) (nu
   pub lives : Bool
   pub images : List (List ℕ)
   pub history : List Entry
-  pub session : StopsSession (LeavesSession setup images history typed before after) lives Over from to
+  pub session : StopsSession (LeavesSession setup images history typed before after) lives Over from to before after
   pub files : IfObserved (WritesUpTo number (output_names outputs) (output_bytes outputs images history))
       before.files after.files
 
--- A session came to a line for which memory was out, and no image is written.
+-- A session came to keys for which memory was out, and no image is written.
 pub record LosesLine (setup : Setup) (typed : Typed) (from to : KeyboardState) (before after : World) : Type 0 where
   pub images : List (List ℕ)
   pub history : List Entry
-  pub session : StopsSession (LeavesSession setup images history typed before after) true LineLost from to
+  pub session : StopsSession (LeavesSession setup images history typed before after) true LineLost from to before after
   pub files : after.files ≡ before.files
 
--- a machine that came to its end came there as a session, if the bytes of all terminals are observed
+-- A machine that came to its end came there as a session, if the bytes of all terminals are observed. An image is
+-- written then alone, also if memory was out. If the output failed, or memory was out before, it stopped within a
+-- session, or the keyboard was not asked.
 abbrev pub WasSession : Setup → Outputs → Typed → KeyboardState → KeyboardState → World → World → End → Type 0
 WasSession setup outputs typed from to before after Ended =
     IfAllObserved before (EndsAsSession setup outputs typed false from to before after)
@@ -69,6 +72,11 @@ WasSession setup outputs typed from to before after (CannotWriteImage number) =
     IfAllObserved before (EndsUnwritten setup outputs typed number from to before after)
 WasSession setup outputs typed from to before after CannotWriteFile =
     IfAllObserved before (EndsUnwritten setup outputs typed (length outputs.images) from to before after)
+WasSession setup outputs typed from to before after CannotWrite =
+    IfAllObserved before (StopsWithin setup typed from to before)
+WasSession setup outputs typed from to before after NoMemory =
+    IfAllObserved before (((after.files ≡ before.files) × ((to ≡ from) ⊎ StopsWithin setup typed from to before))
+    ⊎ ((number : ℕ) × EndsUnwritten setup outputs typed number from to before after))
 WasSession setup outputs typed from to before after end = ⊤
 
 -- a machine is set up so, and what comes of it is what comes of a boot whose machine has the keys and slices that are
@@ -80,7 +88,7 @@ pub record MachineIsSession (files : Files) (boot : RunWords) (typed : Typed) (f
   pub comes : MachineComesTo setup (outputs_of boot) before after end
   pub session : WasSession setup (outputs_of boot) typed from to before after end
 
--- or it came to a line for which memory was out
+-- or it came to keys for which memory was out
 pub record MachineLosesLine (files : Files) (boot : RunWords) (typed : Typed) (from to : KeyboardState)
     (before after : World) : Type 0 where
   pub setup : Setup
@@ -114,12 +122,14 @@ LeavesKeyboard CannotWriteFile from to = ⊤
 LeavesKeyboard NoMemory from to = ⊤
 LeavesKeyboard end from to = to ≡ from
 
--- the images were booted at this keyboard, and the session ended so
+-- The images were booted at this keyboard, and the session ended so. The keys that are kept are those of lines that it
+-- gave, at every end.
 pub record ConsoleCall (boot : RunWords) (typed : Typed) (end : End) (from to : KeyboardState) (before after : World)
     : Type 0 where
   pub comes : IfSome before.files (λ files. ConsoleComesTo files boot typed from to before after end)
   pub may : ConsoleMayEnd (outputs_of boot) end
   pub keyboard : LeavesKeyboard end from to
+  pub lines : KeepsLines typed from to
   pub devices : LeavesDevices (length boot.files) before after end
   pub host : FailsAsTold (run_file_name boot) end before after
   pub files : BootLeavesFiles (output_names (outputs_of boot)) before after end

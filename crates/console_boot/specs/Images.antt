@@ -10,7 +10,8 @@ use Rattle.boot_run.specs.Machine.{Setup, StartsLoaded}
 use Rattle.boot_run.specs.World.{World}
 use Rattle.session_text.specs.Typed.{kept_keys, kept_slices}
 use Rattle.console_run.specs.Keyboard.{KeyboardState}
-use Rattle.console_run.specs.Session.{AsksKeyboard, EndsAtLine, HasSession, IsSessionTo, run_end, untyped}
+use Rattle.console_run.specs.Session.{AsksKeyboard, EndsAtLine, HasSession, IsPartTo, IsSessionTo, run_end, untyped}
+use Rattle.console_run.specs.Lines.{KeepsLines}
 use Rattle.console_run.specs.TypedTurn.{TypedTurn}
 use Rattle.session_text.specs.declared.typed.Typed.{Typed}
 use Rattle.console_run.specs.declared.session.SessionEnd.{SessionEnd}
@@ -34,11 +35,13 @@ pub record LeavesSession (setup : Setup) (images : List (List ℕ)) (history : L
   pub recorded : history ≡ t.files.records.history
 
 -- The machine that is set up so was run with its images in the drives, these were taken out again, and this history was
--- handed out; it was a session if the bytes of all terminals are observed.
+-- handed out. What is kept was typed, and it was a session or a part of one if the bytes of all terminals are observed.
 pub record RunsConsole (setup : Setup) (typed : Typed) (images : List (List ℕ)) (history : List Entry)
     (end : SessionEnd) (from to : KeyboardState) (before after : World) : Type 0 where
   pub machine : RunsImages setup images history before after (run_end end)
   pub at_line : EndsAtLine end
   pub keyboard : AsksKeyboard end from to
+  pub lines : KeepsLines typed from to
   pub session : All IsObserved before.devices.terms
-      → IsSessionTo (LeavesSession setup images history typed before after) end from to
+      → IsSessionTo (LeavesSession setup images history typed before after) end from to before after
+  pub stopped : All IsObserved before.devices.terms → IsPartTo setup typed end from to before

@@ -30,7 +30,7 @@ use os9_words::command::RunWords;
 
 /// Reads the images, runs the program of the boot file of the first as a person types, with the
 /// images in the drives, and writes them back.
-pub(crate) fn boot_console<H: Host, K: Keyboard + Drop>(
+pub(crate) fn boot_console<H: Host, K: Keyboard<H> + Drop>(
     boot: &RunWords,
     console: &mut Console<K>,
     host: &mut H,

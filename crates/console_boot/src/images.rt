@@ -23,7 +23,7 @@ use os9_outer::terminal::CharDriver;
 
 /// Puts the images into the drives, the first into D0, starts a machine and runs it as a person
 /// types, and takes the images out again, as the drives hold them then.
-pub(crate) fn run_on_images<H: Host, K: Keyboard + Drop>(
+pub(crate) fn run_on_images<H: Host, K: Keyboard<H> + Drop>(
     start: &Start,
     images: &mut Images,
     console: &mut Console<K>,

@@ -33,21 +33,22 @@ const NO_COMMAND: u8 = 1;
 /// The words are those after the program's name: `IMAGE..`, with `--blocks N`, `--time T` and
 /// `--record NAME` or not. The images are read, checked and written back as `boot` of os9 does. The
 /// machine runs in slices of [`session_text::typed::SLICE`] instructions. If no process was Ready
-/// in one, none sleeps until a tick and TERM has no key left, the next line is taken from the
-/// keyboard, and TERM is loaded with its keys before the next slice. What is put on the terminals
-/// goes to the output stream after each slice. The session is over if no process lives, or if the
-/// keyboard gave its end in place of a line. With `--record` the files `NAME.script` and
-/// `NAME.slices` are written then, over which `boot` gives the session again.
+/// in one, none sleeps until a tick and TERM has no key left, TERM is loaded before the next slice
+/// with the next [`console_run::part::PART`] keys of a line, or as many as are left of it; if none
+/// are, the next line is taken from the keyboard. What is put on the terminals goes to the output
+/// stream after each slice, before the keyboard is asked again. The session is over if no process
+/// lives, or if the keyboard gave its end in place of a line. With `--record` the files
+/// `NAME.script` and `NAME.slices` are written then, over which `boot` gives the session again.
 ///
 /// Statuses are those of `boot` without texts: 1 also if the record would be written over an image,
-/// 3 also if it could not be written, and 4 also if memory is out for a line or for the record. A
+/// 3 also if it could not be written, and 4 also if memory is out for keys or for the record. A
 /// session that is longer than texts may be is not recorded, and a line says so.
 ///
 /// The keyboard is not asked if the words, an image or the boot file are refused.
 ///
 /// There are one to four terminals without keys, and at most four drives without images, at least
 /// as many as images are booted. No image is in a drive after the call.
-pub fn console_main<H: Host, K: Keyboard + Drop>(
+pub fn console_main<H: Host, K: Keyboard<H> + Drop>(
     words: &[String],
     console: &mut Console<K>,
     host: &mut H,
@@ -77,7 +78,7 @@ pub fn console_main<H: Host, K: Keyboard + Drop>(
 }
 
 /// Does what the words say, and reports why it ended.
-fn do_console<H: Host, K: Keyboard + Drop>(
+fn do_console<H: Host, K: Keyboard<H> + Drop>(
     words: &ConsoleWords,
     console: &mut Console<K>,
     host: &mut H,

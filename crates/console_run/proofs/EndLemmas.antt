@@ -1,5 +1,5 @@
 -- What a session leaves, as the run of what it keeps.
-use Rattle.std.proofs.Common.{◌≡◌, ℕ, true, Option, List, [], length, map, refl, sym, ap, ◌∙◌, subst, All, append-nil}
+use Rattle.std.proofs.Common.{◌≡◌, ℕ, true, Option, List, [], length, map, refl, sym, ap, ◌∙◌, subst, All, append-nil, inl, inr}
 use Rattle.std.specs.Prelude.{Result, Ok, Err, replicate}
 use Rattle.os9_outer.specs.Stream.{stream_with}
 use Rattle.os9_outer.specs.TerminalState.{TerminalState}
@@ -20,40 +20,37 @@ use Rattle.boot_run.specs.World.{World, FailsToWrite, HasNoFault}
 use Rattle.boot_run.specs.declared.run.RunFault.{RunFault}
 use Rattle.boot_run.specs.declared.run.RunFault.TheVariants.{Output, NoMemory}
 use Rattle.console_run.specs.Kept.{IsKept, load_of, with_typed}
-use Rattle.session_text.specs.Typed.{kept_keys, kept_slices, keys_of_lines}
+use Rattle.session_text.specs.Typed.{kept_keys, kept_slices}
 use Rattle.session_text.specs.declared.typed.TheConstants.{SLICE}
 use Rattle.script_text.specs.declared.script.ScriptKey.{ScriptKey}
 use Rattle.file_drives.specs.Drives.{DriveView}
-use Rattle.console_run.specs.Keyboard.{KeyboardState, TakesLines, line_list}
+use Rattle.console_run.specs.Keyboard.{KeyboardState, line_list, shown_for}
 use Rattle.console_run.specs.Session.{RunsSession, StopsFor, at_start}
-use Rattle.console_run.specs.Turn.{TypesNone}
-use Rattle.console_run.specs.TypedTurn.{TypedTurn, last_end, lines_of, turn_of}
+use Rattle.console_run.specs.Turn.{AllWait, ConsoleState, LosesLine, MeetsEnd}
+use Rattle.console_run.specs.TypedTurn.{last_end, lines_of, shown_at, turn_of}
 use Rattle.console_run.specs.Waiting.{IsOver, WaitsForLine}
 use Rattle.session_text.specs.declared.typed.Typed.{Typed}
 use Rattle.console_run.specs.declared.turns.Stop.{Stop}
-use Rattle.console_run.proofs.KeyLemmas.{IsOfTerm, count-loaded, loaded-typed}
+use Rattle.console_run.proofs.KeyLemmas.{IsOfTerm, count-loaded, keys-still, loaded-typed}
 use Rattle.console_run.proofs.LineLemmas.{takes-then}
 use Rattle.console_run.proofs.LoadLemmas.{represents-with, unladen}
-use Rattle.console_run.proofs.TurnLemmas.{GoesWith, HasCome, HasTurns}
+use Rattle.console_run.proofs.TurnLemmas.{GoesWith, HasCome, HasTurns, with_kept}
 
 -- a session has come so far from where this kernel stood
-abbrev pub ComesFrom : Typed → SliceEnd → KeyboardState → KeyboardState → Kernel → Kernel → World → World → Type 0
-ComesFrom typed last from to kernel later before after =
+abbrev pub ComesFrom : ConsoleState → SliceEnd → KeyboardState → Kernel → Kernel → World → World → Type 0
+ComesFrom place last from kernel later before after =
     (s : State) → All IsObserved before.devices.terms → Represents kernel before.devices s
-    → HasCome before.devices.drives before.out typed last from to s later after.devices after.out
+    → HasCome before.devices.drives before.out place last from s later after.devices after.out
 
 -- what is kept is as it was
-keys-still : (typed now : Typed) → IsKept typed now → kept_keys now ≡ kept_keys typed
-keys-still typed now same = ap keys_of_lines same.lines
-
 pub of-term-still : (typed now : Typed) → IsKept typed now → All IsOfTerm (kept_keys typed) → All IsOfTerm (kept_keys now)
 of-term-still typed now same all = subst (λ (keys : List ScriptKey). All IsOfTerm keys) (sym (keys-still typed now same)) all
 
-has-still : (start : List DriveView) (first : Option (List ℕ)) (typed now : Typed) (last : SliceEnd)
-    (from to : KeyboardState) (s : State) (kernel : Kernel) (devices : Outside) (out : Option (List ℕ))
-    → IsKept typed now → HasCome start first typed last from to s kernel devices out
-    → HasCome start first now last from to s kernel devices out
-has-still start first typed now last from to s kernel devices out same come = record {
+has-still : (start : List DriveView) (first : Option (List ℕ)) (place : ConsoleState) (now : Typed) (last : SliceEnd)
+    (from : KeyboardState) (s : State) (kernel : Kernel) (devices : Outside) (out : Option (List ℕ))
+    → IsKept place.typed now → HasCome start first place last from s kernel devices out
+    → HasCome start first (with_kept place now) last from s kernel devices out
+has-still start first place now last from s kernel devices out same come = record {
   m = come.m;
   written = come.written;
   told = come.told;
@@ -64,28 +61,31 @@ has-still start first typed now last from to s kernel devices out same come = re
     states = come.turns.states;
     comes = come.turns.comes;
     types = come.turns.types;
-    kept = record { keys = keys-still typed now same ∙ come.turns.kept.keys; slices = same.slices ∙ come.turns.kept.slices };
+    kept = record { keys = keys-still place.typed now same ∙ come.turns.kept.keys; slices = same.slices ∙ come.turns.kept.slices };
     last_is = come.turns.last_is;
+    rest_is = come.turns.rest_is;
+    wrote = come.turns.wrote;
     taken = come.turns.taken;
   };
   goes = λ more extra later.
       subst (λ (count : ℕ). GoesWith start devices.drives (keys_for 0 (kept_keys now)) (replicate count SLICE) s come.m come.written more extra) (sym same.slices)
-      (subst (λ (keys : List ScriptKey). GoesWith start devices.drives (keys_for 0 keys) (kept_slices typed) s come.m
-      come.written more extra) (sym (keys-still typed now same)) (come.goes more extra later));
+      (subst (λ (keys : List ScriptKey). GoesWith start devices.drives (keys_for 0 keys) (kept_slices place.typed) s come.m
+      come.written more extra) (sym (keys-still place.typed now same)) (come.goes more extra later));
 }
 
 -- and so is what is seen of the devices
-pub comes-still : (typed now : Typed) (last : SliceEnd) (from to : KeyboardState) (kernel later : Kernel)
-    (before mid : World) (devices : Outside) → IsKept typed now → devices ≡ mid.devices → ComesFrom typed last from to
-    kernel later before mid → ComesFrom now last from to kernel later before (record mid { devices = devices })
-comes-still typed now last from to kernel later before mid devices same seen comes =
-    subst (λ (devices : Outside). ComesFrom now last from to kernel later before (record mid { devices = devices })) (sym seen)
-    (λ s told tied. has-still before.devices.drives before.out typed now last from to s later mid.devices mid.out same (comes s told tied))
+pub comes-still : (place : ConsoleState) (now : Typed) (last : SliceEnd) (from : KeyboardState) (kernel later : Kernel)
+    (before mid : World) (devices : Outside) → IsKept place.typed now → devices ≡ mid.devices → ComesFrom place last
+    from kernel later before mid → ComesFrom (with_kept place now) last from kernel later before
+    (record mid { devices = devices })
+comes-still place now last from kernel later before mid devices same seen comes =
+    subst (λ (devices : Outside). ComesFrom (with_kept place now) last from kernel later before (record mid { devices = devices })) (sym seen)
+    (λ s told tied. has-still before.devices.drives before.out place now last from s later mid.devices mid.out same (comes s told tied))
 
 -- every process waits where nothing was typed
-pub waits-there : {Old New : Typed} (last : SliceEnd) (kernel : Kernel) (before after : Outside)
-    → TypesNone last kernel Old New before after → (m : State) → Represents kernel after m → WaitsForLine last m
-waits-there last kernel before after none m tied = none.waits m (subst (λ (devices : Outside). Represents kernel devices m) none.devices tied)
+pub waits-there : (last : SliceEnd) (kernel : Kernel) (before after : Outside) → AllWait last kernel before
+    → after ≡ before → (m : State) → Represents kernel after m → WaitsForLine last m
+waits-there last kernel before after waits same m tied = waits m (subst (λ (devices : Outside). Represents kernel devices m) same tied)
 
 -- its slices are a run, of terminals that were loaded with its keys before it
 abbrev pub RunsAll : Typed → Kernel → World → World → State → Type 0
@@ -108,8 +108,12 @@ partly-from slices s before after devices ran = record {
 }
 
 -- a kernel stood, at terminals without keys; these keys of TERM were typed later
-module _ (typed : Typed) (last : SliceEnd) (from to : KeyboardState) (kernel later : Kernel) (before after : World)
-    (of_term : All IsOfTerm (kept_keys typed)) (unloaded : All HasNoKeys before.devices.terms) where
+module _ (place : ConsoleState) (last : SliceEnd) (from : KeyboardState) (kernel later : Kernel)
+    (before after : World) (of_term : All IsOfTerm (kept_keys place.typed))
+    (unloaded : All HasNoKeys before.devices.terms) where
+  abbrev typed : Typed
+  typed = place.typed
+
   abbrev laden : World
   laden = with_typed (kept_keys typed) before
 
@@ -136,9 +140,9 @@ module _ (typed : Typed) (last : SliceEnd) (from to : KeyboardState) (kernel lat
         λ i. record laden_state { terms = sym (there ∙ laden-is) i }
 
     -- it was the run of these slices
-    pub runs-all : ComesFrom typed last from to kernel later before after → RunsAll typed later before after laden_state
+    pub runs-all : ComesFrom place last from kernel later before after → RunsAll typed later before after laden_state
     runs-all comes =
-        let come : HasCome before.devices.drives before.out typed last from to s later after.devices after.out = comes s (observed-before told) stood in
+        let come : HasCome before.devices.drives before.out place last from s later after.devices after.out = comes s (observed-before told) stood in
         let it : GoesWith before.devices.drives after.devices.drives (keys_for 0 (kept_keys typed)) (kept_slices typed) s come.m come.written [] [] = come.goes [] [] tt in (
           it.states,
           come.written,
@@ -160,13 +164,13 @@ module _ (typed : Typed) (last : SliceEnd) (from to : KeyboardState) (kernel lat
         (partly-from (kept_slices typed) (with_keys s (load_of (kept_keys typed))) before after laden.devices (partly s (observed-before told) stood))
 
 -- from the state for which it stood it was a session
-pub session-all : (stop : Stop) (typed : Typed) (last : SliceEnd) (from mid to : KeyboardState) (s : State) (later : Kernel) (before after : World)
-    → (come : HasCome before.devices.drives before.out typed last from mid s later after.devices after.out)
-    → (TakesLines (lines_of come.turns.turns) from mid → StopsFor stop come.turns.turns come.m from to)
-    → RunsSession stop s later typed from to before after
-session-all stop typed last from mid to s later before after come stops =
-    let it : HasTurns typed last from mid s come.m come.written = come.turns in
-    let gone : GoesWith before.devices.drives after.devices.drives (keys_for 0 (kept_keys typed)) (kept_slices typed) s come.m come.written [] [] = come.goes [] [] tt in
+pub session-all : (stop : Stop) (place : ConsoleState) (last : SliceEnd) (from to : KeyboardState) (s : State) (later : Kernel) (before after : World)
+    → (come : HasCome before.devices.drives before.out place last from s later after.devices after.out)
+    → StopsFor stop come.turns.turns come.m from to before.out after.out
+    → RunsSession stop s later place.typed from to before after
+session-all stop place last from to s later before after come stops =
+    let it : HasTurns place last before.out from s come.m come.written = come.turns in
+    let gone : GoesWith before.devices.drives after.devices.drives (keys_for 0 (kept_keys place.typed)) (kept_slices place.typed) s come.m come.written [] [] = come.goes [] [] tt in
     record {
       turns = it.turns;
       t = come.m;
@@ -181,28 +185,47 @@ session-all stop typed last from mid to s later before after come stops =
         output = come.gained;
       };
       there = come.tied;
-      stops = stops it.taken;
+      stops = stops;
     }
 
--- it is over; what is taken behind it is nothing
-pub stops-over : (turns : List TypedTurn) (last : SliceEnd) (t : State) (from mid to : KeyboardState)
-    → last_end at_start turns ≡ last → IsOver last t to → TakesLines [] mid to → TakesLines (lines_of turns) from mid
-    → StopsFor Stop.Over turns t from to
-stops-over turns last t from mid to same over none taken = (
-  subst (λ (lines : List (List ℕ)). TakesLines lines from to) (append-nil (lines_of turns)) (takes-then (lines_of turns) [] from mid to taken none),
-  subst (λ (end : SliceEnd). IsOver end t to) (sym same) over,
-)
+-- what is kept is the same at an end, or if memory was out
+pub met-still : (out : Option (List ℕ)) (place new : ConsoleState) → MeetsEnd out place new → MeetsEnd out (with_kept place new.typed) new
+met-still out place new it = record { none_left = it.none_left; end = it.end; typed = record { parts = refl; slices = refl } }
 
--- memory was out for a line
-pub stops-lost : (turns : List TypedTurn) (last : SliceEnd) (t : State) (from mid to : KeyboardState)
-    → last_end at_start turns ≡ last → WaitsForLine last t → has_living t ≡ true → (lost : Option (List ℕ)) ×
-    TakesLines (line_list lost) mid to → TakesLines (lines_of turns) from mid → StopsFor Stop.LineLost turns t from to
-stops-lost turns last t from mid to same waits lives (lost, took) taken = (
-  lost,
-  takes-then (lines_of turns) (line_list lost) from mid to taken took,
-  subst (λ (end : SliceEnd). WaitsForLine end t) (sym same) waits,
-  lives,
-)
+pub lost-still : (out : Option (List ℕ)) (place new : ConsoleState) → LosesLine out place new → LosesLine out (with_kept place new.typed) new
+lost-still out place new it =
+    record { lost = it.lost; none_left = it.none_left; taken = it.taken; typed = record { parts = refl; slices = refl } }
+
+module _ (place : ConsoleState) (last : SliceEnd) (first : Option (List ℕ)) (from : KeyboardState) (s t : State)
+    (written : List ℕ) (it : HasTurns place last first from s t written) where
+  -- no slice can follow
+  pub stops-over : (after : Option (List ℕ)) → IsOver t → StopsFor Stop.Over it.turns t from place.keyboard first after
+  stops-over after over = inl (record { taken = it.taken; over = over })
+
+  module _ (waits : WaitsForLine last t) (new : ConsoleState) (out : Option (List ℕ)) where
+    waits-last : WaitsForLine (last_end at_start it.turns) t
+    waits-last = subst (λ (end : SliceEnd). WaitsForLine end t) (sym it.last_is) waits
+
+    -- the keyboard gave its end
+    pub stops-end : MeetsEnd out place new → StopsFor Stop.Over it.turns t from new.keyboard first out
+    stops-end meets = inr (record {
+      mid = place.keyboard;
+      taken = it.taken;
+      waits = waits-last;
+      none_left = it.rest_is ∙ meets.none_left;
+      end = meets.end;
+    })
+
+    -- memory was out for keys
+    pub stops-lost : has_living t ≡ true → LosesLine out place new → StopsFor Stop.LineLost it.turns t from new.keyboard first out
+    stops-lost lives loses = record {
+      lost = loses.lost;
+      taken = takes-then (lines_of it.turns) (line_list loses.lost) (shown_at first it.turns) (shown_for out loses.lost)
+          from place.keyboard new.keyboard it.taken loses.taken;
+      none_left = λ is. it.rest_is ∙ loses.none_left is;
+      waits = waits-last;
+      lives = lives;
+    }
 
 -- ---- faults of the host
 

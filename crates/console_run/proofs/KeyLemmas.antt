@@ -1,5 +1,5 @@
 -- Keys of TERM that are loaded.
-use Rattle.std.proofs.Common.{◌≡◌, ℕ, ◌+◌, ◌<◌, ◌==◌, Bool, true, false, suc, Option, Some, None, List, [], ◌∷◌, ◌++◌, get_or, length, map, filter, refl, sym, ap, ◌∙◌, All, append-nil, arith}
+use Rattle.std.proofs.Common.{◌≡◌, ℕ, ◌+◌, ◌<◌, ◌==◌, Bool, true, false, suc, None, List, [], ◌∷◌, ◌++◌, get_or, length, map, filter, refl, sym, ap, ◌∙◌, All, append-nil, arith}
 use Rattle.std.specs.Prelude.{IsFalse, IsTrue}
 use Rattle.std.specs.List.{flat_map}
 use Rattle.std.proofs.lemmas.Bool.{ne_eqb}
@@ -14,11 +14,11 @@ use Rattle.key_loading.specs.Loaded.{HasNoKeys, keys_for, loaded, loaded_from}
 use Rattle.script_text.specs.declared.script.ScriptKey.{ScriptKey}
 use Rattle.script_text.specs.Script.{key_at}
 use Rattle.run_laws.specs.Session.{AreLater, Keys, keys_loaded, keys_then}
-use Rattle.console_run.specs.Kept.{load_of}
-use Rattle.session_text.specs.Typed.{kept_keys, keys_of_line, keys_typed}
+use Rattle.console_run.specs.Kept.{IsKept, load_of}
+use Rattle.session_text.specs.Typed.{kept_keys, keys_of_parts, keys_typed, part_bytes}
 use Rattle.console_run.specs.Waiting.{term_keys}
 use Rattle.session_text.specs.declared.typed.Typed.{Typed}
-use Rattle.session_text.specs.declared.typed.TypedLine.{TypedLine}
+use Rattle.session_text.specs.declared.typed.TypedPart.{TypedPart}
 
 -- a key of TERM that is due in this tick
 pub record IsTyped (tick : ℕ) (key : ScriptKey) : Type 0 where
@@ -123,33 +123,34 @@ keeps-keys false old new loaded was kept put faults =
     let same : new.keys ≡ old.keys = kept refl in
     λ i. record { keys = same i; put = put i; faults = faults i }
 
--- ---- the keys of a line
+-- ---- the keys of a part of a line
 
-are-typed : (tick : ℕ) (bytes : List ℕ) → All (IsTyped tick) (map (key_at tick 0) bytes)
-are-typed tick [] = All-nil (IsTyped tick)
-are-typed tick (byte ∷ bytes) =
-    All-cons (IsTyped tick) (key_at tick 0 byte) (map (key_at tick 0) bytes) (record { term = refl; due = refl }) (are-typed tick bytes)
-
-pub line-typed : (tick : ℕ) (line : Option (List ℕ)) → All (IsTyped tick) (keys_typed tick line)
-line-typed tick None = All-nil (IsTyped tick)
-line-typed tick (Some line) = are-typed tick (line ++ 13 ∷ [])
+pub all-typed : (tick : ℕ) (bytes : List ℕ) → All (IsTyped tick) (keys_typed tick bytes)
+all-typed tick [] = All-nil (IsTyped tick)
+all-typed tick (byte ∷ bytes) =
+    All-cons (IsTyped tick) (key_at tick 0 byte) (keys_typed tick bytes) (record { term = refl; due = refl }) (all-typed tick bytes)
 
 abbrev pub key_of : ℕ → ℕ → Key
 key_of tick byte = record { tick = tick; byte = byte }
 
-own-keys : (tick : ℕ) (bytes : List ℕ) → keys_for 0 (map (key_at tick 0) bytes) ≡ map (key_of tick) bytes
+pub own-keys : (tick : ℕ) (bytes : List ℕ) → keys_for 0 (keys_typed tick bytes) ≡ map (key_of tick) bytes
 own-keys tick [] = refl
 own-keys tick (byte ∷ bytes) = ap (λ (rest : List Key). key_of tick byte ∷ rest) (own-keys tick bytes)
 
-pub own-line : (tick : ℕ) (line : List ℕ) → map (key_of tick) line ++ key_of tick 13 ∷ [] ≡ keys_for 0 (keys_of_line tick line)
-own-line tick line = sym (own-keys tick (line ++ 13 ∷ []) ∙ map-append (key_of tick) line (13 ∷ []))
-
 -- it is kept behind the others
-pub line-kept : (old new : Typed) (line : TypedLine) → new.lines.items ≡ old.lines.items ++ line ∷ [] → kept_keys new ≡ kept_keys old ++ keys_of_line line.tick line.bytes.items
-line-kept old new line more =
-    let keys : TypedLine → List ScriptKey = λ line. keys_of_line line.tick line.bytes.items in
-    ap (flat_map keys) more ∙ flat_map-append keys old.lines.items (line ∷ []) ∙ ap (λ (rest : List ScriptKey). kept_keys old ++ rest) (append-nil (keys line))
+pub part-kept : (old new : Typed) (part : TypedPart) (tick : ℕ) (bytes : List ℕ) → new.parts.items ≡ old.parts.items
+    ++ part ∷ [] → part.tick ≡ tick → part_bytes part ≡ bytes → kept_keys new ≡ kept_keys old ++ keys_typed tick bytes
+part-kept old new part tick bytes more due is =
+    let keys : TypedPart → List ScriptKey = λ part. keys_typed part.tick (part_bytes part) in
+    ap (flat_map keys) more
+    ∙ flat_map-append keys old.parts.items (part ∷ [])
+    ∙ ap (λ (rest : List ScriptKey). kept_keys old ++ rest) (append-nil (keys part))
+    ∙ (λ i. kept_keys old ++ keys_typed (due i) (is i))
 
 -- nothing was typed yet
-pub none-kept : (typed : Typed) → typed.lines.items ≡ [] → kept_keys typed ≡ []
-none-kept typed none = ap (flat_map (λ (line : TypedLine). keys_of_line line.tick line.bytes.items)) none
+pub none-kept : (typed : Typed) → typed.parts.items ≡ [] → kept_keys typed ≡ []
+none-kept typed none = ap keys_of_parts none
+
+-- what is kept is as it was
+pub keys-still : (typed now : Typed) → IsKept typed now → kept_keys now ≡ kept_keys typed
+keys-still typed now same = ap keys_of_parts same.parts

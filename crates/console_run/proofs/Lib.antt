@@ -3,6 +3,7 @@ pub mod EndLemmas
 pub mod KeyLemmas
 pub mod LineLemmas
 pub mod LoadLemmas
+pub mod PartLemmas
 pub mod PassLemmas
 pub mod SessionLemmas
 pub mod TurnLemmas

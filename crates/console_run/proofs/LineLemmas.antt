@@ -2,7 +2,9 @@
 use Rattle.std.proofs.Common.{◌≡◌, ◌<◌, ℕ, ◌+◌, zero, suc, arith, get_or, length, map, Option, Some, None, List, [], ◌∷◌, ◌++◌, drop, refl, sym, ap, ◌∙◌, subst, append_assoc}
 use Rattle.std.specs.Prelude.{IfSome, option_map, slice_get, true}
 use Rattle.std.proofs.lemmas.Option.{none-some, same_Some}
-use Rattle.console_run.specs.Keyboard.{IsAtEnd, KeyboardState, TakesLines}
+use Rattle.os9_outer.specs.Stream.{stream_with}
+use Rattle.device_table.proofs.StreamLemmas.{appended-twice, appended-nothing}
+use Rattle.console_run.specs.Keyboard.{GivesEnd, KeyboardState, TakesLines}
 
 abbrev Takes : List (List ℕ) → Option (List (List ℕ)) → Option (List (List ℕ)) → Type 0
 Takes taken before after = IfSome before (λ lines. (left : List (List ℕ)) × (lines ≡ taken ++ left) × (after ≡ Some left))
@@ -12,8 +14,8 @@ none-taken : (before : Option (List (List ℕ))) → Takes [] before before
 none-taken None = tt
 none-taken (Some lines) = (lines, refl, refl)
 
-pub takes-none : (keyboard : KeyboardState) → TakesLines [] keyboard keyboard
-takes-none keyboard = none-taken keyboard.lines
+pub takes-none : (keyboard : KeyboardState) → TakesLines [] [] keyboard keyboard
+takes-none keyboard = record { lines = none-taken keyboard.lines; asked = sym (appended-nothing keyboard.asked) }
 
 -- some are, and then others
 then-taken : (one two : List (List ℕ)) (before mid after : Option (List (List ℕ))) → Takes one before mid → Takes two mid after → Takes (one ++ two) before after
@@ -22,8 +24,13 @@ then-taken one two (Some lines) mid after (left, is, there) second =
     let (rest, left_is, here) = subst (λ (mid : Option (List (List ℕ))). Takes two mid after) there second in
     (rest, is ∙ ap (λ (left : List (List ℕ)). one ++ left) left_is ∙ sym (append_assoc one two rest), here)
 
-pub takes-then : (one two : List (List ℕ)) (before mid after : KeyboardState) → TakesLines one before mid → TakesLines two mid after → TakesLines (one ++ two) before after
-takes-then one two before mid after first second = then-taken one two before.lines mid.lines after.lines first second
+pub takes-then : (one two : List (List ℕ)) (shown more : List ℕ) (before mid after : KeyboardState)
+    → TakesLines one shown before mid → TakesLines two more mid after → TakesLines (one ++ two) (shown ++ more) before
+    after
+takes-then one two shown more before mid after first second = record {
+  lines = then-taken one two before.lines mid.lines after.lines first.lines second.lines;
+  asked = second.asked ∙ ap (λ (asked : Option (List ℕ)). stream_with asked more) first.asked ∙ appended-twice before.asked shown more;
+}
 
 -- the next one is
 next-taken : (line : List ℕ) (before after : Option (List (List ℕ))) → IfSome before (λ lines. Some line ≡ slice_get lines 0) → after ≡ option_map (drop 1) before → Takes (line ∷ []) before after
@@ -32,9 +39,11 @@ next-taken line (Some []) after first rest = absurd (none-some line (sym first))
 next-taken line (Some (next ∷ lines)) after first rest =
     (lines, ap (λ (line : List ℕ). line ∷ lines) (sym (same_Some line next first)), rest)
 
-pub takes-line : (line : List ℕ) (before after : KeyboardState) → IfSome before.lines (λ lines. Some line ≡ slice_get
-    lines 0) → after.lines ≡ option_map (drop 1) before.lines → TakesLines (line ∷ []) before after
-takes-line line before after first rest = next-taken line before.lines after.lines first rest
+pub takes-line : (line : List ℕ) (shown : ℕ) (before after : KeyboardState) → IfSome before.lines (λ lines. Some line
+    ≡ slice_get lines 0) → after.lines ≡ option_map (drop 1) before.lines → after.asked ≡ stream_with before.asked
+    (shown ∷ []) → TakesLines (line ∷ []) (shown ∷ []) before after
+takes-line line shown before after first rest asked =
+    record { lines = next-taken line before.lines after.lines first rest; asked = asked }
 
 -- the end is
 end-taken : (before after : Option (List (List ℕ))) → IfSome before (λ lines. None ≡ slice_get lines 0)
@@ -43,16 +52,19 @@ end-taken None after first rest = (tt, subst (λ (after : Option (List (List ℕ
 end-taken (Some []) after first rest = (([], refl, rest), subst (λ (after : Option (List (List ℕ))). IfSome after (λ lines. lines ≡ [])) (sym rest) refl)
 end-taken (Some (next ∷ lines)) after first rest = absurd (none-some next first)
 
-pub takes-end : (before after : KeyboardState) → IfSome before.lines (λ lines. None ≡ slice_get lines 0)
-    → after.lines ≡ option_map (drop 1) before.lines → after.is_over ≡ true → IsAtEnd after × TakesLines [] before
-    after
-takes-end before after first rest over =
+pub takes-end : (shown : ℕ) (before after : KeyboardState) → IfSome before.lines (λ lines. None ≡ slice_get lines 0)
+    → after.lines ≡ option_map (drop 1) before.lines → after.asked ≡ stream_with before.asked (shown ∷ [])
+    → after.is_over ≡ true → GivesEnd shown before after
+takes-end shown before after first rest asked over =
     let (taken, none) = end-taken before.lines after.lines first rest in
-    (record { over = over; none = none }, taken)
+    record { taken = record { lines = taken; asked = asked }; over = over; none = none }
 
 -- none is, if memory is out
-pub takes-kept : (before after : KeyboardState) → after.lines ≡ before.lines → TakesLines [] before after
-takes-kept before after kept = subst (λ (lines : Option (List (List ℕ))). Takes [] before.lines lines) (sym kept) (none-taken before.lines)
+pub takes-kept : (before after : KeyboardState) → after.lines ≡ before.lines → after.asked ≡ before.asked → TakesLines [] [] before after
+takes-kept before after kept asked = record {
+  lines = subst (λ (lines : Option (List (List ℕ))). Takes [] before.lines lines) (sym kept) (none-taken before.lines);
+  asked = asked ∙ sym (appended-nothing before.asked);
+}
 
 -- ---- lines in memory
 

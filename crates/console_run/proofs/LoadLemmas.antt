@@ -31,7 +31,8 @@ unladen (term ∷ terms) (k ∷ ks) observed =
 
 running-loaded : (s : State) (terms : List TerminalState) → length terms ≡ length s.terms → IsRunning s → IsRunning (record s { terms = terms })
 running-loaded s terms count running =
-    running-then s (record s { terms = terms }) running running.kept running.in_calls running.places running.on count running.requested running.kinds running.clock
+    running-then s (record s { terms = terms }) running running.kept running.in_calls running.places running.on count
+    running.requested running.kinds running.clock
 
 -- it stands for the state with the terminals that are there now
 pub represents-with : (kernel : Kernel) (devices now : Outside) (s : State) → now.drives ≡ devices.drives

@@ -1,6 +1,6 @@
 -- Turns, one after another, make a session and the run of what it keeps.
-use Rattle.std.proofs.Common.{◌≡◌, ◌≢◌, ◌⊎◌, ◌↔◌, ℕ, ◌+◌, true, Option, Some, List, [], ◌∷◌, ◌++◌, length, map, take, slice_get, refl, sym, ap, ◌∙◌, subst, All, append_assoc, append-nil, inl, inr, length-append}
-use Rattle.std.specs.Prelude.{IfOk, IsSome, OnErr, OnOk, Result, Ok, Err, replicate}
+use Rattle.std.proofs.Common.{◌≡◌, ◌≢◌, ◌⊎◌, ℕ, ◌+◌, true, Option, Some, List, [], ◌∷◌, ◌++◌, length, map, take, slice_get, refl, sym, ap, ◌∙◌, subst, All, append_assoc, append-nil, inl, inr, length-append}
+use Rattle.std.specs.Prelude.{IfOk, OnErr, OnOk, Result, Ok, Err, replicate}
 use Rattle.std.specs.List.{flat_map}
 use Rattle.std.proofs.lemmas.List.{map-append, replicate_more}
 use Rattle.std.proofs.lemmas.List.Concat.{flat_map-append}
@@ -34,14 +34,15 @@ use Rattle.boot_run.specs.declared.run.RunFault.{RunFault}
 use Rattle.boot_run.proofs.RunLemmas.{images-later, observed-emptied, observed-slice, run-append, run-slice, some-living}
 use Rattle.console_run.specs.Kept.{load_of}
 use Rattle.session_text.specs.Typed.{IsUntyped, kept_keys, kept_slices, keys_typed}
-use Rattle.console_run.specs.Keyboard.{KeyboardState, TakesLines, line_list}
-use Rattle.console_run.specs.Session.{at_start}
-use Rattle.console_run.specs.Turn.{PassesSlice, RunsTurn, StopsTurn, TypesLine}
-use Rattle.console_run.specs.TypedTurn.{KeepsTurns, TypedTurn, TypedTurns, last_end, lines_of, turn_keys, turn_of}
+use Rattle.console_run.specs.Keyboard.{KeyboardState, TakesLines, line_list, shown_for}
+use Rattle.console_run.specs.Lines.{TypesIf, left_after}
+use Rattle.console_run.specs.Session.{HasPart, at_start}
+use Rattle.console_run.specs.Turn.{ConsoleState, PassesSlice, RunsTurn, StopsTurn, TypesLine}
+use Rattle.console_run.specs.TypedTurn.{KeepsTurns, TypedTurn, TypedTurns, last_end, left_of, lines_of, shown_at, turn_keys, turn_of}
 use Rattle.console_run.specs.Waiting.{WaitsForLine}
 use Rattle.session_text.specs.declared.typed.TheConstants.{SLICE}
 use Rattle.session_text.specs.declared.typed.Typed.{Typed}
-use Rattle.console_run.proofs.KeyLemmas.{count-loaded, keys-more, line-typed, load-later, loaded-none, none-kept, then-then}
+use Rattle.console_run.proofs.KeyLemmas.{all-typed, count-loaded, keys-more, load-later, loaded-none, none-kept, then-then}
 use Rattle.console_run.proofs.LineLemmas.{takes-none, takes-then}
 use Rattle.console_run.proofs.LoadLemmas.{observed-loaded, represents-loaded}
 
@@ -92,26 +93,32 @@ pub record GoesWith (start now : List DriveView) (keys : List Key) (ran : List �
   pub run : Run ran (with_keys s (keys_then (keys ∷ []) more)) states written (with_keys m more)
   pub images : KeepsImages (ComesInto (ran ++ extra) (with_keys s (keys_then (keys ∷ []) more))) states start now
 
+-- the bytes that the slices of turns write
+abbrev pub written_of : List TypedTurn → List ℕ
+written_of turns = flat_map (λ turn. turn.written) turns
+
 -- its turns at the keyboard
-pub record HasTurns (typed : Typed) (last : SliceEnd) (from to : KeyboardState) (s m : State) (written : List ℕ) : Type 0 where
+pub record HasTurns (place : ConsoleState) (last : SliceEnd) (first : Option (List ℕ)) (from : KeyboardState) (s m : State) (written : List ℕ) : Type 0 where
   pub turns : List TypedTurn
   pub states : List State
   pub comes : ComesTo (map turn_of turns) s states written m
-  pub types : TypedTurns at_start turns s states written m
-  pub kept : KeepsTurns typed turns
+  pub types : TypedTurns at_start [] turns s states written m
+  pub kept : KeepsTurns place.typed turns
   pub last_is : last_end at_start turns ≡ last
-  pub taken : TakesLines (lines_of turns) from to
+  pub rest_is : left_of [] turns ≡ place.rest
+  pub wrote : written_of turns ≡ written
+  pub taken : TakesLines (lines_of turns) (shown_at first turns) from place.keyboard
 
 -- from s it has come to a state that is represented now, and the output gained what it wrote
-pub record HasCome (start : List DriveView) (first : Option (List ℕ)) (typed : Typed) (last : SliceEnd)
-    (from to : KeyboardState) (s : State) (kernel : Kernel) (devices : Outside) (out : Option (List ℕ)) : Type 0 where
+pub record HasCome (start : List DriveView) (first : Option (List ℕ)) (place : ConsoleState) (last : SliceEnd)
+    (from : KeyboardState) (s : State) (kernel : Kernel) (devices : Outside) (out : Option (List ℕ)) : Type 0 where
   pub m : State
   pub written : List ℕ
   pub told : All IsObserved devices.terms
   pub tied : Represents kernel devices m
   pub gained : out ≡ stream_with first written
-  pub turns : HasTurns typed last from to s m written
-  pub goes : (more : Keys) (extra : List ℕ) → AreLater m.inner.tick more → GoesWith start devices.drives (keys_for 0 (kept_keys typed)) (kept_slices typed) s m written more extra
+  pub turns : HasTurns place last first from s m written
+  pub goes : (more : Keys) (extra : List ℕ) → AreLater m.inner.tick more → GoesWith start devices.drives (keys_for 0 (kept_keys place.typed)) (kept_slices place.typed) s m written more extra
 
 -- nothing was typed or run yet
 goes-none : (start : List DriveView) (s : State) (more : Keys) (extra : List ℕ) → GoesWith start start [] [] s s [] more extra
@@ -121,11 +128,12 @@ goes-none start s more extra = record { states = []; run = (refl, refl, sym (beg
     begun [] = ap (λ (terms : List TerminalState). record s { terms = terms }) (loaded-none s.terms)
     begun (keys ∷ more) = refl
 
-pub comes-untyped : (first : Option (List ℕ)) (typed : Typed) (keyboard : KeyboardState) (s : State) (kernel : Kernel)
-    (devices : Outside) → IsUntyped typed → All IsObserved devices.terms → Represents kernel devices s
-    → HasCome devices.drives first typed at_start keyboard keyboard s kernel devices first
-comes-untyped first typed keyboard s kernel devices untyped told tied =
-    let none : kept_keys typed ≡ [] = none-kept typed untyped.lines in
+pub comes-untyped : (first : Option (List ℕ)) (place : ConsoleState) (s : State) (kernel : Kernel) (devices : Outside)
+    → IsUntyped place.typed → place.rest ≡ [] → All IsObserved devices.terms → Represents kernel devices s
+    → HasCome devices.drives first place at_start place.keyboard s kernel devices first
+comes-untyped first place s kernel devices untyped no_rest told tied =
+    let typed : Typed = place.typed in
+    let none : kept_keys typed ≡ [] = none-kept typed untyped.parts in
     record {
       m = s;
       written = [];
@@ -139,7 +147,9 @@ comes-untyped first typed keyboard s kernel devices untyped told tied =
         types = (refl, refl, refl);
         kept = record { keys = none; slices = untyped.slices };
         last_is = refl;
-        taken = takes-none keyboard;
+        rest_is = sym no_rest;
+        wrote = refl;
+        taken = takes-none place.keyboard;
       };
       goes = λ more extra later.
           subst (λ (count : ℕ). GoesWith devices.drives devices.drives (keys_for 0 (kept_keys typed)) (replicate count SLICE) s s [] more extra) (sym untyped.slices)
@@ -152,41 +162,64 @@ pub tick-tied : (kernel : Kernel) (devices : Outside) (m : State) → Represents
 tick-tied kernel devices m tied = ap (λ (inner : Inner). inner.tick) tied.inner.is
 
 -- one turn
-types-one : (last : SliceEnd) (m t : State) (turn : TypedTurn) (first : List State) → has_living m ≡ true
-    → turn.tick ≡ m.inner.tick + 1 → (IsSome turn.line ↔ WaitsForLine last m)
-    → Slice SLICE (with_keys m (turn_of turn).load) first turn.end t
-    → TypedTurns last (turn ∷ []) m first (console_bytes t.terms) (record t { terms = terminals_emptied t.terms })
-types-one last m t turn first lives tick asked slice =
-    (lives, tick, asked, t, first, [], [], slice, sym (append-nil first), sym (append-nil (console_bytes t.terms)), (refl, refl, refl))
+types-one : (last : SliceEnd) (rest : List ℕ) (m t : State) (turn : TypedTurn) (first : List State) → has_living m ≡ true
+    → turn.tick ≡ m.inner.tick + 1 → TypesIf (WaitsForLine last m) rest turn.line turn.bytes
+    → Slice SLICE (with_keys m (turn_of turn).load) first turn.end t → turn.written ≡ console_bytes t.terms
+    → TypedTurns last rest (turn ∷ []) m first (console_bytes t.terms) (record t { terms = terminals_emptied t.terms })
+types-one last rest m t turn first lives tick asked slice wrote =
+    (lives, tick, asked, t, first, [], [], slice, sym (append-nil first), wrote, sym wrote ∙ sym (append-nil turn.written), (refl, refl, refl))
 
 -- turns with one more
-types-more : (last : SliceEnd) (turns : List TypedTurn) (s m t : State) (turn : TypedTurn) (states first : List State)
-    (written : List ℕ) → TypedTurns last turns s states written m → has_living m ≡ true → turn.tick ≡ m.inner.tick + 1
-    → (IsSome turn.line ↔ WaitsForLine (last_end last turns) m) → Slice SLICE (with_keys m (turn_of turn).load) first turn.end t
-    → TypedTurns last (turns ++ turn ∷ []) s (states ++ first) (written ++ console_bytes t.terms) (record t { terms = terminals_emptied t.terms })
-types-more last [] s m t turn states first written (none, nothing, same) lives tick asked slice =
-    subst (λ (s : State). TypedTurns last (turn ∷ []) s (states ++ first) (written ++ console_bytes t.terms) (record t { terms = terminals_emptied t.terms })) same
-    (subst (λ (states : List State). TypedTurns last (turn ∷ []) m (states ++ first) (written ++ console_bytes t.terms) (record t { terms = terminals_emptied t.terms })) (sym none)
-    (subst (λ (written : List ℕ). TypedTurns last (turn ∷ []) m first (written ++ console_bytes t.terms)
-    (record t { terms = terminals_emptied t.terms })) (sym nothing) (types-one last m t turn first lives tick
-    asked slice)))
-types-more last (here ∷ turns) s m t turn states first written (alive, ticked, was_asked, next, passed, later, rest, ran, all, bytes, types) lives tick asked slice = (
+types-more : (last : SliceEnd) (rest : List ℕ) (turns : List TypedTurn) (s m t : State) (turn : TypedTurn)
+    (states first : List State) (written : List ℕ) → TypedTurns last rest turns s states written m → has_living m ≡ true
+    → turn.tick ≡ m.inner.tick + 1
+    → TypesIf (WaitsForLine (last_end last turns) m) (left_of rest turns) turn.line turn.bytes
+    → Slice SLICE (with_keys m (turn_of turn).load) first turn.end t → turn.written ≡ console_bytes t.terms
+    → TypedTurns last rest (turns ++ turn ∷ []) s (states ++ first) (written ++ console_bytes t.terms) (record t { terms = terminals_emptied t.terms })
+types-more last rest [] s m t turn states first written (none, nothing, same) lives tick asked slice wrote =
+    subst (λ (s : State). TypedTurns last rest (turn ∷ []) s (states ++ first) (written ++ console_bytes t.terms) (record t { terms = terminals_emptied t.terms })) same
+    (subst (λ (states : List State). TypedTurns last rest (turn ∷ []) m (states ++ first) (written ++ console_bytes t.terms) (record t { terms = terminals_emptied t.terms })) (sym none)
+    (subst (λ (written : List ℕ). TypedTurns last rest (turn ∷ []) m first (written ++ console_bytes t.terms)
+    (record t { terms = terminals_emptied t.terms })) (sym nothing) (types-one last rest m t turn first lives tick
+    asked slice wrote)))
+types-more last rest (here ∷ turns) s m t turn states first written (alive, ticked, was_asked, next, passed, later, more, ran, all, said, bytes, types) lives tick asked slice wrote = (
   alive,
   ticked,
   was_asked,
   next,
   passed,
   later ++ first,
-  rest ++ console_bytes t.terms,
+  more ++ console_bytes t.terms,
   ran,
   ap (λ (states : List State). states ++ first) all ∙ append_assoc passed later first,
-  ap (λ (written : List ℕ). written ++ console_bytes t.terms) bytes ∙ append_assoc (console_bytes next.terms) rest (console_bytes t.terms),
-  types-more here.end turns (record next { terms = terminals_emptied next.terms }) m t turn later first rest types lives tick asked slice,
+  said,
+  ap (λ (written : List ℕ). written ++ console_bytes t.terms) bytes ∙ append_assoc here.written more (console_bytes t.terms),
+  types-more here.end (left_after rest here.line here.bytes) turns (record next { terms = terminals_emptied next.terms }) m t turn later first more types lives tick asked slice wrote,
 )
 
 last-more : (end : SliceEnd) (turns : List TypedTurn) (turn : TypedTurn) → last_end end (turns ++ turn ∷ []) ≡ turn.end
 last-more end [] turn = refl
 last-more end (first ∷ turns) turn = last-more first.end turns turn
+
+left-more : (rest : List ℕ) (turns : List TypedTurn) (turn : TypedTurn) → left_of rest (turns ++ turn ∷ []) ≡ left_after (left_of rest turns) turn.line turn.bytes
+left-more rest [] turn = refl
+left-more rest (first ∷ turns) turn = left-more (left_after rest first.line first.bytes) turns turn
+
+written-more : (turns : List TypedTurn) (turn : TypedTurn) → written_of (turns ++ turn ∷ []) ≡ written_of turns ++ turn.written
+written-more turns turn =
+    let bytes : TypedTurn → List ℕ = λ turn. turn.written in
+    flat_map-append bytes turns (turn ∷ []) ∙ ap (λ (rest : List ℕ). written_of turns ++ rest) (append-nil turn.written)
+
+-- what was shown with the next line is what was written so far
+shown-more : (out : Option (List ℕ)) (turns : List TypedTurn) (turn : TypedTurn) → shown_at out (turns ++ turn ∷ [])
+    ≡ shown_at out turns ++ shown_for (stream_with out (written_of turns)) turn.line
+shown-more out [] turn =
+    append-nil (shown_for out turn.line) ∙ ap (λ (out : Option (List ℕ)). shown_for out turn.line) (sym (appended-nothing out))
+shown-more out (here ∷ turns) turn =
+    let then : Option (List ℕ) = stream_with out here.written in
+    ap (λ (rest : List ℕ). shown_for out here.line ++ rest) (shown-more then turns turn)
+    ∙ sym (append_assoc (shown_for out here.line) (shown_at then turns) (shown_for (stream_with then (written_of turns)) turn.line))
+    ∙ ap (λ (out_then : Option (List ℕ)). (shown_for out here.line ++ shown_at then turns) ++ shown_for out_then turn.line) (appended-twice out here.written (written_of turns))
 
 count-more : (turns : List TypedTurn) (turn : TypedTurn) → length (turns ++ turn ∷ []) ≡ length turns + 1
 count-more turns turn = length-append turns (turn ∷ [])
@@ -273,7 +306,8 @@ module _ (start : List DriveView) (keys load : List Key) (ran : List ℕ) (s m :
             run = subst (λ (from : State). Run (ran ++ SLICE ∷ []) from (it.states ++ each_with more passes.states) (written ++ console_bytes t.terms) (with_keys emptied more)) same whole;
             images =
                 subst (λ (from : State). KeepsImages (ComesInto ((ran ++ SLICE ∷ []) ++ extra) from) (it.states ++ each_with more passes.states) start now.devices.drives) same
-                (subst (λ (slices : List ℕ). KeepsImages (ComesInto slices from) (it.states ++ each_with more passes.states) start now.devices.drives) (sym (append_assoc ran (SLICE ∷ []) extra)) kept);
+                (subst (λ (slices : List ℕ). KeepsImages (ComesInto slices from) (it.states ++ each_with more
+                passes.states) start now.devices.drives) (sym (append_assoc ran (SLICE ∷ []) extra)) kept);
           }
 
     -- or it was not run to its end
@@ -305,28 +339,34 @@ module _ (start : List DriveView) (keys load : List Key) (ran : List ℕ) (s m :
 
 -- ---- a turn at a keyboard
 
--- a line was typed or none, a slice was run behind it, and the answer is how that ended
-pub record TakesTurn (old new : Typed) (last : SliceEnd) (kernel after : Kernel) (answer : Result SliceEnd RunFault) (from to : KeyboardState) (before now : World) : Type 0 where
+-- something was typed or nothing, a slice was run behind it, and the answer is how that ended
+pub record TakesTurn (old new : ConsoleState) (last : SliceEnd) (kernel after : Kernel) (answer : Result SliceEnd RunFault) (before now : World) : Type 0 where
   pub line : Option (List ℕ)
-  pub asked : (s : State) → Represents kernel before.devices s → IsSome line ↔ WaitsForLine last s
-  pub taken : TakesLines (line_list line) from to
-  pub kept : kept_keys new ≡ kept_keys old ++ keys_typed (ticks kernel + 1) line
-  pub slices : new.slices ≡ old.slices + 1
-  pub ran : IfOk answer (λ end. (s : State) → Represents kernel before.devices s → PassesSlice (with_keys s (load_of (keys_typed (ticks kernel + 1) line))) after before now end)
+  pub bytes : List ℕ
+  pub types : (s : State) → Represents kernel before.devices s → TypesIf (WaitsForLine last s) old.rest line bytes
+  pub left_is : new.rest ≡ left_after old.rest line bytes
+  pub taken : TakesLines (line_list line) (shown_for before.out line) old.keyboard new.keyboard
+  pub kept : kept_keys new.typed ≡ kept_keys old.typed ++ keys_typed (ticks kernel + 1) bytes
+  pub slices : new.typed.slices ≡ old.typed.slices + 1
+  pub ran : IfOk answer (λ end. (s : State) → Represents kernel before.devices s → PassesSlice (with_keys s (load_of (keys_typed (ticks kernel + 1) bytes))) after before now end)
   pub stopped : OnErr answer ((s : State) → All IsObserved before.devices.terms → Represents kernel before.devices s
-      → StopsTurn (with_keys s (load_of (keys_typed (ticks kernel + 1) line))) before now)
+      → StopsTurn (with_keys s (load_of (keys_typed (ticks kernel + 1) bytes))) before now)
   pub count : OnOk answer (ticks after ≡ ticks kernel + 1)
 
 -- the world before, with other devices
 abbrev pub with_devices : World → Outside → World
 with_devices world devices = record world { devices = devices }
 
+-- a console that has kept something else
+abbrev pub with_kept : ConsoleState → Typed → ConsoleState
+with_kept place typed = record place { typed = typed }
+
 -- what was typed, and the slice behind it
-module _ (old mid new : Typed) (last : SliceEnd) (kernel after : Kernel) (from to : KeyboardState)
-    (before now : World) (loaded : Outside) (typed : TypesLine last kernel old mid from to before.devices loaded)
-    (same : kept_keys new ≡ kept_keys mid) (slices : new.slices ≡ mid.slices + 1) where
+module _ (old mid : ConsoleState) (new : Typed) (last : SliceEnd) (kernel after : Kernel) (before now : World)
+    (loaded : Outside) (typed : TypesLine last kernel before.out old mid before.devices loaded)
+    (same : kept_keys new ≡ kept_keys mid.typed) (slices : new.slices ≡ mid.typed.slices + 1) where
   abbrev load : Keys
-  load = load_of (keys_typed (ticks kernel + 1) typed.line)
+  load = load_of (keys_typed (ticks kernel + 1) typed.bytes)
 
   here : (s : State) → Represents kernel before.devices s → Represents kernel loaded (with_keys s load)
   here s tied = represents-loaded kernel before.devices loaded s load typed.drives typed.loaded.terms tied
@@ -335,10 +375,12 @@ module _ (old mid new : Typed) (last : SliceEnd) (kernel after : Kernel) (from t
   told-loaded told =
       subst (λ (terms : List TerminalState). All IsObserved terms) (sym typed.loaded.terms) (observed-loaded before.devices.terms load told)
 
-  pub turn-taken : (end : SliceEnd) → RunsTurn kernel after (Ok end) (with_devices before loaded) now → TakesTurn old new last kernel after (Ok end) from to before now
+  pub turn-taken : (end : SliceEnd) → RunsTurn kernel after (Ok end) (with_devices before loaded) now → TakesTurn old (with_kept mid new) last kernel after (Ok end) before now
   turn-taken end turn = record {
     line = typed.line;
-    asked = typed.asked;
+    bytes = typed.bytes;
+    types = typed.types;
+    left_is = typed.left_is;
     taken = typed.taken;
     kept = same ∙ typed.loaded.kept;
     slices = slices ∙ ap (λ (count : ℕ). count + 1) typed.loaded.slices;
@@ -356,10 +398,12 @@ module _ (old mid new : Typed) (last : SliceEnd) (kernel after : Kernel) (from t
     count = turn.count;
   }
 
-  pub turn-stopped : (fault : RunFault) → RunsTurn kernel after (Err fault) (with_devices before loaded) now → TakesTurn old new last kernel after (Err fault) from to before now
+  pub turn-stopped : (fault : RunFault) → RunsTurn kernel after (Err fault) (with_devices before loaded) now → TakesTurn old (with_kept mid new) last kernel after (Err fault) before now
   turn-stopped fault turn = record {
     line = typed.line;
-    asked = typed.asked;
+    bytes = typed.bytes;
+    types = typed.types;
+    left_is = typed.left_is;
     taken = typed.taken;
     kept = same ∙ typed.loaded.kept;
     slices = slices ∙ ap (λ (count : ℕ). count + 1) typed.loaded.slices;
@@ -378,9 +422,15 @@ slices-more old new more = replicate_more old.slices SLICE ∙ ap (λ (count : �
 all-keys : (old new : Typed) (load : List ScriptKey) → kept_keys new ≡ kept_keys old ++ load → keys_for 0 (kept_keys old) ++ keys_for 0 load ≡ keys_for 0 (kept_keys new)
 all-keys old new load kept = sym (keys-more (kept_keys old) load) ∙ ap (keys_for 0) (sym kept)
 
-module _ (start : List DriveView) (first : Option (List ℕ)) (old new : Typed) (last : SliceEnd)
-    (from mid to : KeyboardState) (s : State) (kernel after : Kernel) (before now : World) (here : HasCome start first
-    old last from mid s kernel before.devices before.out) (lives : SomeLives kernel before.devices) where
+module _ (start : List DriveView) (first : Option (List ℕ)) (was place : ConsoleState) (last : SliceEnd)
+    (from : KeyboardState) (s : State) (kernel after : Kernel) (before now : World) (here : HasCome start first was
+    last from s kernel before.devices before.out) (lives : SomeLives kernel before.devices) where
+  abbrev old : Typed
+  old = was.typed
+
+  abbrev new : Typed
+  new = place.typed
+
   abbrev m : State
   m = here.m
 
@@ -391,22 +441,28 @@ module _ (start : List DriveView) (first : Option (List ℕ)) (old new : Typed) 
   tick-here = tick-tied kernel before.devices m here.tied
 
   -- a turn was made
-  module _ (end : SliceEnd) (made : TakesTurn old new last kernel after (Ok end) mid to before now) where
-    abbrev turn : TypedTurn
-    turn = record { tick = m.inner.tick + 1; line = made.line; end = end }
-
-    due : AreLater m.inner.tick (load_of (turn_keys turn))
-    due = load-later m.inner.tick (turn_keys turn) (line-typed (m.inner.tick + 1) made.line)
-
-    passes : PassesSlice (with_keys m (load_of (turn_keys turn))) after before now end
+  module _ (end : SliceEnd) (made : TakesTurn was place last kernel after (Ok end) before now) where
+    passes : PassesSlice (with_keys m (load_of (keys_typed (m.inner.tick + 1) made.bytes))) after before now end
     passes =
-        subst (λ (tick : ℕ). PassesSlice (with_keys m (load_of (keys_typed (tick + 1) made.line))) after before now end) (sym tick-here) (made.ran m here.tied)
-
-    kept : kept_keys new ≡ kept_keys old ++ turn_keys turn
-    kept = made.kept ∙ ap (λ (tick : ℕ). kept_keys old ++ keys_typed (tick + 1) made.line) (sym tick-here)
+        subst (λ (tick : ℕ). PassesSlice (with_keys m (load_of (keys_typed (tick + 1) made.bytes))) after before now end) (sym tick-here) (made.ran m here.tied)
 
     abbrev over : State
     over = passes.t
+
+    abbrev turn : TypedTurn
+    turn = record {
+      tick = m.inner.tick + 1;
+      line = made.line;
+      bytes = made.bytes;
+      end = end;
+      written = console_bytes over.terms;
+    }
+
+    due : AreLater m.inner.tick (load_of (turn_keys turn))
+    due = load-later m.inner.tick (turn_keys turn) (all-typed (m.inner.tick + 1) made.bytes)
+
+    kept : kept_keys new ≡ kept_keys old ++ turn_keys turn
+    kept = made.kept ∙ ap (λ (tick : ℕ). kept_keys old ++ keys_typed (tick + 1) made.bytes) (sym tick-here)
 
     abbrev bare : State
     bare = record over { terms = terminals_emptied over.terms }
@@ -414,9 +470,13 @@ module _ (start : List DriveView) (first : Option (List ℕ)) (old new : Typed) 
     ticked-then : over.inner.tick ≡ m.inner.tick + 1
     ticked-then = ticked start (keys_for 0 (kept_keys old)) (keys_for 0 (turn_keys turn)) (kept_slices old) s m here.written kernel after before now here.tied alive here.goes due end passes made.count
 
-    turns-on : HasTurns new end from to s bare (here.written ++ console_bytes over.terms)
+    turns-on : HasTurns place end first from s bare (here.written ++ console_bytes over.terms)
     turns-on =
-        let it : HasTurns old last from mid s m here.written = here.turns in
+        let it : HasTurns was last first from s m here.written = here.turns in
+        let shown : shown_at first (it.turns ++ turn ∷ []) ≡ shown_at first it.turns ++ shown_for before.out made.line =
+        shown-more first it.turns turn
+        ∙ ap (λ (written : List ℕ). shown_at first it.turns ++ shown_for (stream_with first written) made.line) it.wrote
+        ∙ ap (λ (out : Option (List ℕ)). shown_at first it.turns ++ shown_for out made.line) (sym here.gained) in
         record {
           turns = it.turns ++ turn ∷ [];
           states = it.states ++ passes.states;
@@ -424,16 +484,23 @@ module _ (start : List DriveView) (first : Option (List ℕ)) (old new : Typed) 
               subst (λ (turns : List Turn). ComesTo turns s (it.states ++ passes.states) (here.written ++ console_bytes over.terms) bare) (sym (map-append turn_of it.turns (turn ∷ [])))
               (comes-on (map turn_of it.turns) (turn_of turn) s m over it.states passes.states here.written end it.comes alive due ticked-then passes.slice);
           types =
-              types-more at_start it.turns s m over turn it.states passes.states here.written it.types alive refl
-              (subst (λ (end : SliceEnd). IsSome made.line ↔ WaitsForLine end m) (sym it.last_is) (made.asked m here.tied)) passes.slice;
+              types-more at_start [] it.turns s m over turn it.states passes.states here.written it.types alive refl
+              (subst (λ (end : SliceEnd). TypesIf (WaitsForLine end m) (left_of [] it.turns) made.line made.bytes) (sym it.last_is)
+              (subst (λ (rest : List ℕ). TypesIf (WaitsForLine last m) rest made.line made.bytes) (sym it.rest_is) (made.types m here.tied))) passes.slice refl;
           kept = record {
             keys = kept ∙ ap (λ (keys : List ScriptKey). keys ++ turn_keys turn) it.kept.keys ∙ sym (keys-behind it.turns turn);
             slices = made.slices ∙ ap (λ (count : ℕ). count + 1) it.kept.slices ∙ sym (count-more it.turns turn);
           };
           last_is = last-more at_start it.turns turn;
+          rest_is =
+              left-more [] it.turns turn
+              ∙ ap (λ (rest : List ℕ). left_after rest made.line made.bytes) it.rest_is
+              ∙ sym made.left_is;
+          wrote = written-more it.turns turn ∙ ap (λ (written : List ℕ). written ++ console_bytes over.terms) it.wrote;
           taken =
-              subst (λ (lines : List (List ℕ)). TakesLines lines from to) (sym (lines-behind it.turns turn))
-              (takes-then (lines_of it.turns) (line_list made.line) from mid to it.taken made.taken);
+              subst (λ (lines : List (List ℕ)). TakesLines lines (shown_at first (it.turns ++ turn ∷ [])) from place.keyboard) (sym (lines-behind it.turns turn))
+              (subst (λ (shown : List ℕ). TakesLines (lines_of it.turns ++ line_list made.line) shown from place.keyboard) (sym shown)
+              (takes-then (lines_of it.turns) (line_list made.line) (shown_at first it.turns) (shown_for before.out made.line) from was.keyboard place.keyboard it.taken made.taken));
         }
 
     goes-then : (more : Keys) (extra : List ℕ) → AreLater over.inner.tick more → GoesWith start now.devices.drives
@@ -448,7 +515,7 @@ module _ (start : List DriveView) (first : Option (List ℕ)) (old new : Typed) 
         (subst (λ (keys : List Key). GoesWith start now.devices.drives keys (kept_slices old ++ SLICE ∷ []) s bare
         (here.written ++ console_bytes over.terms) more extra) (all-keys old new (turn_keys turn) kept) gone)
 
-    pub comes-typed : HasCome start first new end from to s after now.devices now.out
+    pub comes-typed : HasCome start first place end from s after now.devices now.out
     comes-typed =
         let was : m.terms ≡ before.devices.terms = ap (λ (s : State). s.terms) here.tied.is in
         let told_m : All IsObserved (with_keys m (load_of (turn_keys turn))).terms = observed-loaded m.terms
@@ -468,12 +535,38 @@ module _ (start : List DriveView) (first : Option (List ℕ)) (old new : Typed) 
         }
 
   -- or it stopped
+  pub part-typed : (fault : RunFault) → TakesTurn was place last kernel after (Err fault) before now → HasPart s new from place.keyboard first
+  part-typed fault made =
+      let it : HasTurns was last first from s m here.written = here.turns in
+      let taken : TakesLines (lines_of it.turns ++ line_list made.line) (shown_at first it.turns ++ shown_for before.out made.line) from place.keyboard = takes-then
+      (lines_of it.turns) (line_list made.line) (shown_at first it.turns) (shown_for before.out made.line) from was.keyboard place.keyboard it.taken made.taken in
+      record {
+        turns = it.turns;
+        states = it.states;
+        written = here.written;
+        m = m;
+        turns_typed = it.types;
+        lives = alive;
+        line = made.line;
+        bytes = made.bytes;
+        types =
+            subst (λ (end : SliceEnd). TypesIf (WaitsForLine end m) (left_of [] it.turns) made.line made.bytes) (sym it.last_is)
+            (subst (λ (rest : List ℕ). TypesIf (WaitsForLine last m) rest made.line made.bytes) (sym it.rest_is) (made.types m here.tied));
+        keys =
+            made.kept
+            ∙ ap (λ (tick : ℕ). kept_keys old ++ keys_typed (tick + 1) made.bytes) (sym tick-here)
+            ∙ ap (λ (keys : List ScriptKey). keys ++ keys_typed (m.inner.tick + 1) made.bytes) it.kept.keys;
+        slices = made.slices ∙ ap (λ (count : ℕ). count + 1) it.kept.slices;
+        taken =
+            subst (λ (out : Option (List ℕ)). TakesLines (lines_of it.turns ++ line_list made.line) (shown_at first it.turns ++ shown_for out made.line) from place.keyboard) here.gained taken;
+      }
+
   pub partly-typed : (fault : RunFault) (origin : World) → origin.out ≡ first → HasNoFault origin before
-      → TakesTurn old new last kernel after (Err fault) mid to before now → RunsPartly (kept_slices new)
+      → TakesTurn was place last kernel after (Err fault) before now → RunsPartly (kept_slices new)
       (with_keys s (load_of (kept_keys new))) origin now
   partly-typed fault origin out none made =
-      let load : List ScriptKey = keys_typed (ticks kernel + 1) made.line in
-      let due : AreLater m.inner.tick (load_of load) = subst (λ (tick : ℕ). AreLater tick (load_of load)) (sym tick-here) (load-later (ticks kernel) load (line-typed (ticks kernel + 1) made.line)) in
+      let load : List ScriptKey = keys_typed (ticks kernel + 1) made.bytes in
+      let due : AreLater m.inner.tick (load_of load) = subst (λ (tick : ℕ). AreLater tick (load_of load)) (sym tick-here) (load-later (ticks kernel) load (all-typed (ticks kernel + 1) made.bytes)) in
       let part : RunsPartly (kept_slices old ++ SLICE ∷ [])
       (with_keys s ((keys_for 0 (kept_keys old) ++ keys_for 0 load) ∷ [])) origin now = comes-partly start
       (keys_for 0 (kept_keys old)) (keys_for 0 load) (kept_slices old) s m here.written kernel after before now

@@ -15,7 +15,7 @@ abbrev pub with_typed : List ScriptKey → World → World
 with_typed keys world =
     record world { devices = record { drives = world.devices.drives; terms = loaded keys world.devices.terms } }
 
--- the lines and the slices that are kept did not change
+-- the keys and the slices that are kept did not change
 pub record IsKept (old new : Typed) : Type 0 where
-  pub lines : new.lines.items ≡ old.lines.items
+  pub parts : new.parts.items ≡ old.parts.items
   pub slices : new.slices ≡ old.slices

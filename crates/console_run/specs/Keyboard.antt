@@ -1,27 +1,40 @@
 -- What can be observed of a keyboard, and what is taken from it.
 use Rattle.std.specs.Prelude.{◌≡◌, true, Bool, IfSome, Option, Some, None, List, [], ◌∷◌, ◌++◌, ℕ}
+use Rattle.os9_outer.specs.Stream.{stream_with}
+use Rattle.console_run.specs.Shown.{shown_length}
 use Rattle.console_run.specs.declared.keyboard.Keyboard.{Ghosts}
 
 pub record KeyboardState : Type 0 where
   pub lines : Option (List (List ℕ))  -- the lines that it is to give before its end, if they are observed
   pub is_over : Bool  -- it has given its end
+  pub asked : Option (List ℕ)  -- how much was shown each time that it answered, if that is observed
 
 -- the state of a keyboard, as `keyboard_state K.Keyboard console.keyboard`
-abbrev pub keyboard_state : {Keyboard : Type 0} → Ghosts Keyboard → Keyboard → KeyboardState
-keyboard_state members keyboard =
-    record { lines = members.lines_left keyboard; is_over = members.is_over keyboard }
+abbrev pub keyboard_state : {Keyboard Host : Type 0} → Ghosts Keyboard Host → Keyboard → KeyboardState
+keyboard_state members keyboard = record {
+  lines = members.lines_left keyboard;
+  is_over = members.is_over keyboard;
+  asked = members.asked keyboard;
+}
 
--- these lines were the next ones, and it has given them
-abbrev pub TakesLines : List (List ℕ) → KeyboardState → KeyboardState → Type 0
-TakesLines taken before after =
-    IfSome before.lines (λ lines. (left : List (List ℕ)) × (lines ≡ taken ++ left) × (after.lines ≡ Some left))
+-- it answered each time that so much was shown, and gave these lines, which were the next ones
+pub record TakesLines (taken : List (List ℕ)) (shown : List ℕ) (before after : KeyboardState) : Type 0 where
+  pub lines : IfSome before.lines (λ lines. (left : List (List ℕ)) × (lines ≡ taken ++ left)
+      × (after.lines ≡ Some left))
+  pub asked : after.asked ≡ stream_with before.asked shown
 
--- it has given its end, and has no lines left
-pub record IsAtEnd (keyboard : KeyboardState) : Type 0 where
-  pub over : keyboard.is_over ≡ true
-  pub none : IfSome keyboard.lines (λ lines. lines ≡ [])
+-- it answered once, when so much was shown, and gave its end: it has no lines left
+pub record GivesEnd (shown : ℕ) (before after : KeyboardState) : Type 0 where
+  pub taken : TakesLines [] (shown ∷ []) before after
+  pub over : after.is_over ≡ true
+  pub none : IfSome after.lines (λ lines. lines ≡ [])
 
 -- the line, if there is one
 abbrev pub line_list : Option (List ℕ) → List (List ℕ)
 line_list None = []
 line_list (Some line) = line ∷ []
+
+-- how much is shown with this output if it gives a line then
+abbrev pub shown_for : Option (List ℕ) → Option (List ℕ) → List ℕ
+shown_for out None = []
+shown_for out (Some line) = shown_length out ∷ []

@@ -1,7 +1,9 @@
 pub mod Keyboard
 pub mod Kept
+pub mod Lines
 pub mod Seen
 pub mod Session
+pub mod Shown
 pub mod Turn
 pub mod TypedTurn
 pub mod Waiting

@@ -1,5 +1,6 @@
 -- A session of a machine at whose terminal a person types.
-use Rattle.std.specs.Prelude.{◌≡◌, ◌≢◌, ◌++◌, ℕ, ⊤, Bool, true, false, Option, Result, List, [], map, IfOk, All}
+use Rattle.std.specs.Prelude.{◌≡◌, ◌≢◌, ◌⊎◌, ◌+◌, ◌++◌, ℕ, ⊤, Bool, true, false, IsSome, Option, Result, List, [], length, map, IfOk, OnErr, All}
+use Rattle.std.specs.List.{flat_map}
 use Rattle.os9_outer.specs.Stream.{stream_with}
 use Rattle.lock_model.specs.declared.history.Entry.{Entry}
 use Rattle.file_start.specs.Start.{HaveImages}
@@ -16,12 +17,14 @@ use Rattle.boot_run.specs.Machine.{MachineCall, Setup, StartsLoaded, setup_with}
 use Rattle.boot_run.specs.Slices.{RunsSlices}
 use Rattle.boot_run.specs.World.{World}
 use Rattle.boot_run.specs.declared.machine.RunEnd.{RunEnd}
-use Rattle.boot_run.specs.declared.machine.RunEnd.TheVariants.{Ended, Living, Refused, DriveFailed}
+use Rattle.boot_run.specs.declared.machine.RunEnd.TheVariants.{Ended, Living, Refused, DriveFailed, OutputFailed, NoMemory}
 use Rattle.boot_run.specs.declared.run.RunFault.{RunFault}
 use Rattle.console_run.specs.Kept.{load_of, with_typed}
-use Rattle.session_text.specs.Typed.{kept_keys, kept_slices}
-use Rattle.console_run.specs.Keyboard.{KeyboardState, TakesLines, line_list}
-use Rattle.console_run.specs.TypedTurn.{KeepsTurns, TypedTurn, TypedTurns, last_end, lines_of, turn_of}
+use Rattle.session_text.specs.Typed.{kept_keys, kept_slices, keys_typed}
+use Rattle.console_run.specs.Keyboard.{GivesEnd, KeyboardState, TakesLines, line_list, shown_for}
+use Rattle.console_run.specs.Lines.{KeepsLines, TypesIf}
+use Rattle.console_run.specs.Shown.{shown_length}
+use Rattle.console_run.specs.TypedTurn.{KeepsTurns, TypedTurn, TypedTurns, last_end, left_of, lines_of, shown_at, turn_keys, turn_of}
 use Rattle.console_run.specs.Waiting.{IsOver, WaitsForLine}
 use Rattle.session_text.specs.declared.typed.Typed.{Typed}
 use Rattle.console_run.specs.declared.session.SessionEnd.{SessionEnd}
@@ -32,27 +35,67 @@ use Rattle.console_run.specs.declared.turns.Stop.{Stop}
 abbrev pub at_start : SliceEnd
 at_start = SliceEnd.Ran
 
--- A session from s over these turns to t, with lines typed before its slices: a run whose keys are loaded before each
+-- A session from s over these turns to t, with keys typed before its slices: a run whose keys are loaded before each
 -- slice. The output gained what it wrote, and its keys and slices are kept: over these it is one run of terminals that
 -- were loaded with all the keys before it.
 pub record HasSession (turns : List TypedTurn) (s t : State) (typed : Typed) (before after : Option (List ℕ))
     : Type 0 where
   pub states : List State
   pub written : List ℕ
-  pub turns_typed : TypedTurns at_start turns s states written t
+  pub turns_typed : TypedTurns at_start [] turns s states written t
   pub session : Session (map turn_of turns) s states written t
   pub through : List State
   pub run : Run (kept_slices typed) (with_keys s (load_of (kept_keys typed))) through written t
   pub kept : KeepsTurns typed turns
   pub output : after ≡ stream_with before written
 
--- Why a session stopped after these turns, in this state, and what it took from the keyboard. It is over, and took the
--- lines that were typed. Or every process waits for a line for which memory was out; it may have been taken too.
-abbrev pub StopsFor : Stop → List TypedTurn → State → KeyboardState → KeyboardState → Type 0
-StopsFor Stop.Over turns t from to = TakesLines (lines_of turns) from to × IsOver (last_end at_start turns) t to
-StopsFor Stop.LineLost turns t from to =
-    (lost : Option (List ℕ)) × TakesLines (lines_of turns ++ line_list lost) from to
-    × WaitsForLine (last_end at_start turns) t × (has_living t ≡ true)
+-- No slice can follow these turns. The keyboard gave their lines, each at its time, and was not asked again.
+pub record StopsAsOver (turns : List TypedTurn) (t : State) (from to : KeyboardState) (before : Option (List ℕ))
+    : Type 0 where
+  pub taken : TakesLines (lines_of turns) (shown_at before turns) from to
+  pub over : IsOver t
+
+-- Or every process waits for keys, no rest of a line is left, and the keyboard was asked once more and gave its end.
+pub record StopsAtEnd (turns : List TypedTurn) (t : State) (from to : KeyboardState) (before after : Option (List ℕ))
+    : Type 0 where
+  pub mid : KeyboardState
+  pub taken : TakesLines (lines_of turns) (shown_at before turns) from mid
+  pub waits : WaitsForLine (last_end at_start turns) t
+  pub none_left : left_of [] turns ≡ []
+  pub end : GivesEnd (shown_length after) mid to
+
+-- Or every process waits for keys, and memory was out for them. A line for which it was out may have been taken too.
+pub record StopsAtLine (turns : List TypedTurn) (t : State) (from to : KeyboardState) (before after : Option (List ℕ))
+    : Type 0 where
+  pub lost : Option (List ℕ)
+  pub taken : TakesLines (lines_of turns ++ line_list lost) (shown_at before turns ++ shown_for after lost) from to
+  pub none_left : IsSome lost → left_of [] turns ≡ []
+  pub waits : WaitsForLine (last_end at_start turns) t
+  pub lives : has_living t ≡ true
+
+-- why a session stopped after these turns, in this state, with these outputs before and after
+abbrev pub StopsFor : Stop → List TypedTurn → State → KeyboardState → KeyboardState → Option (List ℕ)
+    → Option (List ℕ) → Type 0
+StopsFor Stop.Over turns t from to before after =
+    StopsAsOver turns t from to before ⊎ StopsAtEnd turns t from to before after
+StopsFor Stop.LineLost turns t from to before after = StopsAtLine turns t from to before after
+
+-- A session from s that stopped within a slice, or as the bytes of one were put out. What is kept was typed in these
+-- turns, and before that slice, each at its time, with this output before them.
+pub record HasPart (s : State) (typed : Typed) (from to : KeyboardState) (before : Option (List ℕ)) : Type 0 where
+  pub turns : List TypedTurn
+  pub states : List State
+  pub written : List ℕ
+  pub m : State
+  pub turns_typed : TypedTurns at_start [] turns s states written m
+  pub lives : has_living m ≡ true
+  pub line : Option (List ℕ)
+  pub bytes : List ℕ
+  pub types : TypesIf (WaitsForLine (last_end at_start turns) m) (left_of [] turns) line bytes
+  pub keys : kept_keys typed ≡ flat_map turn_keys turns ++ keys_typed (m.inner.tick + 1) bytes
+  pub slices : typed.slices ≡ length turns + 1
+  pub taken : TakesLines (lines_of turns ++ line_list line)
+      (shown_at before turns ++ shown_for (stream_with before written) line) from to
 
 -- ---- of a kernel that was started
 
@@ -63,15 +106,18 @@ pub record RunsSession (stop : Stop) (s : State) (new : Kernel) (typed : Typed) 
   pub t : State
   pub session : HasSession turns s t typed before.out after.out
   pub there : Represents new after.devices t
-  pub stops : StopsFor stop turns t from to
+  pub stops : StopsFor stop turns t from to before.out after.out
 
--- It is the run of what is kept, of terminals that were loaded with those keys before it. If it stopped after a slice,
--- there was a session from each state that was represented.
+-- It is the run of what is kept, of terminals that were loaded with those keys before it, and those are keys of lines
+-- that the keyboard gave. There was a session from each state that was represented, or a part of one.
 pub record RunsTurns (typed : Typed) (old new : Kernel) (answer : Result Stop RunFault) (from to : KeyboardState)
     (before after : World) : Type 0 where
   pub ran : RunsSlices (kept_slices typed) old new answer (with_typed (kept_keys typed) before) after
+  pub lines : KeepsLines typed from to
   pub session : IfOk answer (λ stop. (s : State) → All IsObserved before.devices.terms
       → Represents old before.devices s → RunsSession stop s new typed from to before after)
+  pub stopped : OnErr answer ((s : State) → All IsObserved before.devices.terms → Represents old before.devices s
+      → HasPart s typed from to before.out)
 
 -- ---- of a machine
 
@@ -92,21 +138,34 @@ pub record LeadsSession (setup : Setup) (typed : Typed) (history : List Entry) (
 
 -- a session came so to its last state, in which a process lives or none does, and stopped
 pub record StopsSession (comes : List TypedTurn → State → Type 0) (lives : Bool) (stop : Stop)
-    (from to : KeyboardState) : Type 0 where
+    (from to : KeyboardState) (before after : World) : Type 0 where
   pub turns : List TypedTurn
   pub t : State
   pub came : comes turns t
   pub living : has_living t ≡ lives
-  pub stops : StopsFor stop turns t from to
+  pub stops : StopsFor stop turns t from to before.out after.out
 
 -- by how it ended
-abbrev pub IsSessionTo : (List TypedTurn → State → Type 0) → SessionEnd → KeyboardState → KeyboardState → Type 0
-IsSessionTo comes (OfRun (Ended begun)) from to = StopsSession comes false Stop.Over from to
-IsSessionTo comes (OfRun (Living begun)) from to = StopsSession comes true Stop.Over from to
-IsSessionTo comes (LineLost end) from to = StopsSession comes true Stop.LineLost from to
-IsSessionTo comes end from to = ⊤
+abbrev pub IsSessionTo : (List TypedTurn → State → Type 0) → SessionEnd → KeyboardState → KeyboardState → World → World
+    → Type 0
+IsSessionTo comes (OfRun (Ended begun)) from to before after = StopsSession comes false Stop.Over from to before after
+IsSessionTo comes (OfRun (Living begun)) from to before after = StopsSession comes true Stop.Over from to before after
+IsSessionTo comes (LineLost end) from to before after = StopsSession comes true Stop.LineLost from to before after
+IsSessionTo comes end from to before after = ⊤
 
--- if memory was out for a line, the output did not fail
+-- the machine that is set up so was started, and there was a part of a session from its start
+pub record StopsWithin (setup : Setup) (typed : Typed) (from to : KeyboardState) (before : World) : Type 0 where
+  pub s : State
+  pub starts : StartsLoaded (untyped setup) before s
+  pub part : HasPart s typed from to before.out
+
+-- If the output failed, that was within a session. If memory was out, it was too, or the keyboard was not asked.
+abbrev pub IsPartTo : Setup → Typed → SessionEnd → KeyboardState → KeyboardState → World → Type 0
+IsPartTo setup typed (OfRun OutputFailed) from to before = StopsWithin setup typed from to before
+IsPartTo setup typed (OfRun NoMemory) from to before = (to ≡ from) ⊎ StopsWithin setup typed from to before
+IsPartTo setup typed end from to before = ⊤
+
+-- if memory was out for keys, the output did not fail
 abbrev pub EndsAtLine : SessionEnd → Type 0
 EndsAtLine (LineLost end) = end ≢ RunEnd.OutputFailed
 EndsAtLine end = ⊤
@@ -122,15 +181,17 @@ abbrev pub run_end : SessionEnd → RunEnd
 run_end (OfRun end) = end
 run_end (LineLost end) = end
 
--- It is the run of the machine over the slices and with the keys that are kept, and a session if the bytes of all
--- terminals are observed.
+-- It is the run of the machine over the slices and with the keys that are kept, which are keys of lines that the
+-- keyboard gave, and a session or a part of one if the bytes of all terminals are observed.
 pub record SessionCall (setup : Setup) (end : SessionEnd) (history : List Entry) (typed : Typed)
     (from to : KeyboardState) (before after : World) : Type 0 where
   pub machine : MachineCall setup history before after (run_end end)
   pub at_line : EndsAtLine end
   pub keyboard : AsksKeyboard end from to
-  pub session : All IsObserved before.devices.terms → IsSessionTo (LeadsSession setup typed history before after) end
-      from to
+  pub lines : KeepsLines typed from to
+  pub session : All IsObserved before.devices.terms
+      → IsSessionTo (LeadsSession setup typed history before after) end from to before after
+  pub stopped : All IsObserved before.devices.terms → IsPartTo setup typed end from to before
 
 -- so with the images that were in the first drives
 abbrev pub SessionRuns : Config → List ℕ → SessionEnd → List Entry → Typed → KeyboardState → KeyboardState → World

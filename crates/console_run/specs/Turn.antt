@@ -1,5 +1,5 @@
 -- What is typed before a slice, and a slice whose bytes are passed on.
-use Rattle.std.specs.Prelude.{◌≡◌, ◌⊎◌, ◌↔◌, ℕ, ◌+◌, ◌++◌, IsSome, Option, Result, List, [], IfOk, OnOk, OnErr, All}
+use Rattle.std.specs.Prelude.{◌≡◌, ◌≢◌, ◌⊎◌, ◌↔◌, ℕ, ◌+◌, ◌++◌, IsSome, Option, Result, List, [], drop, length, take, IfOk, OnOk, OnErr, All}
 use Rattle.os9_outer.specs.Stream.{stream_with}
 use Rattle.os9_outer.specs.TerminalState.{TerminalState}
 use Rattle.script_text.specs.declared.script.ScriptKey.{ScriptKey}
@@ -20,12 +20,17 @@ use Rattle.boot_run.specs.World.{World, FailsToWrite, HasNoFault}
 use Rattle.boot_run.specs.declared.run.RunFault.{RunFault}
 use Rattle.console_run.specs.Kept.{IsKept, load_of}
 use Rattle.session_text.specs.Typed.{kept_keys, keys_typed}
-use Rattle.console_run.specs.Keyboard.{IsAtEnd, KeyboardState, TakesLines, line_list}
+use Rattle.console_run.specs.Keyboard.{GivesEnd, KeyboardState, TakesLines, keyboard_state, line_list, shown_for}
+use Rattle.console_run.specs.Lines.{TypesIf, asked_bytes, left_after}
+use Rattle.console_run.specs.Shown.{shown_length}
+use Rattle.console_run.specs.declared.console.Console.{Console}
+use Rattle.console_run.specs.declared.keyboard.Keyboard.{Ghosts}
+use Rattle.console_run.specs.declared.part.TheConstants.{PART}
 use Rattle.console_run.specs.Waiting.{WaitsForLine}
 use Rattle.session_text.specs.declared.typed.TheConstants.{SLICE}
 use Rattle.session_text.specs.declared.typed.Typed.{Typed}
-use Rattle.console_run.specs.declared.typing.Asked.{Asked}
-use Rattle.console_run.specs.declared.typing.Asked.TheVariants.{GoesOn, AtEnd, NoMemory}
+use Rattle.console_run.specs.declared.asking.Asked.{Asked}
+use Rattle.console_run.specs.declared.asking.Asked.TheVariants.{GoesOn, AtEnd, NoMemory}
 
 -- ---- before a slice
 
@@ -35,35 +40,82 @@ pub record LoadsKeys (load : List ScriptKey) (old new : Typed) (before after : L
   pub slices : new.slices ≡ old.slices
   pub terms : after ≡ keys_loaded before (load_of load)
 
+-- what a console has typed, what is left of a line, and its keyboard
+pub record ConsoleState : Type 0 where
+  pub typed : Typed
+  pub rest : List ℕ
+  pub keyboard : KeyboardState
+
+-- what is left of the line that it types
+abbrev pub rest_of : {Keyboard : Type 0} → Console Keyboard → List ℕ
+rest_of console = drop console.place console.line.items
+
+-- the state of a console, as `console_state K.Keyboard console.now`
+abbrev pub console_state : {Keyboard Host : Type 0} → Ghosts Keyboard Host → Console Keyboard → ConsoleState
+console_state members console = record {
+  typed = console.typed;
+  rest = rest_of console;
+  keyboard = keyboard_state members console.keyboard;
+}
+
+-- Of this rest of a line the next bytes were typed, and are due in this tick. This is left behind them.
+pub record TypesRest (tick : ℕ) (rest left : List ℕ) (old new : Typed) (before after : List TerminalState)
+    : Type 0 where
+  pub bytes : List ℕ
+  pub part : bytes ≡ take PART rest
+  pub left_is : left ≡ drop (length bytes) rest
+  pub loaded : LoadsKeys (keys_typed tick bytes) old new before after
+
+-- The keyboard was asked for this line if and only if no rest was left, with this output. It is left then.
+pub record AsksLine (out : Option (List ℕ)) (line : Option (List ℕ)) (old new : ConsoleState) : Type 0 where
+  pub asked : IsSome line ↔ (old.rest ≡ [])
+  pub rest : new.rest ≡ old.rest ++ asked_bytes line
+  pub some : new.rest ≢ []
+  pub taken : TakesLines (line_list line) (shown_for out line) old.keyboard new.keyboard
+  pub typed : new.typed ≡ old.typed
+
+-- Nothing was typed, since memory was out. A line for which it was out may have been taken, if no rest was left.
+pub record LosesLine (out : Option (List ℕ)) (old new : ConsoleState) : Type 0 where
+  pub lost : Option (List ℕ)
+  pub none_left : IsSome lost → old.rest ≡ []
+  pub taken : TakesLines (line_list lost) (shown_for out lost) old.keyboard new.keyboard
+  pub typed : IsKept old.typed new.typed
+
+-- nothing was typed: no rest was left, and the keyboard was asked, and gave its end
+pub record MeetsEnd (out : Option (List ℕ)) (old new : ConsoleState) : Type 0 where
+  pub none_left : old.rest ≡ []
+  pub end : GivesEnd (shown_length out) old.keyboard new.keyboard
+  pub typed : IsKept old.typed new.typed
+
+-- by what was answered: a rest of a line is there
+abbrev pub HasRest : Asked → Option (List ℕ) → ConsoleState → ConsoleState → Type 0
+HasRest GoesOn out old new = (line : Option (List ℕ)) × AsksLine out line old new
+HasRest AtEnd out old new = MeetsEnd out old new
+HasRest NoMemory out old new = LosesLine out old new
+
 -- whatever state is represented, every process waits for keys
 abbrev pub AllWait : SliceEnd → Kernel → Outside → Type 0
 AllWait last kernel devices = (s : State) → Represents kernel devices s → WaitsForLine last s
 
--- The session goes on: a line was taken from the keyboard if and only if every process waits for keys, and its keys,
--- which are due in the tick that comes, were loaded.
-pub record TypesLine (last : SliceEnd) (kernel : Kernel) (old new : Typed) (from to : KeyboardState)
+-- the session goes on: what is typed was loaded, and is due in the tick that comes
+pub record TypesLine (last : SliceEnd) (kernel : Kernel) (out : Option (List ℕ)) (old new : ConsoleState)
     (before after : Outside) : Type 0 where
   pub line : Option (List ℕ)
-  pub asked : (s : State) → Represents kernel before s → IsSome line ↔ WaitsForLine last s
-  pub taken : TakesLines (line_list line) from to
-  pub loaded : LoadsKeys (keys_typed (ticks kernel + 1) line) old new before.terms after.terms
+  pub bytes : List ℕ
+  pub types : (s : State) → Represents kernel before s → TypesIf (WaitsForLine last s) old.rest line bytes
+  pub left_is : new.rest ≡ left_after old.rest line bytes
+  pub taken : TakesLines (line_list line) (shown_for out line) old.keyboard new.keyboard
+  pub loaded : LoadsKeys (keys_typed (ticks kernel + 1) bytes) old.typed new.typed before.terms after.terms
   pub drives : after.drives ≡ before.drives
 
--- It does not go on: every process waits for keys, and nothing was typed.
-pub record TypesNone (last : SliceEnd) (kernel : Kernel) (old new : Typed) (before after : Outside) : Type 0 where
-  pub waits : AllWait last kernel before
-  pub typed : IsKept old new
-  pub devices : after ≡ before
-
--- by what was answered: the keyboard gave its end, or memory was out for its line
-abbrev pub HasAsked : SliceEnd → Kernel → Typed → Typed → Asked → KeyboardState → KeyboardState → Outside → Outside
+-- by what was answered; if the session does not go on, every process waits for keys, and nothing was typed
+abbrev pub HasAsked : SliceEnd → Kernel → Option (List ℕ) → Asked → ConsoleState → ConsoleState → Outside → Outside
     → Type 0
-HasAsked last kernel old new GoesOn from to before after = TypesLine last kernel old new from to before after
-HasAsked last kernel old new AtEnd from to before after =
-    TypesNone last kernel old new before after × IsAtEnd to × TakesLines [] from to
-HasAsked last kernel old new NoMemory from to before after =
-    TypesNone last kernel old new before after
-    × ((lost : Option (List ℕ)) × TakesLines (line_list lost) from to)
+HasAsked last kernel out GoesOn old new before after = TypesLine last kernel out old new before after
+HasAsked last kernel out AtEnd old new before after =
+    AllWait last kernel before × (after ≡ before) × MeetsEnd out old new
+HasAsked last kernel out NoMemory old new before after =
+    AllWait last kernel before × (after ≡ before) × LosesLine out old new
 
 -- ---- a slice
 

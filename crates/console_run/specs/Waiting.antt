@@ -1,4 +1,4 @@
--- When a line is typed, and when a session is over.
+-- When something is typed, and when no slice can follow.
 use Rattle.std.specs.Prelude.{◌≡◌, ◌⊎◌, ℕ, ◌+◌, ◌<◌, false, List, [], ◌∷◌}
 use Rattle.os9_base.specs.declared.limits.TheConstants.{LAST_TICK, PROCESS_PLACES}
 use Rattle.os9_outer.specs.TerminalState.{TerminalState}
@@ -6,7 +6,6 @@ use Rattle.os9_outer.specs.declared.terminal.Key.{Key}
 use Rattle.event_rules.specs.declared.ends.SliceEnd.{SliceEnd}
 use Rattle.machine_model.specs.State.{State, has_living}
 use Rattle.os9_kernel.specs.View.{wakes_by_clock}
-use Rattle.console_run.specs.Keyboard.{IsAtEnd, KeyboardState}
 
 -- no process sleeps until a tick, or waits for a record for a limited number of ticks
 abbrev pub NoneWakes : State → Type 0
@@ -24,8 +23,6 @@ pub record WaitsForLine (end : SliceEnd) (s : State) : Type 0 where
   pub asleep : NoneWakes s
   pub none_left : term_keys s.terms ≡ []
 
--- A session is over after such a slice: no process lives, or every one waits for keys and the keyboard is at its end,
--- or the last tick would come.
-abbrev pub IsOver : SliceEnd → State → KeyboardState → Type 0
-IsOver end s keyboard =
-    (has_living s ≡ false) ⊎ ((WaitsForLine end s × IsAtEnd keyboard) ⊎ (s.inner.tick + 1 ≡ LAST_TICK))
+-- no slice can follow: no process lives, or the last tick would come
+abbrev pub IsOver : State → Type 0
+IsOver s = (has_living s ≡ false) ⊎ (s.inner.tick + 1 ≡ LAST_TICK)

@@ -11,6 +11,10 @@ pub struct Console<K> {
     pub alloc: Global,
     /// What gives the lines.
     pub keyboard: K,
+    /// The bytes of the line that is being typed, with its Return.
+    pub line: Vec<u8>,
+    /// How many of them are typed.
+    pub place: usize,
     /// What is kept of the session.
     pub typed: Typed,
 }
@@ -24,8 +28,10 @@ impl<K: Drop> Console<K> {
         Console {
             alloc,
             keyboard,
+            line: Vec::new(alloc),
+            place: 0,
             typed: Typed {
-                lines: Vec::new(alloc),
+                parts: Vec::new(alloc),
                 slices: 0,
             },
         }

@@ -1,9 +1,8 @@
-//! A line is loaded.
+//! Keys are loaded.
 
-ghost use Rattle.std.specs.Prelude.{◌≡◌, ◌<◌, ◌∷◌, [], IfOk, OnErr, OnOk, IsFalse, IsTrue, map, vec_len};
-ghost use Rattle.key_loading.specs.Loaded.{keys_for};
+ghost use Rattle.std.specs.Prelude.{◌≡◌, ◌<◌, ◌∷◌, [], IfOk, OnErr, OnOk, IsFalse, IsTrue, length, map, vec_len};
 ghost use Rattle.run_laws.specs.Session.{keys_loaded};
-ghost use Rattle.session_text.specs.Typed.{keys_of_line as keys_of_line_lem};
+ghost use Rattle.session_text.specs.Typed.{keys_typed, part_bytes};
 ghost use Rattle.console_run.specs.Kept.{IsKept};
 ghost use Rattle.console_run.specs.Seen.{terms_seen};
 ghost use Rattle.console_run.specs.Turn.{LoadsKeys};
@@ -11,50 +10,56 @@ ghost use Rattle.console_run.specs.Waiting.{term_keys};
 
 use device_table::devices::Devices;
 use os9_outer::terminal::{CharDriver, Key};
-use session_text::typed::{Typed, TypedLine};
+use session_text::typed::{Typed, TypedPart};
 use std::alloc::{AllocError, Global};
 
 /// The terminal at which a person types.
 const TERM: usize = 0;
 
-/// The key that ends a line.
-const RETURN: u8 = 0x0d;
-
-/// Loads TERM, which has no keys left, with the keys of a line, and keeps it. They are due in this
-/// tick.
+/// Loads TERM, which has no keys left, with keys of these bytes, and keeps them. They are due in
+/// this tick.
 ///
 /// # Errors
 ///
 /// Memory is out: nothing was loaded.
-pub(crate) fn load_line(
+pub(crate) fn load_part(
     alloc: Global,
-    line: Vec<u8>,
+    bytes: &[u8],
     tick: u32,
     typed: &mut Typed,
     devices: &mut Devices,
 ) -> Result<(), AllocError>
     requires some { 0 < vec_len devices.old.terms }
     requires none_left { term_keys (terms_seen CharDriver-box devices.old) ≡ [] }
-    ensures loaded { OnOk result (LoadsKeys (keys_of_line_lem tick line.items) typed.old typed.new
+    requires bytes { 0 < length bytes.now }
+    ensures loaded { OnOk result (LoadsKeys (keys_typed tick bytes.now) typed.old typed.new
         (terms_seen CharDriver-box devices.old) (terms_seen CharDriver-box devices.new)) }
     ensures typed_kept { OnErr result (IsKept typed.old typed.new) }
     ensures devices_kept { OnErr result (devices.new ≡ devices.old) }
     ensures terminals { vec_len devices.new.terms ≡ vec_len devices.old.terms }
     ensures drives_kept { devices.new.drives ≡ devices.old.drives }
 {
-    let keys = keys_of_line(alloc, line.as_slice(), tick)?;
-    typed.lines.push(TypedLine { tick, bytes: line })?;
+    let keys = keys_of_bytes(alloc, bytes, tick)?;
+    let part = part_of(alloc, bytes, tick)?;
+    typed.parts.push(part)?;
     load_term(devices, keys);
     Ok(())
 }
 
-/// The keys of a line, and the one that ends it, all due in one tick.
-fn keys_of_line(alloc: Global, line: &[u8], tick: u32) -> Result<Vec<Key>, AllocError>
-    ensures { IfOk result (λ keys. keys.items ≡ keys_for 0 (keys_of_line_lem tick line.now)) }
+/// What is kept of keys with these bytes, all due in one tick.
+fn part_of(alloc: Global, bytes: &[u8], tick: u32) -> Result<TypedPart, AllocError>
+    requires { 0 < length bytes.now }
+    ensures tick { IfOk result (λ part. part.tick ≡ tick) }
+    ensures bytes { IfOk result (λ part. part_bytes part ≡ bytes.now) }
 {
-    let mut keys = keys_of_bytes(alloc, line, tick)?;
-    keys.push(Key { tick, byte: RETURN })?;
-    Ok(keys)
+    let end = bytes.len() - 1;
+    let last = bytes[end];
+    let front = Vec::from_slice(alloc, &bytes[..end])?;
+    Ok(TypedPart {
+        tick,
+        bytes: front,
+        last,
+    })
 }
 
 /// Keys with these bytes, all due in one tick.

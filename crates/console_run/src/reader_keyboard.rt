@@ -1,6 +1,7 @@
 ghost use Rattle.std.specs.Prelude.{◌≡◌, None, false};
 
 use crate::keyboard::Keyboard;
+use os9_outer::host::Host;
 use std::alloc::{AllocError, Global};
 use std::io::{BufRead, ErrorKind};
 
@@ -8,7 +9,7 @@ use std::io::{BufRead, ErrorKind};
 const LINE_FEED: u8 = b'\n';
 
 /// A keyboard over a reader, each line of which ends with a line feed, which the last may lack. Its
-/// lines are not observed.
+/// lines are not observed, and neither is when it is asked.
 #[derive(Drop)]
 pub struct ReaderKeyboard<R> {
     alloc: Global,
@@ -19,7 +20,7 @@ pub struct ReaderKeyboard<R> {
 impl<R: BufRead + Drop> ReaderKeyboard<R> {
     /// The keyboard over this reader.
     pub fn new(alloc: Global, reader: R) -> ReaderKeyboard<R>
-        ensures { ⟦<ReaderKeyboard<R> as Keyboard>⟧.is_over result ≡ false }
+        ensures { result.over ≡ false }
     {
         ReaderKeyboard {
             alloc,
@@ -29,12 +30,14 @@ impl<R: BufRead + Drop> ReaderKeyboard<R> {
     }
 }
 
-impl<R: BufRead + Drop> Keyboard for ReaderKeyboard<R> {
+impl<H: Host, R: BufRead + Drop> Keyboard<H> for ReaderKeyboard<R> {
     ghost lines_left = { λ _. None };
 
     ghost is_over = { λ keyboard. keyboard.over };
 
-    fn line(&mut self) -> Result<Option<Vec<u8>>, AllocError> {
+    ghost asked = { λ _. None };
+
+    fn line(&mut self, host: &H) -> Result<Option<Vec<u8>>, AllocError> {
         let mut line = Vec::new(self.alloc);
         match self.reader.read_until(LINE_FEED, &mut line) {
             Ok(0) => {

@@ -24,7 +24,7 @@ use record_locks::records::Records;
 pub enum SessionEnd {
     /// The run of its machine ended so, and it is over, or the run could not go on.
     OfRun(RunEnd),
-    /// Memory was out for a line. The run of its machine over the slices that are kept ended so.
+    /// Memory was out for keys. The run of its machine over the slices that are kept ended so.
     LineLost(RunEnd),
 }
 
@@ -39,10 +39,10 @@ pub struct SessionOutcome {
 }
 
 /// Starts a machine with a boot file and the images in its first drives, and runs it as a person
-/// types. What the terminals are given goes to the output stream after each slice. What comes of it
-/// is what comes of the machine that `run_machine` runs over the slices and with the keys that are
-/// kept, and it was a session.
-pub fn run_session<H: Host, K: Keyboard + Drop>(
+/// types. What the terminals are given goes to the output stream after each slice, before the
+/// keyboard is asked again. What comes of it is what comes of the machine that `run_machine` runs
+/// over the slices and with the keys that are kept, and it was a session.
+pub fn run_session<H: Host, K: Keyboard<H> + Drop>(
     config: Config,
     file: &[u8],
     console: &mut Console<K>,

@@ -1,43 +1,59 @@
-ghost use Rattle.std.specs.Prelude.{◌≡◌, ◌≤◌, ℕ, Some, false, List, drop, length, map};
+ghost use Rattle.std.specs.Prelude.{◌≡◌, ◌≤◌, ℕ, Some, [], false, List, drop, length, map};
 
 use crate::keyboard::Keyboard;
-use std::alloc::AllocError;
+use os9_outer::mem_host::MemHost;
+use std::alloc::{AllocError, Global};
 
-/// A keyboard over lines in memory, each of which it gives once. They are observed.
+/// A keyboard over lines in memory, each of which it gives once, at a host in memory. They are
+/// observed, and so is how much is shown each time that it is asked.
 #[derive(Debug, Drop)]
 pub struct SureKeyboard {
     lines: Vec<Vec<u8>>,
     given: usize,
     over: bool,
+    asked: Vec<usize>,
 }
 
 impl SureKeyboard {
     /// A keyboard that gives these lines.
-    pub fn new(lines: Vec<Vec<u8>>) -> SureKeyboard
-        ensures lines { ⟦<SureKeyboard as Keyboard>⟧.lines_left result
+    pub fn new(alloc: Global, lines: Vec<Vec<u8>>) -> SureKeyboard
+        ensures lines { ⟦<SureKeyboard as Keyboard<MemHost>>⟧.lines_left result
             ≡ Some (map (λ line. line.items) lines.items) }
-        ensures not_over { ⟦<SureKeyboard as Keyboard>⟧.is_over result ≡ false }
+        ensures not_over { ⟦<SureKeyboard as Keyboard<MemHost>>⟧.is_over result ≡ false }
+        ensures not_asked { ⟦<SureKeyboard as Keyboard<MemHost>>⟧.asked result ≡ Some [] }
     {
         SureKeyboard {
             lines,
             given: 0,
             over: false,
+            asked: Vec::new(alloc),
         }
+    }
+
+    /// How many bytes the host was given before each answer.
+    pub fn shown(&self) -> &[usize]
+        ensures { ⟦<SureKeyboard as Keyboard<MemHost>>⟧.asked self.now ≡ Some result.now }
+    {
+        self.asked.as_slice()
     }
 }
 
-impl Keyboard for SureKeyboard {
+impl Keyboard<MemHost> for SureKeyboard {
     ghost lines_left = { λ it. Some (drop it.given (map (λ line. line.items) it.lines.items)) };
 
     ghost is_over = { λ it. it.over };
 
-    fn line(&mut self) -> Result<Option<Vec<u8>>, AllocError> {
+    ghost asked = { λ it. Some it.asked.items };
+
+    fn line(&mut self, host: &MemHost) -> Result<Option<Vec<u8>>, AllocError> {
         if self.given >= self.lines.len() {
+            self.asked.push(host.out_bytes.len())?;
             self.over = true;
             return Ok(None);
         }
         let line = &self.lines[self.given];
         let line = Vec::from_slice(*self.lines.allocator(), line.as_slice())?;
+        self.asked.push(host.out_bytes.len())?;
         self.given += 1;
         self.over = false;
         Ok(Some(line))

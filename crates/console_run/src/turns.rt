@@ -9,10 +9,11 @@ ghost use Rattle.console_run.specs.Keyboard.{keyboard_state};
 ghost use Rattle.console_run.specs.Seen.{devices_seen, terms_seen, AreAsMany, OnCall};
 ghost use Rattle.console_run.specs.Session.{RunsTurns};
 
+use crate::asking::Asked;
 use crate::console::Console;
 use crate::keyboard::Keyboard;
 use crate::turn::run_turn;
-use crate::typing::{Asked, type_line};
+use crate::typing::type_line;
 use boot_run::RunFault;
 use device_table::devices::Devices;
 use os9_base::limits::LAST_TICK;
@@ -27,18 +28,18 @@ pub enum Stop {
     /// It is over: no process lives, or every one waits for keys and the keyboard gave its end, or
     /// the last tick would come.
     Over,
-    /// Memory is out for a line, for which every process waits.
+    /// Memory is out for keys, for which every process waits.
     LineLost,
 }
 
-/// Runs slices, and passes what each writes to the output stream. Before a slice the next line is
-/// typed if every process waits for keys. It is the run of the slices and keys that are kept, of
-/// terminals that were loaded with those keys before it.
+/// Runs slices, and passes what each writes to the output stream. Before a slice the next part of a
+/// line is typed if every process waits for keys. It is the run of the slices and keys that are
+/// kept, of terminals that were loaded with those keys before it.
 ///
 /// # Errors
 ///
 /// The output has gained a prefix of what that run over some first slices writes.
-pub(crate) fn run_turns<H: Host, K: Keyboard + Drop>(
+pub(crate) fn run_turns<H: Host, K: Keyboard<H> + Drop>(
     kernel: &mut Kernel,
     console: &mut Console<K>,
     host: &mut H,
@@ -56,12 +57,14 @@ pub(crate) fn run_turns<H: Host, K: Keyboard + Drop>(
     ensures notes_kept { notes_of H.Host host.new ≡ notes_of H.Host host.old }
     ensures places { AreAsMany devices.old devices.new }
 {
+    console.line = Vec::new(console.alloc);
+    console.place = 0;
     let mut last = SliceEnd::Ran;
     for _ in kernel.ticks()..LAST_TICK - 1 {
         if kernel.living() == 0 {
             return Ok(Stop::Over);
         }
-        match type_line(kernel, last, console, devices) {
+        match type_line(kernel, last, console, host, devices) {
             Asked::GoesOn => {}
             Asked::AtEnd => return Ok(Stop::Over),
             Asked::NoMemory => return Ok(Stop::LineLost),

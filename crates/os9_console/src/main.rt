@@ -94,7 +94,7 @@ fn type_on(rt: HostRuntime, words: &[String], devices: Devices) -> io::Result<u8
 
 /// Does what the words say at this console, on the real host and these devices, four drives without
 /// an image and one to four terminals without keys: the status is that of the top call.
-fn run_with<K: Keyboard + Drop>(
+fn run_with<K: Keyboard<RealHost<HostRuntime>> + Drop>(
     words: &[String],
     console: &mut Console<K>,
     host: &mut RealHost<HostRuntime>,

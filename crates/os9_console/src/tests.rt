@@ -51,6 +51,8 @@ struct Shown {
     err: Vec<u8>,
     files: Vec<HostFile>,
     calls: u64,
+    /// How many bytes were out each time that the keyboard was asked.
+    asked: Vec<usize>,
 }
 
 fn bootable(alloc: Global) -> Result<Vec<u8>, AllocError> {
@@ -92,7 +94,7 @@ fn words_of(alloc: Global, line: &str) -> Result<Vec<String>, AllocError> {
 fn call(
     alloc: Global,
     line: &str,
-    typed: Option<&[&str]>,
+    typed: Option<&[&[u8]]>,
     files: Vec<HostFile>,
     plan: Vec<u64>,
 ) -> Result<Shown, AllocError> {
@@ -114,7 +116,7 @@ fn call_over(
     alloc: Global,
     devices: Devices,
     words: &[String],
-    typed: Option<&[&str]>,
+    typed: Option<&[&[u8]]>,
     host: MemHost,
 ) -> Result<Shown, AllocError>
     requires terminals { AreUnloaded (terms_seen CharDriver-box devices) }
@@ -122,12 +124,10 @@ fn call_over(
 {
     let mut devices = devices;
     let mut host = host;
+    let keyboard = SureKeyboard::new(alloc, copied(alloc, typed.unwrap_or(&[]))?);
+    let mut console = Console::new(alloc, keyboard);
     let status = match typed {
-        Some(lines) => {
-            let keyboard = SureKeyboard::new(copied(alloc, lines)?);
-            let mut console = Console::new(alloc, keyboard);
-            console_main(words, &mut console, &mut host, &mut devices)
-        }
+        Some(_) => console_main(words, &mut console, &mut host, &mut devices),
         None => os9_main(alloc, words, &mut host, &mut devices),
     };
     Ok(Shown {
@@ -136,14 +136,15 @@ fn call_over(
         err: host.err_bytes,
         files: host.files,
         calls: host.calls,
+        asked: Vec::from_slice(alloc, console.keyboard.shown())?,
     })
 }
 
 /// The bytes of these lines.
-fn copied(alloc: Global, lines: &[&str]) -> Result<Vec<Vec<u8>>, AllocError> {
+fn copied(alloc: Global, lines: &[&[u8]]) -> Result<Vec<Vec<u8>>, AllocError> {
     let mut copies = Vec::new(alloc);
     for line in lines {
-        copies.push(Vec::from_slice(alloc, line.as_bytes())?)?;
+        copies.push(Vec::from_slice(alloc, *line)?)?;
     }
     Ok(copies)
 }
@@ -170,7 +171,13 @@ fn session_is_the_boot_over_its_record(rt: HostRuntime) -> Result<(), Fail> {
     let image = bootable(alloc)?;
     let files = image_file(alloc, &image)?;
     let none = Vec::new(alloc);
-    let session = call(alloc, "v --record r", Some(&["Ada"]), files, none)?;
+    let session = call(
+        alloc,
+        "v --record r",
+        Some(&["Ada".as_bytes()]),
+        files,
+        none,
+    )?;
     let words = "boot v --script r.script --slices r.slices";
     let files = recorded(alloc, &image, &session)?;
     let boot = call(alloc, words, None, files, Vec::new(alloc))?;
@@ -191,7 +198,87 @@ fn keyboard_at_its_end_leaves_the_prompt(rt: HostRuntime) -> Result<(), Fail> {
     assert_eq!(&rt; session.status, 5);
     assert!(&rt; session.out.as_slice() == "Your name? ".as_bytes());
     assert!(&rt; bytes_of(&session.files, "r.script").is_empty());
+    assert!(&rt; session.asked.as_slice() == [11].as_slice());
     Ok(())
+}
+
+#[test]
+fn line_is_asked_for_when_the_prompt_is_out(rt: HostRuntime) -> Result<(), Fail> {
+    let alloc = rt.alloc();
+    let files = image_file(alloc, &bootable(alloc)?)?;
+    let none = Vec::new(alloc);
+    let typed = ["Ada".as_bytes(), "Bob".as_bytes()];
+    let session = call(alloc, "v", Some(&typed), files, none)?;
+    assert_eq!(&rt; session.status, 0);
+    assert!(&rt; session.asked.as_slice() == [11].as_slice());
+    Ok(())
+}
+
+#[test]
+fn refused_image_is_not_booted(rt: HostRuntime) -> Result<(), Fail> {
+    let alloc = rt.alloc();
+    let image = [0; 4096];
+    let files = image_file(alloc, &image)?;
+    let none = Vec::new(alloc);
+    let shown = call(
+        alloc,
+        "v --record r",
+        Some(&["Ada".as_bytes()]),
+        files,
+        none,
+    )?;
+    assert_eq!(&rt; shown.status, 6);
+    assert!(&rt; shown.asked.is_empty());
+    assert!(&rt; bytes_of(&shown.files, "v") == image.as_slice());
+    assert!(&rt; bytes_of(&shown.files, "r.slices").is_empty());
+    Ok(())
+}
+
+/// A session in which this line is typed is the boot over its record, whose script has so many
+/// lines and this end.
+fn check_line(
+    alloc: Global,
+    rt: &impl Abort,
+    line: &'static [u8],
+    count: usize,
+    end: &[u8],
+) -> Result<(), Fail> {
+    let image = bootable(alloc)?;
+    let files = image_file(alloc, &image)?;
+    let none = Vec::new(alloc);
+    let session = call(alloc, "v --record r", Some(&[line]), files, none)?;
+    let words = "boot v --script r.script --slices r.slices";
+    let files = recorded(alloc, &image, &session)?;
+    let boot = call(alloc, words, None, files, Vec::new(alloc))?;
+    let script = bytes_of(&session.files, "r.script");
+    assert_eq!(rt; session.status, 0);
+    assert_eq!(rt; boot.status, 0);
+    assert!(rt; session.out.as_slice() == boot.out.as_slice());
+    assert!(rt; bytes_of(&session.files, "v") == bytes_of(&boot.files, "v"));
+    assert_eq!(rt; script.iter().filter(|byte| **byte == b'\n').count(), count);
+    assert!(rt; script.ends_with(end));
+    Ok(())
+}
+
+#[test]
+fn bytes_above_7f_are_typed(rt: HostRuntime) -> Result<(), Fail> {
+    check_line(
+        rt.alloc(),
+        &rt,
+        "Zo\u{eb}".as_bytes(),
+        1,
+        b" 5A 6F C3 AB 0D\n",
+    )
+}
+
+#[test]
+fn long_line_is_typed_in_parts(rt: HostRuntime) -> Result<(), Fail> {
+    check_line(rt.alloc(), &rt, &[b'x'; 300], 3, b" 78 78 0D\n")
+}
+
+#[test]
+fn line_of_one_part_has_its_end_in_the_next(rt: HostRuntime) -> Result<(), Fail> {
+    check_line(rt.alloc(), &rt, &[b'x'; 128], 2, b" TERM 0D\n")
 }
 
 #[test]
@@ -200,12 +287,24 @@ fn record_that_cannot_be_written_is_told(rt: HostRuntime) -> Result<(), Fail> {
     let image = bootable(alloc)?;
     let files = image_file(alloc, &image)?;
     let none = Vec::new(alloc);
-    let whole = call(alloc, "v --record r", Some(&["Ada"]), files, none)?;
+    let whole = call(
+        alloc,
+        "v --record r",
+        Some(&["Ada".as_bytes()]),
+        files,
+        none,
+    )?;
     // The last call but one writes the script.
     let mut plan = Vec::new(alloc);
     plan.push(whole.calls.saturating_sub(1))?;
     let files = image_file(alloc, &image)?;
-    let broken = call(alloc, "v --record r", Some(&["Ada"]), files, plan)?;
+    let broken = call(
+        alloc,
+        "v --record r",
+        Some(&["Ada".as_bytes()]),
+        files,
+        plan,
+    )?;
     assert_eq!(&rt; broken.status, 3);
     assert!(&rt; broken.err.as_slice() == "os9: cannot write r.script\n".as_bytes());
     assert!(&rt; bytes_of(&broken.files, "v") == bytes_of(&whole.files, "v"));
@@ -220,7 +319,13 @@ fn record_over_an_image_is_refused(rt: HostRuntime) -> Result<(), Fail> {
     let mut files = Vec::new(alloc);
     files.push(file(alloc, "r.slices", &image)?)?;
     let none = Vec::new(alloc);
-    let shown = call(alloc, "r.slices --record r", Some(&["Ada"]), files, none)?;
+    let shown = call(
+        alloc,
+        "r.slices --record r",
+        Some(&["Ada".as_bytes()]),
+        files,
+        none,
+    )?;
     assert_eq!(&rt; shown.status, 1);
     assert_eq!(&rt; shown.calls, 1);
     assert!(&rt; bytes_of(&shown.files, "r.slices") == image.as_slice());

@@ -10,10 +10,10 @@ use Rattle.script_text.specs.declared.script.ScriptKey.{ScriptKey}
 use Rattle.script_text.specs.Script.{AreKeys, IsKey, key_at, never_fall}
 use Rattle.script_text.specs.Slices.{AreSlices, IsSlice}
 use Rattle.session_text.specs.Texts.{FitsTexts, line_fits}
-use Rattle.session_text.specs.Typed.{keys_of_line, keys_of_lines}
+use Rattle.session_text.specs.Typed.{keys_of_parts, keys_typed, part_bytes}
 use Rattle.session_text.specs.declared.typed.TheConstants.{SLICE}
 use Rattle.session_text.specs.declared.typed.Typed.{Typed}
-use Rattle.session_text.specs.declared.typed.TypedLine.{TypedLine}
+use Rattle.session_text.specs.declared.typed.TypedPart.{TypedPart}
 use Rattle.session_text.proofs.TextLemmas.{behind-keys, front-keys, line-early, line_keys_of}
 
 -- ---- ticks that never fall
@@ -45,18 +45,18 @@ some-rose tick last byte (next ∷ bytes) rest is =
     let both = and_parts (nat_le last tick) (rises tick (map (key_at tick 0) (next ∷ bytes) ++ rest)) is in
     (leb-true last tick both.0, (some-rose tick tick next bytes rest both.1).1)
 
-line-rises : (tick last : ℕ) (bytes : List ℕ) (rest : List ScriptKey) → last ≤ tick → rises tick rest ≡ true → rises last (keys_of_line tick bytes ++ rest) ≡ true
-line-rises tick last [] rest low more = some-rise tick last 13 [] rest low more
-line-rises tick last (byte ∷ bytes) rest low more = some-rise tick last byte (bytes ++ 13 ∷ []) rest low more
+line-rises : (tick last : ℕ) (bytes : List ℕ) (end : ℕ) (rest : List ScriptKey) → last ≤ tick → rises tick rest ≡ true → rises last (keys_typed tick (bytes ++ end ∷ []) ++ rest) ≡ true
+line-rises tick last [] end rest low more = some-rise tick last end [] rest low more
+line-rises tick last (byte ∷ bytes) end rest low more = some-rise tick last byte (bytes ++ end ∷ []) rest low more
 
-line-rose : (tick last : ℕ) (bytes : List ℕ) (rest : List ScriptKey) → rises last (keys_of_line tick bytes ++ rest) ≡ true → (last ≤ tick) × (rises tick rest ≡ true)
-line-rose tick last [] rest is = some-rose tick last 13 [] rest is
-line-rose tick last (byte ∷ bytes) rest is = some-rose tick last byte (bytes ++ 13 ∷ []) rest is
+line-rose : (tick last : ℕ) (bytes : List ℕ) (end : ℕ) (rest : List ScriptKey) → rises last (keys_typed tick (bytes ++ end ∷ []) ++ rest) ≡ true → (last ≤ tick) × (rises tick rest ≡ true)
+line-rose tick last [] end rest is = some-rose tick last end [] rest is
+line-rose tick last (byte ∷ bytes) end rest is = some-rose tick last byte (bytes ++ end ∷ []) rest is
 
 -- ---- the keys of lines
 
 -- lines fit after others
-abbrev pub lines_fit : ℕ → ℕ → List TypedLine → Bool
+abbrev pub lines_fit : ℕ → ℕ → List TypedPart → Bool
 lines_fit room last [] = true
 lines_fit room last (line ∷ lines) = line_fits line room last && lines_fit (room - (length line.bytes.items + 1)) line.tick lines
 
@@ -66,8 +66,8 @@ record Fit (room last : ℕ) (keys : List ScriptKey) : Type 0 where
   each : All (IsKey 4) keys
   rising : rises last keys ≡ true
 
-line-count : (line : TypedLine) → length (line_keys_of line) ≡ length line.bytes.items + 1
-line-count line = length-map (line.bytes.items ++ 13 ∷ []) (key_at line.tick 0) ∙ length-append line.bytes.items (13 ∷ [])
+line-count : (line : TypedPart) → length (line_keys_of line) ≡ length line.bytes.items + 1
+line-count line = length-map (part_bytes line) (key_at line.tick 0) ∙ length-append line.bytes.items (line.last ∷ [])
 
 each-key : (tick : ℕ) (bytes : List ℕ) → tick ≤ 1000000 → All (IsKey 4) (map (key_at tick 0) bytes)
 each-key tick [] early = All-nil (IsKey 4)
@@ -75,12 +75,12 @@ each-key tick (byte ∷ bytes) early =
     All-cons (IsKey 4) (key_at tick 0 byte) (map (key_at tick 0) bytes) (record { there = omega arith; early = early }) (each-key tick bytes early)
 
 -- what it says of a line that it fits
-record LineFacts (line : TypedLine) (room last : ℕ) : Type 0 where
+record LineFacts (line : TypedPart) (room last : ℕ) : Type 0 where
   there : length line.bytes.items < room
   rising : last ≤ line.tick
   early : line.tick ≤ 1000000
 
-line-facts : (line : TypedLine) (room last : ℕ) → line_fits line room last ≡ true → LineFacts line room last
+line-facts : (line : TypedPart) (room last : ℕ) → line_fits line room last ≡ true → LineFacts line room last
 line-facts line room last is =
     let outer = and_parts (nat_lt (length line.bytes.items) room) (nat_le last line.tick && nat_le line.tick 1000000) is in
     let inner = and_parts (nat_le last line.tick) (nat_le line.tick 1000000) outer.1 in
@@ -90,16 +90,16 @@ line-facts line room last is =
       early = leb-true line.tick 1000000 inner.1;
     }
 
-line-fits : (line : TypedLine) (room last : ℕ) → LineFacts line room last → line_fits line room last ≡ true
+line-fits : (line : TypedPart) (room last : ℕ) → LineFacts line room last → line_fits line room last ≡ true
 line-fits line room last it =
     and_from (nat_lt (length line.bytes.items) room) (nat_le last line.tick && nat_le line.tick 1000000) (lt-ltb (length line.bytes.items) room it.there)
     (and_from (nat_le last line.tick) (nat_le line.tick 1000000) (le-leb last line.tick it.rising) (le-leb line.tick 1000000 it.early))
 
 -- it has room
-pub has-room : (line : TypedLine) (room last : ℕ) → line_fits line room last ≡ true → length line.bytes.items < room
+pub has-room : (line : TypedPart) (room last : ℕ) → line_fits line room last ≡ true → length line.bytes.items < room
 has-room line room last is = (line-facts line room last is).there
 
-fit-lines : (room last : ℕ) (lines : List TypedLine) → lines_fit room last lines ≡ true → Fit room last (flat_map line_keys_of lines)
+fit-lines : (room last : ℕ) (lines : List TypedPart) → lines_fit room last lines ≡ true → Fit room last (flat_map line_keys_of lines)
 fit-lines room last [] is = record { few = omega arith; each = All-nil (IsKey 4); rising = refl }
 fit-lines room last (line ∷ lines) is =
     let left : ℕ = room - (length line.bytes.items + 1) in
@@ -108,16 +108,16 @@ fit-lines room last (line ∷ lines) is =
     let rest : Fit (room - (length line.bytes.items + 1)) line.tick (flat_map line_keys_of lines) = fit-lines (room - (length line.bytes.items + 1)) line.tick lines both.1 in
     record {
       few = omega (arith, length-append (line_keys_of line) (flat_map line_keys_of lines), line-count line, rest.few, first.there);
-      each = All-append (IsKey 4) (line_keys_of line) (flat_map line_keys_of lines) (each-key line.tick (line.bytes.items ++ 13 ∷ []) first.early) rest.each;
-      rising = line-rises line.tick last line.bytes.items (flat_map line_keys_of lines) first.rising rest.rising;
+      each = All-append (IsKey 4) (line_keys_of line) (flat_map line_keys_of lines) (each-key line.tick (part_bytes line) first.early) rest.each;
+      rising = line-rises line.tick last line.bytes.items line.last (flat_map line_keys_of lines) first.rising rest.rising;
     }
 
-lines-fit : (room last : ℕ) (lines : List TypedLine) → Fit room last (flat_map line_keys_of lines) → lines_fit room last lines ≡ true
+lines-fit : (room last : ℕ) (lines : List TypedPart) → Fit room last (flat_map line_keys_of lines) → lines_fit room last lines ≡ true
 lines-fit room last [] it = refl
 lines-fit room last (line ∷ lines) it =
     let count : length (line_keys_of line ++ flat_map line_keys_of lines) ≡ length (line_keys_of line) + length
     (flat_map line_keys_of lines) = length-append (line_keys_of line) (flat_map line_keys_of lines) in
-    let rose = line-rose line.tick last line.bytes.items (flat_map line_keys_of lines) it.rising in
+    let rose = line-rose line.tick last line.bytes.items line.last (flat_map line_keys_of lines) it.rising in
     let first : LineFacts line room last = record {
       there = omega (arith, count, line-count line, it.few);
       rising = rose.0;
@@ -129,28 +129,28 @@ lines-fit room last (line ∷ lines) it =
 
 -- ---- a script can give them
 
-pub keys-fit : (lines : List TypedLine) → lines_fit 1000000 0 lines ≡ true → AreKeys 4 (keys_of_lines lines)
+pub keys-fit : (lines : List TypedPart) → lines_fit 1000000 0 lines ≡ true → AreKeys 4 (keys_of_parts lines)
 keys-fit lines is =
     let it : Fit 1000000 0 (flat_map line_keys_of lines) = fit-lines 1000000 0 lines is in
-    record { few = it.few; each = it.each; rising = never-rises (keys_of_lines lines) ∙ it.rising }
+    record { few = it.few; each = it.each; rising = never-rises (keys_of_parts lines) ∙ it.rising }
 
-pub keys-no : (lines : List TypedLine) → lines_fit 1000000 0 lines ≡ false → ¬ AreKeys 4 (keys_of_lines lines)
+pub keys-no : (lines : List TypedPart) → lines_fit 1000000 0 lines ≡ false → ¬ AreKeys 4 (keys_of_parts lines)
 keys-no lines is keys =
-    absurd (false≢true (sym is ∙ lines-fit 1000000 0 lines (record { few = keys.few; each = keys.each; rising = sym (never-rises (keys_of_lines lines)) ∙ keys.rising })))
+    absurd (false≢true (sym is ∙ lines-fit 1000000 0 lines (record { few = keys.few; each = keys.each; rising = sym (never-rises (keys_of_parts lines)) ∙ keys.rising })))
 
 -- a line at a place does not fit
-pub fits-no : (lines : List TypedLine) (place room last : ℕ) (line : TypedLine) (whole : Bool) → place < length lines
+pub fits-no : (lines : List TypedPart) (place room last : ℕ) (line : TypedPart) (whole : Bool) → place < length lines
     → line ≡ get_or lines place line → lines_fit room last (drop place lines) ≡ whole → line_fits line room last ≡
     false → whole ≡ false
 fits-no lines place room last line whole below is so_far refused =
-    let rest : List TypedLine = drop (suc place) lines in
+    let rest : List TypedPart = drop (suc place) lines in
     sym so_far
     ∙ ap (lines_fit room last) (drop-cons lines place line below)
-    ∙ ap (λ (here : TypedLine). lines_fit room last (here ∷ rest)) (sym is)
+    ∙ ap (λ (here : TypedPart). lines_fit room last (here ∷ rest)) (sym is)
     ∙ ap (λ (first : Bool). first && lines_fit (room - (length line.bytes.items + 1)) line.tick rest) refused
 
 -- none is left
-pub fits-end : (lines : List TypedLine) (place room last : ℕ) (whole : Bool) → length lines ≤ place → lines_fit room last (drop place lines) ≡ whole → whole ≡ true
+pub fits-end : (lines : List TypedPart) (place room last : ℕ) (whole : Bool) → length lines ≤ place → lines_fit room last (drop place lines) ≡ whole → whole ≡ true
 fits-end lines place room last whole all so_far = sym so_far ∙ ap (lines_fit room last) (drop_all place lines all)
 
 -- ---- a slice text can give them

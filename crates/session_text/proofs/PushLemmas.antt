@@ -6,19 +6,20 @@ use Rattle.std.proofs.lemmas.List.{take_more}
 use Rattle.std.proofs.lemmas.List.Concat.{flat_map-append}
 use Rattle.std.proofs.lemmas.List.Elements.{All-append, All-cons, All-nil}
 use Rattle.session_text.specs.Texts.{byte_word, script_line}
-use Rattle.session_text.specs.declared.typed.TypedLine.{TypedLine}
+use Rattle.session_text.specs.Typed.{part_bytes}
+use Rattle.session_text.specs.declared.typed.TypedPart.{TypedPart}
 
 pub word-behind : (text : List ℕ) (a b c : ℕ) → ((text ++ a ∷ []) ++ b ∷ []) ++ c ∷ [] ≡ text ++ a ∷ b ∷ c ∷ []
 word-behind text a b c = ap (λ (front : List ℕ). front ++ c ∷ []) (append_assoc text (a ∷ []) (b ∷ [])) ∙ append_assoc text (a ∷ b ∷ []) (c ∷ [])
 
 -- the parts of the line of a script
-pub line-behind : (text : List ℕ) (line : TypedLine)
-    → ((((text ++ decimal line.tick) ++ codes " TERM") ++ flat_map byte_word line.bytes.items) ++ byte_word 13) ++ 10 ∷ [] ≡ text ++ script_line line
+pub line-behind : (text : List ℕ) (line : TypedPart)
+    → ((((text ++ decimal line.tick) ++ codes " TERM") ++ flat_map byte_word line.bytes.items) ++ byte_word line.last) ++ 10 ∷ [] ≡ text ++ script_line line
 line-behind text line =
     let tick : List ℕ = decimal line.tick in
-    let words : List ℕ = flat_map byte_word (line.bytes.items ++ 13 ∷ []) in
-    ap (λ (front : List ℕ). front ++ 10 ∷ []) (append_assoc ((text ++ tick) ++ codes " TERM") (flat_map byte_word line.bytes.items) (byte_word 13))
-    ∙ ap (λ (keys : List ℕ). (((text ++ tick) ++ codes " TERM") ++ keys) ++ 10 ∷ []) (sym (flat_map-append byte_word line.bytes.items (13 ∷ [])))
+    let words : List ℕ = flat_map byte_word (part_bytes line) in
+    ap (λ (front : List ℕ). front ++ 10 ∷ []) (append_assoc ((text ++ tick) ++ codes " TERM") (flat_map byte_word line.bytes.items) (byte_word line.last))
+    ∙ ap (λ (keys : List ℕ). (((text ++ tick) ++ codes " TERM") ++ keys) ++ 10 ∷ []) (sym (flat_map-append byte_word line.bytes.items (line.last ∷ [])))
     ∙ ap (λ (front : List ℕ). (front ++ words) ++ 10 ∷ []) (append_assoc text tick (codes " TERM"))
     ∙ ap (λ (front : List ℕ). front ++ 10 ∷ []) (append_assoc text (tick ++ codes " TERM") words)
     ∙ append_assoc text ((tick ++ codes " TERM") ++ words) (10 ∷ [])

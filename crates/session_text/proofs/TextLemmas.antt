@@ -18,10 +18,10 @@ use Rattle.script_text.specs.Script.{AreKeys, IsKey, are_few_keys, byte_of, byte
 use Rattle.script_text.specs.Slices.{AreSlices, are_few_slices, is_asterisk, line_slices, slices_of, word_slices}
 use Rattle.script_text.proofs.TextLemmas.{ReadSoFar, ReadSoFar-next, ReadSoFar-start, all_read, outcome}
 use Rattle.session_text.specs.Texts.{HasBytes, IsByte, byte_word, hex_digit as digit, script_line, script_text, slice_text}
-use Rattle.session_text.specs.Typed.{kept_keys, kept_slices, keys_of_line}
+use Rattle.session_text.specs.Typed.{kept_keys, kept_slices, keys_typed, part_bytes}
 use Rattle.session_text.specs.declared.typed.TheConstants.{SLICE}
 use Rattle.session_text.specs.declared.typed.Typed.{Typed}
-use Rattle.session_text.specs.declared.typed.TypedLine.{TypedLine}
+use Rattle.session_text.specs.declared.typed.TypedPart.{TypedPart}
 
 -- ---- numbers
 
@@ -139,16 +139,17 @@ term-high =
     (omega arith) (All-cons (λ byte. 48 ≤ byte) 77 [] (omega arith) (All-nil (λ byte. 48 ≤ byte)))))
 
 -- the line without its end
-abbrev body : TypedLine → List ℕ
-body line = decimal line.tick ++ (codes " TERM" ++ flat_map byte_word (line.bytes.items ++ 13 ∷ []))
+abbrev body : TypedPart → List ℕ
+body line = decimal line.tick ++ (codes " TERM" ++ flat_map byte_word (part_bytes line))
 
 digits-high : (n : ℕ) (ds : List ℕ) → Spells n ds → All (λ byte. 48 ≤ byte) ds
 digits-high n ds it = All-weaker IsDigit (λ byte. 48 ≤ byte) digit-high ds it.digits
 
-split-line : (line : TypedLine) → Spells line.tick (decimal line.tick) → slice_split is_space (body line) ≡ decimal line.tick ∷ codes "TERM" ∷ map pair (line.bytes.items ++ 13 ∷ [])
+split-line : (line : TypedPart) → Spells line.tick (decimal line.tick) → slice_split is_space (body line) ≡ decimal line.tick ∷ codes "TERM" ∷ map pair (part_bytes line)
 split-line line it =
-    slice_split_at is_space (decimal line.tick) 32 (codes "TERM" ++ flat_map byte_word (line.bytes.items ++ 13 ∷ [])) (all-not 32 (omega arith) (decimal line.tick) (digits-high line.tick (decimal line.tick) it)) refl
-    ∙ ap (λ (rest : List (List ℕ)). decimal line.tick ∷ rest) (split-words (codes "TERM") (line.bytes.items ++ 13 ∷ []) term-high)
+    slice_split_at is_space (decimal line.tick) 32 (codes "TERM" ++ flat_map byte_word (part_bytes line))
+    (all-not 32 (omega arith) (decimal line.tick) (digits-high line.tick (decimal line.tick) it)) refl
+    ∙ ap (λ (rest : List (List ℕ)). decimal line.tick ∷ rest) (split-words (codes "TERM") (part_bytes line) term-high)
 
 all-words : (bytes : List ℕ) → filter is_word (map pair bytes) ≡ map pair bytes
 all-words [] = refl
@@ -158,11 +159,11 @@ first-word : (ds : List ℕ) (rest : List (List ℕ)) → 0 < length ds → filt
 first-word [] rest some = absurd (omega (arith, some))
 first-word (d ∷ ds) rest some = refl
 
-words-line : (line : TypedLine) → Spells line.tick (decimal line.tick) → line_words (body line) ≡ decimal line.tick ∷ codes "TERM" ∷ map pair (line.bytes.items ++ 13 ∷ [])
+words-line : (line : TypedPart) → Spells line.tick (decimal line.tick) → line_words (body line) ≡ decimal line.tick ∷ codes "TERM" ∷ map pair (part_bytes line)
 words-line line it =
     ap (filter is_word) (split-line line it)
-    ∙ first-word (decimal line.tick) (codes "TERM" ∷ map pair (line.bytes.items ++ 13 ∷ [])) it.some
-    ∙ ap (λ (rest : List (List ℕ)). decimal line.tick ∷ codes "TERM" ∷ rest) (all-words (line.bytes.items ++ 13 ∷ []))
+    ∙ first-word (decimal line.tick) (codes "TERM" ∷ map pair (part_bytes line)) it.some
+    ∙ ap (λ (rest : List (List ℕ)). decimal line.tick ∷ codes "TERM" ∷ rest) (all-words (part_bytes line))
 
 -- ---- what a line gives
 
@@ -185,19 +186,20 @@ ends-high front d high =
     let count : length (front ++ d ∷ []) - 1 ≡ length front = omega (arith, length-append front (d ∷ [])) in
     rw (count, drop-front front (d ∷ []), ne_eqb 32 d (λ e. absurd (omega (arith, e, high)))) refl
 
--- all but the last digit of the key that ends a line
-abbrev front_of : TypedLine → List ℕ
-front_of line = decimal line.tick ++ (codes " TERM" ++ (flat_map byte_word line.bytes.items ++ 32 ∷ 48 ∷ []))
+-- all but the last digit
+abbrev front_of : TypedPart → List ℕ
+front_of line = decimal line.tick ++ (codes " TERM" ++ (flat_map byte_word line.bytes.items ++ 32 ∷ digit (line.last / 16) ∷ []))
 
-return-word : (bytes : List ℕ) → flat_map byte_word (bytes ++ 13 ∷ []) ≡ (flat_map byte_word bytes ++ 32 ∷ 48 ∷ []) ++ 68 ∷ []
-return-word bytes = flat_map-append byte_word bytes (13 ∷ []) ∙ sym (append_assoc (flat_map byte_word bytes) (32 ∷ 48 ∷ []) (68 ∷ []))
+last-word : (bytes : List ℕ) (last : ℕ) → flat_map byte_word (bytes ++ last ∷ []) ≡ (flat_map byte_word bytes ++ 32 ∷ digit (last / 16) ∷ []) ++ digit (last % 16) ∷ []
+last-word bytes last = flat_map-append byte_word bytes (last ∷ []) ∙ sym (append_assoc (flat_map byte_word bytes) (32 ∷ digit (last / 16) ∷ []) (digit (last % 16) ∷ []))
 
-body-last : (line : TypedLine) → body line ≡ front_of line ++ 68 ∷ []
+body-last : (line : TypedPart) → body line ≡ front_of line ++ digit (line.last % 16) ∷ []
 body-last line =
-    let words : List ℕ = flat_map byte_word line.bytes.items ++ 32 ∷ 48 ∷ [] in
-    ap (λ (rest : List ℕ). decimal line.tick ++ (codes " TERM" ++ rest)) (return-word line.bytes.items)
-    ∙ ap (λ (rest : List ℕ). decimal line.tick ++ rest) (sym (append_assoc (codes " TERM") words (68 ∷ [])))
-    ∙ sym (append_assoc (decimal line.tick) (codes " TERM" ++ words) (68 ∷ []))
+    let words : List ℕ = flat_map byte_word line.bytes.items ++ 32 ∷ digit (line.last / 16) ∷ [] in
+    let end : List ℕ = digit (line.last % 16) ∷ [] in
+    ap (λ (rest : List ℕ). decimal line.tick ++ (codes " TERM" ++ rest)) (last-word line.bytes.items line.last)
+    ∙ ap (λ (rest : List ℕ). decimal line.tick ++ rest) (sym (append_assoc (codes " TERM") words end))
+    ∙ sym (append_assoc (decimal line.tick) (codes " TERM" ++ words) end)
 
 not-both : (line : List ℕ) → starts_with nat_eq line (32 ∷ []) ≡ false → ends_with nat_eq line (32 ∷ []) ≡ false → is_edged line ≡ false
 not-both line starts ends = rw (starts, ends) refl
@@ -208,28 +210,29 @@ keys-line line kept plain = rw (kept, plain) refl
 tick-of : (t : ℕ) → t ≤ 1000000 → within 0 1000000 (Some t) ≡ Some t
 tick-of t early = rw (and_from (nat_le 0 t) (nat_le t 1000000) (le-leb 0 t (omega arith)) (le-leb t 1000000 early)) refl
 
-words-give : (digits : List ℕ) (words : List (List ℕ)) (t : ℕ) (bytes : List ℕ) → number_of digits ≡ Some t → t ≤ 1000000 → bytes_of words ≡ Some bytes → words_keys 4 (digits ∷ codes "TERM" ∷ words) ≡ option_and_then (keys_at t 0) (Some bytes)
+words-give : (digits : List ℕ) (words : List (List ℕ)) (t : ℕ) (bytes : List ℕ) → number_of digits ≡ Some t
+    → t ≤ 1000000 → bytes_of words ≡ Some bytes → words_keys 4 (digits ∷ codes "TERM" ∷ words) ≡ option_and_then
+    (keys_at t 0) (Some bytes)
 words-give digits words t bytes number early are =
     let tick : tick_of digits ≡ Some t = ap (within 0 1000000) number ∙ tick-of t early in
     rw (tick, are) refl
 
-keys-some : (tick : ℕ) (bytes : List ℕ) → option_and_then (keys_at tick 0) (Some (bytes ++ 13 ∷ [])) ≡ Some (keys_of_line tick bytes)
-keys-some tick [] = refl
-keys-some tick (byte ∷ bytes) = refl
+keys-some : (tick : ℕ) (bytes : List ℕ) (end : ℕ) → option_and_then (keys_at tick 0) (Some (bytes ++ end ∷ [])) ≡ Some (keys_typed tick (bytes ++ end ∷ []))
+keys-some tick [] end = refl
+keys-some tick (byte ∷ bytes) end = refl
 
-line-gives : (line : TypedLine) → line.tick ≤ 1000000 → All IsByte line.bytes.items → line_keys 4 (body line) ≡ Some (keys_of_line line.tick line.bytes.items)
+line-gives : (line : TypedPart) → line.tick ≤ 1000000 → HasBytes line → line_keys 4 (body line) ≡ Some (keys_typed line.tick (part_bytes line))
 line-gives line early bytes =
     let it : Spells line.tick (decimal line.tick) = spelled line.tick (omega (arith, early)) in
     let high : All (λ byte. 48 ≤ byte) (decimal line.tick) = digits-high line.tick (decimal line.tick) it in
-    let rest : List ℕ = codes " TERM" ++ flat_map byte_word (line.bytes.items ++ 13 ∷ []) in
+    let rest : List ℕ = codes " TERM" ++ flat_map byte_word (part_bytes line) in
     let ends : ends_with nat_eq (body line) (32 ∷ []) ≡ false = subst (λ (text : List ℕ). ends_with nat_eq text
-    (32 ∷ []) ≡ false) (sym (body-last line)) (ends-high (front_of line) 68 (omega arith)) in
-    let all : All IsByte (line.bytes.items ++ 13 ∷ []) = All-append IsByte line.bytes.items (13 ∷ []) bytes (All-cons IsByte 13 [] (omega arith) (All-nil IsByte)) in
+    (32 ∷ []) ≡ false) (sym (body-last line)) (ends-high (front_of line) (digit (line.last % 16)) (hex-high (line.last % 16))) in
     keys-line (body line) (is-skipped (decimal line.tick) rest it.some high) (not-both (body line) (starts-high (decimal line.tick) rest it.some high) ends)
     ∙ ap (words_keys 4) (words-line line it)
-    ∙ words-give (decimal line.tick) (map pair (line.bytes.items ++ 13 ∷ [])) line.tick (line.bytes.items ++ 13 ∷ [])
-    (number-of (decimal line.tick) line.tick it) early (bytes-of (line.bytes.items ++ 13 ∷ []) all)
-    ∙ keys-some line.tick line.bytes.items
+    ∙ words-give (decimal line.tick) (map pair (part_bytes line)) line.tick (part_bytes line)
+    (number-of (decimal line.tick) line.tick it) early (bytes-of (part_bytes line) bytes)
+    ∙ keys-some line.tick line.bytes.items line.last
 
 -- ---- the lines of a text
 
@@ -244,16 +247,20 @@ words-shown : (bytes : List ℕ) → All (λ byte. 32 ≤ byte) (flat_map byte_w
 words-shown [] = All-nil (λ byte. 32 ≤ byte)
 words-shown (byte ∷ bytes) = All-append (λ byte. 32 ≤ byte) (byte_word byte) (flat_map byte_word bytes) (word-shown byte) (words-shown bytes)
 
-body-shown : (line : TypedLine) → Spells line.tick (decimal line.tick) → All (λ byte. 32 ≤ byte) (body line)
+body-shown : (line : TypedPart) → Spells line.tick (decimal line.tick) → All (λ byte. 32 ≤ byte) (body line)
 body-shown line it =
-    All-append (λ byte. 32 ≤ byte) (decimal line.tick) (codes " TERM" ++ flat_map byte_word (line.bytes.items ++ 13 ∷ [])) (All-weaker (λ byte. 48 ≤ byte) (λ byte. 32 ≤ byte) (λ byte is. omega (arith, is)) (decimal line.tick) (digits-high line.tick (decimal line.tick) it))
-    (All-append (λ byte. 32 ≤ byte) (codes " TERM") (flat_map byte_word (line.bytes.items ++ 13 ∷ [])) (All-cons (λ byte. 32 ≤ byte) 32 (codes "TERM") (omega arith) (All-weaker (λ byte. 48 ≤ byte) (λ byte. 32 ≤ byte) (λ byte is. omega (arith, is)) (codes "TERM") term-high)) (words-shown (line.bytes.items ++ 13 ∷ [])))
+    All-append (λ byte. 32 ≤ byte) (decimal line.tick) (codes " TERM" ++ flat_map byte_word (part_bytes line))
+    (All-weaker (λ byte. 48 ≤ byte) (λ byte. 32 ≤ byte) (λ byte is. omega (arith, is)) (decimal line.tick)
+    (digits-high line.tick (decimal line.tick) it))
+    (All-append (λ byte. 32 ≤ byte) (codes " TERM") (flat_map byte_word (part_bytes line))
+    (All-cons (λ byte. 32 ≤ byte) 32 (codes "TERM") (omega arith) (All-weaker (λ byte. 48 ≤ byte)
+    (λ byte. 32 ≤ byte) (λ byte is. omega (arith, is)) (codes "TERM") term-high)) (words-shown (part_bytes line)))
 
-line-is : (line : TypedLine) → script_line line ≡ body line ++ 10 ∷ []
+line-is : (line : TypedPart) → script_line line ≡ body line ++ 10 ∷ []
 line-is line =
-    ap (λ (front : List ℕ). front ++ 10 ∷ []) (append_assoc (decimal line.tick) (codes " TERM") (flat_map byte_word (line.bytes.items ++ 13 ∷ [])))
+    ap (λ (front : List ℕ). front ++ 10 ∷ []) (append_assoc (decimal line.tick) (codes " TERM") (flat_map byte_word (part_bytes line)))
 
-lines-of : (lines : List TypedLine) → All (λ line. line.tick ≤ 1000000) lines → text_lines (flat_map script_line lines) ≡ map body lines ++ [] ∷ []
+lines-of : (lines : List TypedPart) → All (λ line. line.tick ≤ 1000000) lines → text_lines (flat_map script_line lines) ≡ map body lines ++ [] ∷ []
 lines-of [] early = refl
 lines-of (line ∷ lines) early =
     let first : line.tick ≤ 1000000 = All-head (λ line. line.tick ≤ 1000000) line lines early in
@@ -263,19 +270,19 @@ lines-of (line ∷ lines) early =
 
 -- ---- all lines of a script
 
-abbrev pub line_keys_of : TypedLine → List ScriptKey
-line_keys_of line = keys_of_line line.tick line.bytes.items
+abbrev pub line_keys_of : TypedPart → List ScriptKey
+line_keys_of line = keys_typed line.tick (part_bytes line)
 
 -- a line whose tick a script may have
-abbrev pub IsEarly : TypedLine → Type 0
+abbrev pub IsEarly : TypedPart → Type 0
 IsEarly line = line.tick ≤ 1000000
 
-pub line-early : (line : TypedLine) → All (IsKey 4) (line_keys_of line) → IsEarly line
+pub line-early : (line : TypedPart) → All (IsKey 4) (line_keys_of line) → IsEarly line
 line-early line all = by line.bytes.items all
   where
-    by : (bytes : List ℕ) → All (IsKey 4) (keys_of_line line.tick bytes) → IsEarly line
-    by [] all = (All-head (IsKey 4) (key_at line.tick 0 13) [] all).early
-    by (byte ∷ bytes) all = (All-head (IsKey 4) (key_at line.tick 0 byte) (map (key_at line.tick 0) (bytes ++ 13 ∷ [])) all).early
+    by : (bytes : List ℕ) → All (IsKey 4) (keys_typed line.tick (bytes ++ line.last ∷ [])) → IsEarly line
+    by [] all = (All-head (IsKey 4) (key_at line.tick 0 line.last) [] all).early
+    by (byte ∷ bytes) all = (All-head (IsKey 4) (key_at line.tick 0 byte) (map (key_at line.tick 0) (bytes ++ line.last ∷ [])) all).early
 
 pub front-keys : (front behind : List ScriptKey) → All (IsKey 4) (front ++ behind) → All (IsKey 4) front
 front-keys [] behind all = All-nil (IsKey 4)
@@ -286,7 +293,7 @@ pub behind-keys : (front behind : List ScriptKey) → All (IsKey 4) (front ++ be
 behind-keys [] behind all = all
 behind-keys (key ∷ front) behind all = behind-keys front behind (All-tail (IsKey 4) key (front ++ behind) all)
 
-early-lines : (lines : List TypedLine) → All (IsKey 4) (flat_map line_keys_of lines) → All IsEarly lines
+early-lines : (lines : List TypedPart) → All (IsKey 4) (flat_map line_keys_of lines) → All IsEarly lines
 early-lines [] all = All-nil IsEarly
 early-lines (line ∷ lines) all =
     All-cons IsEarly line lines (line-early line (front-keys (line_keys_of line) (flat_map line_keys_of lines) all))
@@ -330,7 +337,7 @@ at-drop (y ∷ xs) (suc place) x rest is =
     record { below = omega (arith, it.below); here = it.here; behind = rw next it.behind }
 
 module _ (texts : List (List ℕ)) where
-  reads-on : (todo : List TypedLine) (place : ℕ) (given : List ScriptKey) → drop place texts ≡ map body todo ++ [] ∷
+  reads-on : (todo : List TypedPart) (place : ℕ) (given : List ScriptKey) → drop place texts ≡ map body todo ++ [] ∷
       [] → All IsEarly todo → All HasBytes todo → are_few_keys (given ++ flat_map line_keys_of todo) ≡ true
       → ReadSoFar (line_keys 4) are_few_keys texts place given
       → outcome (line_keys 4) are_few_keys texts ≡ Ok (given ++ flat_map line_keys_of todo)
@@ -348,9 +355,9 @@ module _ (texts : List (List ℕ)) where
       it.below it.here reads (few-front (given ++ line_keys_of line) (flat_map line_keys_of todo) few_then) in
       reads-on todo (place + 1) (given ++ line_keys_of line) it.behind (All-tail IsEarly line todo early) (All-tail HasBytes line todo bytes) few_then next ∙ ap Ok (sym same)
 
-pub script-gives : (typed : Typed) → AreKeys 4 (kept_keys typed) → All HasBytes typed.lines.items → keys_of 4 (script_text typed) ≡ Ok (kept_keys typed)
+pub script-gives : (typed : Typed) → AreKeys 4 (kept_keys typed) → All HasBytes typed.parts.items → keys_of 4 (script_text typed) ≡ Ok (kept_keys typed)
 script-gives typed keys bytes =
-    let lines : List TypedLine = typed.lines.items in
+    let lines : List TypedPart = typed.parts.items in
     let early : All IsEarly lines = early-lines lines keys.each in
     let few : are_few_keys (kept_keys typed) ≡ true = and_from (never_fall (kept_keys typed))
     (nat_le (length (kept_keys typed)) 1000000) keys.rising (le-leb (length (kept_keys typed)) 1000000 keys.few)

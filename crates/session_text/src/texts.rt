@@ -1,13 +1,13 @@
-//! The texts of a session: its lines as a script, and its slices.
+//! The texts of a session: its keys as a script, and its slices.
 
 ghost use Rattle.std.specs.Prelude.{◌≡◌, ◌++◌, ◌<◌, ◌+◌, ◌-◌, length, All, IfOk, IsFalse, IsTrue, OnOk, decimal};
 ghost use Rattle.std.specs.List.{flat_map};
 ghost use Rattle.script_text.specs.Script.{AreKeys};
 ghost use Rattle.session_text.specs.Texts.{byte_word, script_line, script_text, slice_text, FitsTexts, HasBytes, IsByte};
 ghost use Rattle.session_text.specs.Texts.{hex_digit as hex_digit_model, line_fits as line_fits_model};
-ghost use Rattle.session_text.specs.Typed.{keys_of_lines};
+ghost use Rattle.session_text.specs.Typed.{keys_of_parts};
 
-use crate::typed::{SLICE, Typed, TypedLine};
+use crate::typed::{SLICE, Typed, TypedPart};
 use itoa::Buffer;
 use std::alloc::{AllocError, Global};
 
@@ -20,9 +20,6 @@ const MOST_KEYS: u64 = 1_000_000;
 /// The last tick of a script.
 const LAST_TICK: u32 = 1_000_000;
 
-/// The key that ends a line.
-const RETURN: u8 = 0x0d;
-
 /// Can a script give the keys of a session, and a slice text its slices?
 pub fn fits_texts(typed: &Typed) -> bool
     ensures fits { IsTrue result → FitsTexts typed.now }
@@ -32,13 +29,13 @@ pub fn fits_texts(typed: &Typed) -> bool
     if typed.slices > MOST_SLICES {
         return false;
     }
-    lines_fit(typed.lines.as_slice())
+    lines_fit(typed.parts.as_slice())
 }
 
-/// Can a script give the keys of these lines?
-fn lines_fit(lines: &[TypedLine]) -> bool
-    ensures fits { IsTrue result → AreKeys 4 (keys_of_lines lines.now) }
-    ensures other { IsFalse result → ¬ AreKeys 4 (keys_of_lines lines.now) }
+/// Can a script give the keys of these parts?
+fn lines_fit(lines: &[TypedPart]) -> bool
+    ensures fits { IsTrue result → AreKeys 4 (keys_of_parts lines.now) }
+    ensures other { IsFalse result → ¬ AreKeys 4 (keys_of_parts lines.now) }
 {
     let mut room = MOST_KEYS;
     let mut last = 0;
@@ -52,34 +49,34 @@ fn lines_fit(lines: &[TypedLine]) -> bool
     true
 }
 
-/// Can a script give the keys of a line after others, if it has room for this number of keys, and
+/// Can a script give the keys of a part after others, if it has room for this number of keys, and
 /// the last of the others is due in this tick?
-fn line_fits(line: &TypedLine, room: u64, last: u32) -> bool
+fn line_fits(line: &TypedPart, room: u64, last: u32) -> bool
     ensures { result ≡ line_fits_model line.now room last }
 {
     (line.bytes.len() as u64) < room && last <= line.tick && line.tick <= LAST_TICK
 }
 
-/// The room that is left after a line.
-fn room_after(line: &TypedLine, room: u64) -> u64
+/// The room that is left after a part.
+fn room_after(line: &TypedPart, room: u64) -> u64
     requires { length line.now.bytes.items < room }
     ensures { result ≡ room - (length line.now.bytes.items + 1) }
 {
     room - 1 - line.bytes.len() as u64
 }
 
-/// The script of a session: a line for each of its lines.
+/// The script of a session: a line for each of its parts.
 pub fn script_of(alloc: Global, typed: &Typed) -> Result<Vec<u8>, AllocError>
     ensures text { IfOk result (λ text. text.items ≡ script_text typed.now) }
-    ensures bytes { OnOk result (All HasBytes typed.now.lines.items) }
+    ensures bytes { OnOk result (All HasBytes typed.now.parts.items) }
 {
     let mut text = Vec::new(alloc);
-    push_lines(&mut text, typed.lines.as_slice())?;
+    push_lines(&mut text, typed.parts.as_slice())?;
     Ok(text)
 }
 
-/// Appends the lines of a script for these lines.
-fn push_lines(text: &mut Vec<u8>, lines: &[TypedLine]) -> Result<(), AllocError>
+/// Appends the lines of a script for these parts.
+fn push_lines(text: &mut Vec<u8>, lines: &[TypedPart]) -> Result<(), AllocError>
     ensures lines { OnOk result
         (text.new.items ≡ text.old.items ++ flat_map script_line lines.now) }
     ensures bytes { OnOk result (All HasBytes lines.now) }
@@ -90,15 +87,15 @@ fn push_lines(text: &mut Vec<u8>, lines: &[TypedLine]) -> Result<(), AllocError>
     Ok(())
 }
 
-/// Appends the line of a script for a line.
-fn push_line(text: &mut Vec<u8>, line: &TypedLine) -> Result<(), AllocError>
+/// Appends the line of a script for a part.
+fn push_line(text: &mut Vec<u8>, line: &TypedPart) -> Result<(), AllocError>
     ensures line { OnOk result (text.new.items ≡ text.old.items ++ script_line line.now) }
     ensures bytes { OnOk result (HasBytes line.now) }
 {
     push_number(text, line.tick)?;
     text.extend_from_slice(b" TERM")?;
     push_bytes(text, line.bytes.as_slice())?;
-    push_byte(text, RETURN)?;
+    push_byte(text, line.last)?;
     text.push(b'\n')?;
     Ok(())
 }

@@ -1,4 +1,4 @@
-//! What is kept of a session: its lines and its slices.
+//! What is kept of a session: its keys and its slices.
 
 /// How many instructions each slice of a session has.
 ///
@@ -7,20 +7,23 @@
 /// slice whose process waits counts whole in a slice text, so that a shorter one loses less.
 pub const SLICE: u32 = 10;
 
-/// A line that was typed.
+/// Keys that were typed together: those of a line, or of a part of a long one. There is at least
+/// one.
 #[derive(Drop)]
-pub struct TypedLine {
-    /// The tick that came then, in which its keys are due.
+pub struct TypedPart {
+    /// The tick that came then, in which they are due.
     pub tick: u32,
-    /// The bytes of the line, without the key that ends it.
+    /// The bytes before the last.
     pub bytes: Vec<u8>,
+    /// The last byte: Return if the line ends here.
+    pub last: u8,
 }
 
-/// What is kept of a session: its machine is run over these slices, with the keys of these lines.
+/// What is kept of a session: its machine is run over these slices, with the keys of these parts.
 #[derive(Drop)]
 pub struct Typed {
-    /// The lines that were typed, in their order.
-    pub lines: Vec<TypedLine>,
+    /// The parts of lines that were typed, in their order.
+    pub parts: Vec<TypedPart>,
     /// How many slices were begun, each of `SLICE` instructions.
     pub slices: u32,
 }

@@ -3,6 +3,8 @@ use Rattle.os9_kernel.specs.Outside.{outside}
 use Rattle.boot_run.specs.Machine.{history_left}
 use Rattle.boot_run.specs.World.{world_of}
 use Rattle.console_run.specs.Keyboard.{keyboard_state}
+use Rattle.console_run.specs.declared.session.SessionEnd.TheVariants.{LineLost, OfRun}
+use Rattle.console_run.proofs.PartLemmas.{keeps-none}
 use Rattle.console_boot.specs.Images.{RunsConsole}
 use Rattle.os9_words.specs.Notes.{HasRead, notes_of}
 use Rattle.command_files.specs.declared.status.End.TheVariants.{NoMemory}
@@ -15,13 +17,13 @@ use Rattle.console_boot.proofs.boot.boot_console.Goals as goal
 pub returns-in-Err-clause-call : goal.returns-in-Err-clause-call
 returns-in-Err-clause-call g c =
     let devices = outside (λ table. (g.dyn-1.0.entry table).1) c.args.devices.now.drives.items (λ table. (g.dyn-2.0.entry table).1) c.args.devices.now.terms.items in
-    console-stopped c.args.boot.now c.args.console.now.typed _ _ _ _ (c.in-Err.ensures.ended devices)
+    console-stopped c.args.boot.now c.args.console.now.typed _ _ _ _ (keeps-none _ _ c.requires.untyped) (c.in-Err.ensures.ended devices)
 
 pub returns-in-Err-accept_images-clause-call : goal.returns-in-Err-accept_images-clause-call
 returns-in-Err-accept_images-clause-call g c =
     let devices = outside (λ table. (g.dyn-1.0.entry table).1) c.args.devices.now.drives.items (λ table. (g.dyn-2.0.entry table).1) c.args.devices.now.terms.items in
     console-refused c.args.boot.now c.args.console.now.typed _ _ _ c.in-Err-accept_images.end c.in-Ok.images
-    (c.in-Ok.ensures.kept devices) c.in-Ok.ensures.contents c.in-Err-accept_images.ensures.refused
+    (keeps-none _ _ c.requires.untyped) (c.in-Ok.ensures.kept devices) c.in-Ok.ensures.contents c.in-Err-accept_images.ensures.refused
 
 pub returns-in-OfRun-clause-call : goal.returns-in-OfRun-clause-call
 returns-in-OfRun-clause-call g c =

@@ -9,9 +9,9 @@ use Rattle.boot_run.specs.Machine.{Setup, history_left}
 use Rattle.boot_run.specs.World.{world_of}
 use Rattle.boot_images.proofs.RunLemmas.{have-images, have-volumes, runs-between}
 use Rattle.console_run.specs.Keyboard.{keyboard_state}
-use Rattle.console_run.specs.Session.{IsSessionTo, run_end}
+use Rattle.console_run.specs.Session.{IsPartTo, IsSessionTo, run_end}
 use Rattle.console_boot.specs.Images.{LeavesSession, session_setup}
-use Rattle.console_boot.proofs.SessionLemmas.{session-between}
+use Rattle.console_boot.proofs.SessionLemmas.{part-between, session-between}
 use Rattle.console_boot.proofs.images.run_on_images.Goals as goal
 
 pub run_session-outcome-requires-clause-machine : goal.run_session-outcome-requires-clause-machine
@@ -74,8 +74,16 @@ returns-clause-run g c =
           terms_put terms_left call.machine;
       at_line = call.at_line;
       keyboard = call.keyboard;
+      lines = call.lines;
+      stopped = λ told.
+          subst (λ (setup : Setup). IsPartTo setup typed c.run_session-outcome.result.end from to before) same
+          (part-between given typed before ran inside left c.eject_images.new.images count
+          c.eject_images.ensures.taken history c.insert_images.ensures.held terms_put terms_left c.run_session-outcome.result.end
+          from to (call.stopped (subst (λ (terms : List TerminalState). All IsObserved terms) (sym terms_put) told)));
       session = λ told.
-          subst (λ (setup : Setup). IsSessionTo (LeavesSession setup c.eject_images.new.images history typed before (record ran { devices = left })) c.run_session-outcome.result.end from to) same
+          subst (λ (setup : Setup). IsSessionTo (LeavesSession setup c.eject_images.new.images history typed before
+          (record ran { devices = left })) c.run_session-outcome.result.end from to before
+          (record ran { devices = left })) same
           (session-between given typed before ran inside left c.eject_images.new.images count
           c.eject_images.ensures.taken history c.insert_images.ensures.held terms_put terms_left c.run_session-outcome.result.end
           from to (call.session (subst (λ (terms : List TerminalState). All IsObserved terms) (sym terms_put)

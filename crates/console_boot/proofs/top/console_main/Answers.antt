@@ -3,6 +3,7 @@ use Rattle.std.specs.String.{string_bytes}
 use Rattle.os9_kernel.specs.Outside.{outside}
 use Rattle.os9_words.specs.Notes.{notes_of}
 use Rattle.os9_boot.proofs.BootCallLemmas.{err-only, reported}
+use Rattle.console_run.proofs.PartLemmas.{keeps-none}
 use Rattle.console_boot.proofs.TopLemmas.{top-memory, top-spelled, top-unspelled}
 use Rattle.console_boot.proofs.top.console_main.Goals as goal
 
@@ -26,6 +27,6 @@ returns-in-Err-OutOfMemory-clause-call g c =
     let devices = outside (λ table. (g.dyn-1.0.entry table).1) c.args.devices.now.drives.items (λ table. (g.dyn-2.0.entry table).1) c.args.devices.now.terms.items in
     rw c.number.ensures
     (top-memory (map string_bytes c.args.words.now) _ _ _ _ (notes_of g.H.Host c.args.host.now)
-    (notes_of g.H.Host c.report-in-Err-OutOfMemory.new.host) c.args.console.now.typed
+    (notes_of g.H.Host c.report-in-Err-OutOfMemory.new.host) c.args.console.now.typed (keeps-none _ _ c.requires.untyped)
     (reported g.H.Host _ _ _ _ c.report-in-Err-OutOfMemory.ensures) (err-only g.H.Host c.args.host.now
     c.report-in-Err-OutOfMemory.new.host devices c.report-in-Err-OutOfMemory.ensures.others) refl)

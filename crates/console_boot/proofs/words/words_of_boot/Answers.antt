@@ -19,4 +19,7 @@ returns c =
     = c.in_ok-push_value.ensures ∙ ap (λ (value : Option (List ℕ)). map string_bytes c.push_option-2.new.words.items ++ option_words (codes "--blocks=") value) c.value-2.ensures in
     let time : map string_bytes c.push_value-2.new.words.items ≡ map string_bytes c.push_value.new.words.items ++ option_words (codes "--time=") (value_of given (codes "time"))
     = c.in_ok-push_value-2.ensures ∙ ap (λ (value : Option (List ℕ)). map string_bytes c.push_value.new.words.items ++ option_words (codes "--time=") value) c.value-3.ensures in
-    replay-is given _ _ _ _ _ _ _ _ _ one c.in_ok-push_option.ensures c.in_ok-push_option-2.ensures (ap (λ (name : List ℕ). codes "--script=" ++ name ++ codes ".script") name) (ap (λ (name : List ℕ). codes "--slices=" ++ name ++ codes ".slices") name) blocks time six c.in_ok-push_images.ensures
+    replay-is given _ _ _ _ _ _ _ _ _ one c.in_ok-push_option.ensures c.in_ok-push_option-2.ensures
+    (ap (λ (name : List ℕ). codes "--script=" ++ name ++ codes ".script") name)
+    (ap (λ (name : List ℕ). codes "--slices=" ++ name ++ codes ".slices") name) blocks time six
+    c.in_ok-push_images.ensures

@@ -1,4 +1,4 @@
-use Rattle.std.proofs.Common.{◌≡◌, [], List, length, ap, subst, refl, sym, ◌∙◌, arith}
+use Rattle.std.proofs.Common.{◌≡◌, [], List, length, ap, subst, refl, sym, ◌∙◌, arith, inr}
 use Rattle.std.specs.Vec.{vec_len}
 use Rattle.std.proofs.lemmas.List.{length-map}
 use Rattle.os9_outer.specs.TerminalState.{TerminalState, terminal_states}
@@ -14,7 +14,8 @@ use Rattle.boot_run.specs.World.{world_of}
 use Rattle.boot_run.proofs.MachineLemmas.{called-output, called-refused, called-whole, called-without_memory, drives-counted, drives-started, images-there, where-refused}
 use Rattle.console_run.specs.Keyboard.{keyboard_state}
 use Rattle.session_text.specs.Typed.{kept_keys, kept_slices}
-use Rattle.console_run.proofs.SessionLemmas.{asks-none, asks-over, never-began, not-output, session-lost, session-over, stands-begun}
+use Rattle.console_run.proofs.PartLemmas.{keeps-none}
+use Rattle.console_run.proofs.SessionLemmas.{asks-none, asks-over, never-began, never-part, not-output, session-lost, session-over, session-part, stands-begun, whole-part}
 use Rattle.console_run.proofs.session.run_session.Goals as goal
 
 pub new-requires-clause-drives : goal.new-requires-clause-drives
@@ -62,7 +63,9 @@ returns-in-Err-clause-call g c =
           c.in-Err.ensures.terms_kept));
       at_line = tt;
       keyboard = rw c.end_of_start.ensures (asks-none c.in-Err.error _);
-      session = λ told. rw c.end_of_start.ensures (never-began _ c.in-Err.error _ _);
+      lines = keeps-none typed _ c.requires.untyped;
+      stopped = λ told. rw c.end_of_start.ensures (never-part setup typed c.in-Err.error _ before);
+      session = λ told. rw c.end_of_start.ensures (never-began _ c.in-Err.error _ _ _ _);
     }
 
 -- ---- the machine was run
@@ -95,6 +98,8 @@ returns-in-Over-clause-call g c =
           t tied) c.run_end-end.ensures.idle c.run_end-end.ensures.lives history entered;
       at_line = tt;
       keyboard = asks-over c.living.result c.ticks.result c.run_end-end.result from to c.run_end-end.ensures.idle c.run_end-end.ensures.lives;
+      lines = ran.lines;
+      stopped = λ told. whole-part setup typed c.living.result c.ticks.result c.run_end-end.result from to before c.run_end-end.ensures.idle c.run_end-end.ensures.lives;
       session = session-over setup typed from to c.in-Ok.kernel c.run_turns.new.kernel before after started
           c.requires.machine.terminals.unloaded starts.drives.moves kept (starts.stands images have) history entered c.living.result
           c.ticks.result c.run_end-end.result ran.session (λ t tied. c.living.ensures _ t tied)
@@ -129,6 +134,8 @@ returns-in-LineLost-clause-call g c =
           t tied) c.run_end-end.ensures.idle c.run_end-end.ensures.lives history entered;
       at_line = not-output c.living.result c.ticks.result c.run_end-end.result c.run_end-end.ensures.idle c.run_end-end.ensures.lives;
       keyboard = tt;
+      lines = ran.lines;
+      stopped = λ told. tt;
       session = session-lost setup typed from to c.in-Ok.kernel c.run_turns.new.kernel before after started
           c.requires.machine.terminals.unloaded starts.drives.moves kept (starts.stands images have)
           history entered c.run_end-end.result ran.session;
@@ -144,9 +151,12 @@ returns-in-Err-Output-clause-call g c =
     c.run_turns.new.devices.drives.items (λ table. (g.dyn-2.0.entry table).1) c.run_turns.new.devices.terms.items)
     in
     let typed = c.run_turns.new.console.typed in
+    let from = keyboard_state g.K.Keyboard c.args.console.now.keyboard in
+    let to = keyboard_state g.K.Keyboard c.run_turns.new.console.keyboard in
     let ran = rw c.in-Err-Output.field-0-is at c.in-Err-Output.ensures.ran in
     let later : Outside = record { drives = started.drives; terms = loaded (kept_keys typed) started.terms } in
     λ images have.
+    let setup = setup_with c.args.config c.args.file.now images (kept_keys typed) (kept_slices typed) in
     record {
       machine =
           called-output (setup_with c.args.config c.args.file.now images (kept_keys typed) (kept_slices typed))
@@ -155,6 +165,9 @@ returns-in-Err-Output-clause-call g c =
           (starts.stands images have) c.run_turns.new.kernel after ran.ran;
       at_line = tt;
       keyboard = tt;
+      lines = ran.lines;
+      stopped = session-part setup typed from to c.in-Ok.kernel c.run_turns.new.kernel before after started
+          c.requires.machine.terminals.unloaded starts.drives.moves kept (starts.stands images have) ran.stopped;
       session = λ told. tt;
     }
 
@@ -168,9 +181,12 @@ returns-in-Err-NoMemory-clause-call g c =
     c.run_turns.new.devices.drives.items (λ table. (g.dyn-2.0.entry table).1) c.run_turns.new.devices.terms.items)
     in
     let typed = c.run_turns.new.console.typed in
+    let from = keyboard_state g.K.Keyboard c.args.console.now.keyboard in
+    let to = keyboard_state g.K.Keyboard c.run_turns.new.console.keyboard in
     let ran = rw c.in-Err-NoMemory.field-0-is at c.in-Err-NoMemory.ensures.ran in
     let later : Outside = record { drives = started.drives; terms = loaded (kept_keys typed) started.terms } in
     λ images have.
+    let setup = setup_with c.args.config c.args.file.now images (kept_keys typed) (kept_slices typed) in
     record {
       machine =
           called-without_memory (setup_with c.args.config c.args.file.now images (kept_keys typed)
@@ -180,6 +196,9 @@ returns-in-Err-NoMemory-clause-call g c =
           after ran.ran;
       at_line = tt;
       keyboard = tt;
+      lines = ran.lines;
+      stopped = λ told. inr (session-part setup typed from to c.in-Ok.kernel c.run_turns.new.kernel before after started
+          c.requires.machine.terminals.unloaded starts.drives.moves kept (starts.stands images have) ran.stopped told);
       session = λ told. tt;
     }
 

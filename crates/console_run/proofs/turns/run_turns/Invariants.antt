@@ -6,7 +6,9 @@ use Rattle.os9_words.specs.Notes.{notes_of}
 use Rattle.boot_run.specs.World.{HasNoFault, world_of}
 use Rattle.boot_run.proofs.ConsoleLemmas.{nowhere}
 use Rattle.console_run.specs.Keyboard.{keyboard_state}
-use Rattle.session_text.specs.Typed.{kept_keys}
+use Rattle.console_run.specs.Lines.{GaveLines}
+use Rattle.console_run.specs.Turn.{console_state, rest_of}
+use Rattle.session_text.specs.Typed.{kept_bytes, kept_keys}
 use Rattle.console_run.proofs.EndLemmas.{ComesFrom}
 use Rattle.console_run.proofs.KeyLemmas.{IsOfTerm}
 use Rattle.console_run.proofs.turns.run_turns.Given as goal
@@ -21,9 +23,11 @@ invariant-loop g l =
       slices : l.console.typed.slices ≡ l.counter;
       stands : Stands l.kernel now;
       of_term : All IsOfTerm (kept_keys l.console.typed);
-      comes : ComesFrom l.console.typed l.last (keyboard_state g.K.Keyboard l.initial.console.keyboard)
-          (keyboard_state g.K.Keyboard l.console.keyboard) l.initial.kernel l.kernel (world_of g.H.Host l.initial.host
-          before) (world_of g.H.Host l.host now);
+      gave : GaveLines (kept_bytes l.console.typed) (rest_of l.console)
+          (keyboard_state g.K.Keyboard l.initial.console.keyboard) (keyboard_state g.K.Keyboard l.console.keyboard);
+      comes : ComesFrom (console_state g.K.Keyboard l.console) l.last
+          (keyboard_state g.K.Keyboard l.initial.console.keyboard) l.initial.kernel l.kernel
+          (world_of g.H.Host l.initial.host before) (world_of g.H.Host l.host now);
       count : HasNoFault (world_of g.H.Host l.initial.host nowhere) (world_of g.H.Host l.host nowhere);
       files : g.H.Host.file_map l.host ≡ g.H.Host.file_map l.initial.host;
       notes : notes_of g.H.Host l.host ≡ notes_of g.H.Host l.initial.host;

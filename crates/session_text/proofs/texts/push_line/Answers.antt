@@ -1,7 +1,8 @@
-use Rattle.std.proofs.Common.{◌++◌, ◌∷◌, [], ℕ, List, ap, ◌∙◌}
+use Rattle.std.proofs.Common.{◌++◌, ◌∷◌, [], ℕ, All, List, ap, ◌∙◌, subst}
 use Rattle.std.specs.Prelude.{codes}
 use Rattle.std.specs.List.{flat_map}
-use Rattle.session_text.specs.Texts.{byte_word}
+use Rattle.std.proofs.lemmas.List.Elements.{All-append, All-cons, All-nil}
+use Rattle.session_text.specs.Texts.{IsByte, byte_word}
 use Rattle.session_text.proofs.PushLemmas.{line-behind}
 use Rattle.session_text.proofs.texts.push_line.Goals as goal
 
@@ -13,5 +14,11 @@ returns-clause-line c =
     let bytes = c.in_ok-push_bytes.ensures.words ∙ ap (λ (items : List ℕ). c.extend_from_slice.new.self.items ++
     flat_map byte_word items) c.as_slice.ensures.value ∙ ap (λ (front : List ℕ). front ++ flat_map byte_word
     line.bytes.items) term in
-    let key = c.in_ok-push_byte.ensures.word ∙ ap (λ (front : List ℕ). front ++ byte_word 13) bytes in
+    let key = c.in_ok-push_byte.ensures.word ∙ ap (λ (front : List ℕ). front ++ byte_word c.args.line.now.last) bytes in
     c.in_ok-push.ensures.items ∙ ap (λ (front : List ℕ). front ++ 10 ∷ []) key ∙ line-behind c.args.text.now.items line
+
+pub returns-clause-bytes : goal.returns-clause-bytes
+returns-clause-bytes c =
+    let line = c.args.line.now in
+    let front = subst (All IsByte) c.as_slice.ensures.value c.in_ok-push_bytes.ensures.bytes in
+    All-append IsByte line.bytes.items (line.last ∷ []) front (All-cons IsByte line.last [] c.in_ok-push_byte.ensures.byte (All-nil IsByte))

@@ -1,6 +1,6 @@
 use Rattle.std.proofs.Common.{Some, map, sym, ap, ◌∙◌, arith}
 use Rattle.console_run.proofs.LineLemmas.{drop-next, next-line}
-use Rattle.console_run.proofs.sure_keyboard.SureKeyboardKeyboard.line.Goals as goal
+use Rattle.console_run.proofs.sure_keyboard.SureKeyboardKeyboardMemHost.line.Goals as goal
 
 pub returns-clause-first : goal.returns-clause-first
 returns-clause-first c =
