@@ -1,18 +1,19 @@
 ghost use Rattle.std.specs.Prelude.{◌≡◌, ◌+◌, ◌/◌, ◌%◌, ◌<◌, ◌≤◌, ◌↔◌, IsTrue, IfSome, IfNone, OnSome, length};
 ghost use Rattle.std.specs.Bool.{OnTrue, OnFalse};
 ghost use Rattle.os9_base.specs.Cells.{Holds, FitsIn, store_cells};
+ghost use Rattle.block_map.specs.TakenBlocks.{NamesLiveBlocks};
 
 use crate::map::Map;
 use block_pool::pool::{BLOCK_LEN, Pool};
 use os9_base::memory::{Bus, UserMem};
 use proc_model::group::BlockId;
 
-/// The bytes that a process sees: those of the blocks that its map names. A slot counts as named if
-/// its block is live in the pool.
+/// The bytes that a process sees: those of the blocks that its map names, each of which is live.
 #[derive(Drop)]
 pub struct View<'a> {
     pub map: &'a Map,
     pub pool: &'a mut Pool,
+    ghost live: { NamesLiveBlocks map.now pool.now },
 }
 
 impl Bus for View<'_> {
@@ -33,7 +34,7 @@ impl Bus for View<'_> {
         ensures whole { IsSlotLive self.now.map.now self.now.pool.now (at / 8192)
             → at % 8192 + length result.now ≡ 8192 }
     {
-        match self.block_in(slot_of(at)) {
+        match self.map.place(slot_of(at)) {
             Some(id) => &self.pool.bytes(id)[offset_in_block(at) as usize..],
             None => &[],
         }
@@ -61,10 +62,10 @@ impl Bus for View<'_> {
             × (at % 8192 + length from.now ≤ 8192)) }
     {
         let offset = offset_in_block(at);
-        let Some(id) = self.block_in(slot_of(at)) else {
+        let Some(id) = self.map.place(slot_of(at)) else {
             return false;
         };
-        if offset as usize + from.len() > BLOCK_LEN {
+        if offset as usize + from.len() > self.pool.bytes(id).len() {
             return false;
         }
         self.pool.copy_in(id, offset, from);
@@ -75,6 +76,7 @@ impl Bus for View<'_> {
 impl Map {
     /// The bytes that a process with this map sees in the pool.
     pub fn view<'a>(&'a self, pool: &'a mut Pool) -> View<'a>
+        requires { NamesLiveBlocks self.now pool.old }
         ensures map { result.map ≡ self.entry }
         ensures bytes { result.pool.now ≡ pool.old }
         ensures pool { result.pool.ghost_name ≡ pool.entry.ghost_name }

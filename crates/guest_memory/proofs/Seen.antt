@@ -4,6 +4,7 @@ use Rattle.std.specs.Option.{option_map_or}
 use Rattle.std.proofs.lemmas.Bool.{cond-true, lt-ltb}
 use Rattle.std.proofs.lemmas.List.{length-map, length-take-le}
 use Rattle.std.proofs.lemmas.Option.{slice_get-get_or, none-some, same_Some}
+use Rattle.block_map.specs.TakenBlocks.{NamesLiveBlocks}
 use Rattle.block_map.specs.Window.{map_cells, live_byte, SameBeyond-self}
 use Rattle.block_map.proofs.Windows.{length-block_bytes}
 use Rattle.block_pool.specs.Blocks.{Blocks, IsLive, is_live, free_block_count, reference_count, block_bytes}
@@ -39,6 +40,11 @@ pub borrowed-cells : (memory : Memory) (process : ℕ) → process < 33 → (old
 borrowed-cells memory process within old at slots is pool same =
     let whole : slots ≡ get_or memory.maps.items process no_slots = is ∙ is_map_of memory.pool memory.maps.items memory.dir memory.sound process within old at in
     λ i. map_cells (whole i) (same i)
+
+-- it names live blocks
+pub seen-names : (memory : Memory) (process : ℕ) → process < 33 → (old : Slots BlockId)
+    → old ≡ get_or memory.maps.items process old → NamesLiveBlocks old memory.pool
+seen-names memory process within old at = live memory.pool memory.maps.items memory.dir memory.sound process within old at
 
 module _ (memory : Memory) (process : ℕ) (within : process < 33) (old : Slots BlockId)
     (at : old ≡ get_or memory.maps.items process old) (address : ℕ) (id : BlockId)

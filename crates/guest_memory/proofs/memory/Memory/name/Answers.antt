@@ -1,7 +1,10 @@
 use Rattle.std.proofs.Common.{ℕ, Option, ap, ◌∙◌}
 use Rattle.user_names.specs.UserNames.{name_at}
-use Rattle.guest_memory.proofs.Seen.{cells_of-seen, borrowed-cells}
+use Rattle.guest_memory.proofs.Seen.{cells_of-seen, borrowed-cells, seen-names}
 use Rattle.guest_memory.proofs.memory.Memory.name.Goals as goal
+
+pub view-view-requires : goal.view-view-requires
+view-view-requires c = seen-names c.args.self.now c.args.p.0 c.requires c.index.result.now c.index.ensures
 
 pub returns-clause-name : goal.returns-clause-name
 returns-clause-name c =

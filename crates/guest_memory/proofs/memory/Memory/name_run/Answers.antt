@@ -1,7 +1,10 @@
 use Rattle.std.proofs.Common.{ap, ◌∙◌}
 use Rattle.guest_memory.proofs.Areas.{run-read}
-use Rattle.guest_memory.proofs.Seen.{cells_of-seen, borrowed-cells}
+use Rattle.guest_memory.proofs.Seen.{cells_of-seen, borrowed-cells, seen-names}
 use Rattle.guest_memory.proofs.memory.Memory.name_run.Goals as goal
+
+pub view-view-requires : goal.view-view-requires
+view-view-requires c = seen-names c.args.self.now c.args.p.0 c.requires.process c.index.result.now c.index.ensures
 
 pub returns-clause-run : goal.returns-clause-run
 returns-clause-run c =

@@ -1,6 +1,10 @@
 use Rattle.std.proofs.Common.{ap}
 use Rattle.guest_memory.proofs.ByteCalls.{sound-store, tied-store}
+use Rattle.guest_memory.proofs.Seen.{seen-names}
 use Rattle.guest_memory.proofs.memory.Memory.store.Goals as goal
+
+pub view-requires : goal.view-requires
+view-requires c = seen-names c.args.self.now c.args.p.0 c.requires.process c.index.result.now c.index.ensures
 
 pub invariant_of-self : goal.invariant_of-self
 invariant_of-self c =

@@ -1,0 +1,5 @@
+use Rattle.guest_memory.proofs.Seen.{seen-names}
+use Rattle.guest_memory.proofs.memory.Memory.fits.Goals as goal
+
+pub view-requires : goal.view-requires
+view-requires c = seen-names c.args.self.now c.args.p.0 c.requires c.index.result.now c.index.ensures
