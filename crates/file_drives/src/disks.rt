@@ -23,7 +23,7 @@ use crate::changing::{set_attr_in_box, set_size_in_box, write_in_box};
 use crate::entries::{
     create_in_box, delete_in_box, find_deletable_in_box, find_place_in_box, make_dir_in_box,
 };
-use crate::reading::{fd_in_box, mount_in_box, read_in_box, walk_in_box};
+use crate::reading::{fd_in_box, mount_in_box, read_in_box, size_in_box, walk_in_box};
 use device_table::devices::Devices;
 use lock_model::place::FilePlace;
 use os9_base::call::OutOfMemory;
@@ -127,6 +127,28 @@ impl Disks {
         ensures terms_kept { devices.new.terms ≡ devices.old.terms }
     {
         fd_in_box(
+            &mut self.volumes[place.drive as usize],
+            &mut devices.drives[place.drive as usize],
+            place.number,
+        )
+    }
+
+    /// The size of a file, in bytes.
+    ///
+    /// # Errors
+    ///
+    /// `Device` if the read of the drive fails.
+    pub fn size(&mut self, devices: &mut Devices, place: FilePlace) -> Result<u32, FileFault>
+        requires file { HasFileAt self.old (drives_seen BlockDriver-box devices.old) place }
+        ensures ok { OnDisks self.old (drives_seen BlockDriver-box devices.old) place
+            (λ v file. IfOk result (λ size. size ≡ length file.contents)) }
+        ensures device { OnErr result (IsSome (file_fault result)) }
+        ensures drive { ReadsFile place (file_fault result) (λ v file. 1)
+            self.old (drives_seen BlockDriver-box devices.old)
+            self.new (drives_seen BlockDriver-box devices.new) }
+        ensures terms_kept { devices.new.terms ≡ devices.old.terms }
+    {
+        size_in_box(
             &mut self.volumes[place.drive as usize],
             &mut devices.drives[place.drive as usize],
             place.number,

@@ -94,6 +94,47 @@ pub fn fd_in_box(
     fd_on(kept, &mut **driver, number)
 }
 
+// The size of a file.
+fn size_on(
+    kept: &mut Option<Volume>,
+    d: &mut dyn BlockDriver,
+    number: u32,
+) -> Result<u32, FileFault>
+    requires { HasFileOn kept.old
+        (lent_seen BlockDriver-dyn d.old) number }
+    ensures ok { OnMountedFile kept.old
+        (lent_seen BlockDriver-dyn d.old) number
+        (λ v file. IfOk result (λ size. size ≡ length file.contents)) }
+    ensures device { OnErr result (IsSome (file_fault result)) }
+    ensures drive { ReadsMounted (file_fault result) 1
+        kept.old (lent_seen BlockDriver-dyn d.old)
+        kept.new (lent_seen BlockDriver-dyn d.new) }
+{
+    match kept {
+        Some(volume) => volume.size(d, number),
+        None => unreachable!(),
+    }
+}
+
+// `size_on` for the drive in a box.
+pub fn size_in_box(
+    kept: &mut Option<Volume>,
+    driver: &mut Box<dyn BlockDriver>,
+    number: u32,
+) -> Result<u32, FileFault>
+    requires { HasFileOn kept.old
+        (boxed_seen BlockDriver-box driver.old) number }
+    ensures ok { OnMountedFile kept.old
+        (boxed_seen BlockDriver-box driver.old) number
+        (λ v file. IfOk result (λ size. size ≡ length file.contents)) }
+    ensures device { OnErr result (IsSome (file_fault result)) }
+    ensures drive { ReadsMounted (file_fault result) 1
+        kept.old (boxed_seen BlockDriver-box driver.old)
+        kept.new (boxed_seen BlockDriver-box driver.new) }
+{
+    size_on(kept, &mut **driver, number)
+}
+
 // Reads bytes of a file.
 fn read_on(
     kept: &mut Option<Volume>,

@@ -227,8 +227,8 @@ fn read_for_update(
     ensures lives { IsLiving s.new.table p.0 }
     ensures terms_kept { devices.new.terms ≡ devices.old.terms }
 {
-    let size = match files.disks.fd(devices, opened.place) {
-        Ok(fd) => fd.size,
+    let size = match files.disks.size(devices, opened.place) {
+        Ok(size) => size,
         Err(fault) => return refuse(&mut files.io, p, fault.number()),
     };
     let at = files.position(p, opened);

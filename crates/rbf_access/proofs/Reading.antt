@@ -65,6 +65,12 @@ module _ (image : List ℕ) (v : DiskVolume) (vol : Vol image v) (n : ℕ) (file
     segments_are = read.segs ∙ ap (λ (f : DiskFile). f.segments) shown;
   }
 
+pub size_of : (media : Option (List ℕ)) (n : ℕ) (bytes : List ℕ) (size : ℕ) → bytes ≡ sector_at media n
+    → size ≡ size_field bytes → OnFile media n (λ file. size ≡ length file.contents)
+size_of media n bytes size are read v file on is =
+    let there : bytes ≡ sector on.image n = are ∙ ap (λ m. sector_at m n) on.is in
+    read ∙ ap size_field there ∙ sym (length_of_file (image_geometry on.image) (sector on.image) v on.vol.sound n file is)
+
 pub fd_of : (media : Option (List ℕ)) (n : ℕ) (bytes : List ℕ) (fd : Fd) → bytes ≡ sector_at media n → IsReadFrom bytes fd → OnFile media n (λ file. IsFdOf file fd)
 fd_of media n bytes fd are read v file on is =
     let there : bytes ≡ sector on.image n = are ∙ ap (λ m. sector_at m n) on.is in

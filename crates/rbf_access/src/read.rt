@@ -6,7 +6,7 @@ ghost use Rattle.rbf_map.specs.Map.{map_free_clusters};
 ghost use Rattle.rbf_change.specs.Calls.{free_total, shape};
 ghost use Rattle.rbf_change.specs.Agrees.{Agrees};
 ghost use Rattle.rbf_change.specs.Contents.{bytes_from, sector_span};
-ghost use Rattle.rbf_access.specs.Cached.{IsCacheOf, IsHeld, IsUsed, UsesSectors};
+ghost use Rattle.rbf_access.specs.Cached.{IsCacheOf, IsHeld, IsUsed, StayHeld, UsesSectors};
 ghost use Rattle.rbf_access.specs.Drive.{Counts};
 ghost use Rattle.rbf_access.specs.Faults.{file_fault};
 ghost use Rattle.rbf_access.specs.Mounted.{kept, HasFile, IsMounted, Represents};
@@ -15,7 +15,7 @@ ghost use Rattle.rbf_access.specs.Reading.{HaveBytes, IsFdOf, IsRead, OnFile, Us
 use crate::faults::FileFault;
 use crate::volume::Volume;
 use os9_outer::drive::BlockDriver;
-use rbf_sector::{Fd, read_fd};
+use rbf_sector::{Fd, read_fd, read_size};
 use rbf_segs::Segs;
 
 impl Volume {
@@ -60,6 +60,29 @@ impl Volume {
     {
         self.bring(d, lsn)?;
         Ok(read_fd(self.sector(lsn)))
+    }
+
+    /// The size of a file, in bytes.
+    ///
+    /// # Errors
+    ///
+    /// `Device` if the drive's read fails.
+    pub fn size(&mut self, d: &mut dyn BlockDriver, lsn: u32) -> Result<u32, FileFault>
+        requires mounted { IsMounted self.old (media d.old) }
+        requires file { HasFile (media d.old) lsn }
+        ensures ok { OnFile (media d.old) lsn
+            (λ file. IfOk result (λ size. size ≡ length file.contents)) }
+        ensures device { OnErr result (IsSome (file_fault result)) }
+        ensures mounted { IsMounted self.new (media d.new) }
+        ensures media_kept { media d.new ≡ media d.old }
+        ensures volume_kept { kept self.new ≡ kept self.old }
+        ensures hit { IsHeld self.old.cache lsn → drive_calls d.new ≡ drive_calls d.old }
+        ensures used { OnOk result (IsUsed lsn self.old.cache self.new.cache) }
+        ensures still { StayHeld lsn self.old.cache self.new.cache }
+        ensures counts { Counts BlockDriver-dyn (file_fault result) 1 d.old d.new }
+    {
+        self.bring(d, lsn)?;
+        Ok(read_size(self.sector(lsn)))
     }
 
     /// Reads bytes of a file from `at` on, up to the room of `into` and the end of the file, and

@@ -15,10 +15,21 @@ pub fn read_sector(d: &mut dyn BlockDriver, lsn: u32) -> Result<[u8; 256], Drive
     ensures made { Made 1 (drive_calls d.old) (drive_calls d.new) }
 {
     let mut bytes = [0; 256];
-    match d.read(lsn, &mut bytes) {
+    match read_into(d, lsn, &mut bytes) {
         Ok(()) => Ok(bytes),
         Err(fault) => Err(fault),
     }
+}
+
+// Reads a sector into a buffer.
+pub fn read_into(d: &mut dyn BlockDriver, lsn: u32, into: &mut [u8; 256]) -> Result<(), DriveFault>
+    requires { lsn < sector_count (media d.old) }
+    ensures bytes { OnOk result (into.new ≡ sector_at (media d.old) lsn) }
+    ensures media_kept { media d.new ≡ media d.old }
+    ensures counts { Counts BlockDriver-dyn (drive_fault result) 1 d.old d.new }
+    ensures made { Made 1 (drive_calls d.old) (drive_calls d.new) }
+{
+    d.read(lsn, into)
 }
 
 // Writes a sector. The media with the new sector must be well formed.

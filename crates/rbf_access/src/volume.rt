@@ -7,7 +7,7 @@ ghost use Rattle.sector_cache.specs.Held.{held_bytes, put_first, without};
 ghost use Rattle.rbf_access.specs.Mounted.{kept, IsSound};
 
 use crate::faults::FileFault;
-use crate::sector::{read_sector, write_sector};
+use crate::sector::{read_into, write_sector};
 use os9_outer::drive::BlockDriver;
 use rbf_map::RbfMap;
 use rbf_sector::Ident;
@@ -67,8 +67,9 @@ impl Volume {
         if self.cache.touch(0, lsn) {
             return Ok(());
         }
-        match read_sector(d, lsn) {
-            Ok(bytes) => {
+        let mut bytes = [0; 256];
+        match read_into(d, lsn, &mut bytes) {
+            Ok(()) => {
                 self.cache.add(0, lsn, &bytes);
                 Ok(())
             }

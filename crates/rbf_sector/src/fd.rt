@@ -41,6 +41,13 @@ pub fn read_fd(b: &[u8; 256]) -> Fd
     }
 }
 
+/// The size in bytes of the file of a descriptor.
+pub fn read_size(b: &[u8; 256]) -> u32
+    ensures { result ≡ size_field b.now }
+{
+    u32_at(b, 9)
+}
+
 /// Writes a file descriptor. A list of fewer than 48 segments ends with one pair of zeros, and the
 /// bytes after it are unchanged.
 pub fn write_fd(f: &Fd, b: &mut [u8; 256])

@@ -3,7 +3,7 @@
 #![tactic(auto)]
 
 pub use entry::{Entry, read_entry, write_entry};
-pub use fd::{Fd, read_fd, write_fd, write_fields};
+pub use fd::{Fd, read_fd, read_size, write_fd, write_fields};
 pub use ident::{Ident, has_map, is_header, read_ident, system_sectors};
 
 mod entry;

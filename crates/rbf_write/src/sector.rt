@@ -56,6 +56,9 @@ fn clear(bytes: &mut [u8; 256], first: usize, end: usize)
     requires end { end ≤ 256 }
     ensures { IsCleared first end bytes.old bytes.new }
 {
+    if end <= first {
+        return;
+    }
     let zeros = [0; 256];
     put_bytes(bytes, first, &zeros[..end.saturating_sub(first)]);
 }

@@ -1,2 +1,3 @@
+pub mod NoneHeld
 pub mod Room
 pub mod Unchanged

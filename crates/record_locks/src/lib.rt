@@ -6,8 +6,6 @@ mod conflict;
 mod cycle;
 pub mod locks;
 pub mod records;
-#[cfg(test)]
-mod tests;
 
 pub use lock_model::history::{Entry, EntryBytes};
 pub use lock_model::lock::{EntryKind, Grant, Held, Range, Request};

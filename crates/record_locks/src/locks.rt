@@ -1,5 +1,7 @@
-ghost use Rattle.std.specs.Prelude.{◌≡◌, None, Some, false, IfOk, IfSome, IsSome, replicate};
+ghost use Rattle.std.specs.Prelude.{◌≡◌, None, Some, false, count_by, is_some, slice_set, IfOk, IfSome, IsSome, replicate};
+ghost use Rattle.lock_model.specs.Conflict.{conflicts as conflicts_model};
 ghost use Rattle.lock_model.specs.Laws.{AreLocks, MayHold};
+ghost use Rattle.lock_model.specs.declared.lock.Held.{Held as HeldLock};
 ghost use Rattle.lock_model.specs.Locks.{lock_of as lock_of_model, no_locks, request_of as request_of_model, with_lock, with_request};
 ghost use Rattle.lock_model.specs.Waits.{after_answer, after_later, closes as closes_model, first_answer, is_late as is_late_model, later_answer, lock_may_go};
 ghost use Rattle.record_locks.specs.Places.{IsPath, IsProcess};
@@ -19,9 +21,12 @@ use std::marker::Model;
 pub struct Locks {
     held: Vec<Option<Held>>,
     requests: Vec<Option<Request>>,
+    // The number of locks held. Most often it is 0, and no place is looked at.
+    count: usize,
 }
 
 impl Model for Locks {
+    ghost use Rattle.std.specs.Prelude.{◌≡◌, is_some, count_by};
     ghost use Rattle.lock_model.specs.Locks.{Locks};
     ghost use Rattle.lock_model.specs.Laws.{AreLocks};
 
@@ -29,8 +34,10 @@ impl Model for Locks {
 
     ghost view = { λ locks. record { held = locks.held.items; requests = locks.requests.items } };
 
-    ghost invariant = { λ locks. AreLocks
-        (record { held = locks.held.items; requests = locks.requests.items }) };
+    ghost invariant = { λ locks. record {
+      kept : AreLocks (record { held = locks.held.items; requests = locks.requests.items });
+      counted : locks.count ≡ count_by is_some locks.held.items;
+    } };
 }
 
 impl Locks {
@@ -45,6 +52,7 @@ impl Locks {
         Ok(Locks {
             held: no_held(alloc)?,
             requests: no_requests(alloc)?,
+            count: 0,
         })
     }
 
@@ -86,7 +94,7 @@ impl Locks {
         ensures unclosed { result ≡ Grant.Wait → closes_model self.now request.lock ≡ false }
         ensures kept { AreLocks self.now }
     {
-        if !conflicts(&self.held, request.lock) {
+        if !self.conflicts(request.lock) {
             Grant::Granted
         } else if request.ticks == 1 {
             Grant::Locked
@@ -147,7 +155,7 @@ impl Locks {
         ensures answer { result ≡ later_answer self.now now request }
         ensures kept { AreLocks self.now }
     {
-        if !conflicts(&self.held, request.lock) {
+        if !self.conflicts(request.lock) {
             Grant::Granted
         } else if is_late(now, request) {
             Grant::Locked
@@ -163,8 +171,19 @@ impl Locks {
     {
         match self.request_of(p) {
             None => false,
-            Some(request) => !conflicts(&self.held, request.lock) || is_late(now, request),
+            Some(request) => !self.conflicts(request.lock) || is_late(now, request),
         }
+    }
+
+    /// Does a requested lock conflict with a held one?
+    fn conflicts(&self, asked: Held) -> bool
+        ensures answer { result ≡ conflicts_model self.now asked }
+        ensures kept { AreLocks self.now }
+    {
+        if self.count == 0 {
+            return false;
+        }
+        conflicts(&self.held, asked)
     }
 
     /// Gives a system path this lock, in place of the lock that it held.
@@ -176,7 +195,20 @@ impl Locks {
         ensures locks { self.new ≡ with_lock self.old path (Some lock) }
         ensures kept { AreLocks self.new }
     {
+        self.count = self.count_with(path);
         self.held[path as usize] = Some(lock);
+    }
+
+    /// The number of locks if a system path holds one.
+    fn count_with(&self, path: u8) -> usize
+        requires { IsPath path }
+        ensures { (lock : HeldLock) → result
+            ≡ count_by is_some (slice_set self.now.held path (Some lock)) }
+    {
+        if self.held[path as usize].is_some() {
+            return self.count;
+        }
+        self.count + 1
     }
 
     /// Takes the lock of a system path away, if it holds one.
@@ -185,7 +217,19 @@ impl Locks {
         ensures locks { self.new ≡ with_lock self.old path None }
         ensures kept { AreLocks self.new }
     {
+        self.count = self.count_without(path);
         self.held[path as usize] = None;
+    }
+
+    /// The number of locks if a system path holds none.
+    fn count_without(&self, path: u8) -> usize
+        requires { IsPath path }
+        ensures { result ≡ count_by is_some (slice_set self.now.held path None) }
+    {
+        if self.held[path as usize].is_none() {
+            return self.count;
+        }
+        self.count - 1
     }
 
     /// Forgets the request of a process, if it waits in one.

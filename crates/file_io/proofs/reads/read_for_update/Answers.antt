@@ -31,10 +31,10 @@ pub returns-in-Err-clause-call : goal.returns-in-Err-clause-call
 returns-in-Err-clause-call g c now m was v file terms tied stands is there =
     let p = c.args.p.0 in
     let opened = c.args.opened.now in
-    let mid : FileState = record c.args.files.now { disks = c.fd.new.self } in
+    let mid : FileState = record c.args.files.now { disks = c.size.new.self } in
     let calls : DiskVolume → DiskFile → ℕ = λ v file. 1 in
-    let fault : IsFault _ c.in-Err.fault = fault-of c.fd.result c.in-Err.fault c.in-Err.is c.fd.ensures.device in
-    let drive = as-fault opened.place _ fault.number calls c.args.files.now.disks c.fd.new.self _ _ fault.is c.fd.ensures.drive in
+    let fault : IsFault _ c.in-Err.fault = fault-of c.size.result c.in-Err.fault c.in-Err.is c.size.ensures.device in
+    let drive = as-fault opened.place _ fault.number calls c.args.files.now.disks c.size.new.self _ _ fault.is c.size.ensures.drive in
     let called = called-read c.args.files.now mid _ _ was opened.place v file (Some fault.number) calls stands is there drive in
     reading-fails c.args.kind m was v file now p opened c.requires.may.update is _ _ terms mid called stands.drives c.refuse.result c.args.s.now (record mid { io = c.refuse.new.io }) fault.number
     (has-read c.args.files.now mid _ _ was opened.place file (Some fault.number) calls stands (file-there was opened.place v file is there) refl refl refl drive)
@@ -47,7 +47,7 @@ returns-then-size-at-clause-call g c now m was v file terms tied stands is there
     let p = c.args.p.0 in
     let opened = c.args.opened.now in
     let kind = c.args.kind in
-    let mid : FileState = record c.args.files.now { disks = c.fd.new.self } in
+    let mid : FileState = record c.args.files.now { disks = c.size.new.self } in
     let calls : DiskVolume → DiskFile → ℕ = λ v file. 1 in
     let called = called-read c.args.files.now mid _ _ was opened.place v file None calls stands is there c.in-Ok.ensures.drive in
     let read = has-read c.args.files.now mid _ _ was opened.place file None calls stands (file-there was opened.place v file is there) refl refl refl c.in-Ok.ensures.drive in
@@ -57,7 +57,7 @@ returns-then-size-at-clause-call g c now m was v file terms tied stands is there
     let asker = asker_of m p now in
     let start = begins kind asker was found true in
     let starts : start ≡ c.position-at.result = ap (λ (l : Locks). start_of (request_of l p) opened.desc.at) locks_are ∙ sym c.position-at.ensures in
-    let size_is : c.in-Ok.fd.size ≡ length file.contents = (c.in-Ok.ensures.ok was.volumes v file stands.mounted is there).size_is in
+    let size_is : c.in-Ok.size ≡ length file.contents = c.in-Ok.ensures.ok was.volumes v file stands.mounted is there in
     let past : nat_le (length file.contents) start ≡ true = le-leb (length file.contents) start (omega (arith, size_is, starts, c.if-size-at.true)) in
     reading-ends kind m was v file now p opened c.requires.may.update is _ _ terms mid called stands.drives c.refuse-then-size-at.result c.args.s.now
     (record mid { io = c.refuse-then-size-at.new.io }) past read c.refuse-then-size-at.ensures.end tied
@@ -69,7 +69,7 @@ returns-in-Some-clause-call g c now m was v file terms tied stands is there =
     let p = c.args.p.0 in
     let opened = c.args.opened.now in
     let kind = c.args.kind in
-    let mid : FileState = record c.args.files.now { disks = c.fd.new.self } in
+    let mid : FileState = record c.args.files.now { disks = c.size.new.self } in
     let calls : DiskVolume → DiskFile → ℕ = λ v file. 1 in
     let called = called-read c.args.files.now mid _ _ was opened.place v file None calls stands is there c.in-Ok.ensures.drive in
     let read = has-read c.args.files.now mid _ _ was opened.place file None calls stands (file-there was opened.place v file is there) refl refl refl c.in-Ok.ensures.drive in
@@ -79,7 +79,7 @@ returns-in-Some-clause-call g c now m was v file terms tied stands is there =
     let asker = asker_of m p now in
     let start = begins kind asker was found true in
     let starts : start ≡ c.position-at.result = ap (λ (l : Locks). start_of (request_of l p) opened.desc.at) locks_are ∙ sym c.position-at.ensures in
-    let size_is : c.in-Ok.fd.size ≡ length file.contents = (c.in-Ok.ensures.ok was.volumes v file stands.mounted is there).size_is in
+    let size_is : c.in-Ok.size ≡ length file.contents = c.in-Ok.ensures.ok was.volumes v file stands.mounted is there in
     let within : nat_le (length file.contents) start ≡ false = not-le (length file.contents) start (omega (arith, size_is, starts, c.if-size-at.false)) in
     let tick = c.args.s.now.tick in
     let tick_is : m.tick ≡ tick = ap (λ (i : Inner). i.tick) tied.is in
@@ -87,7 +87,7 @@ returns-in-Some-clause-call g c now m was v file terms tied stands is there =
     let grant = answer_in locks p tick request in
     let y_is : (regs_at m p).y ≡ c.args.regs.y = ap (λ (r : Regs). r.y) (sym (c.requires.regs ∙ regs-tied c.args.s.now m p tied)) in
     let same : request_now asker was found (read_claim kind asker found start) ≡ request =
-    read-request kind m was now c.args.p opened v file c.code_of.result c.in-Ok.fd.size c.position-at.result start c.args.regs.y c.from.result
+    read-request kind m was now c.args.p opened v file c.code_of.result c.in-Ok.size c.position-at.result start c.args.regs.y c.from.result
     c.range_of.result locks tick request c.code_of.ensures y_is locks_are tick_is
     size_is starts c.from.ensures c.range_of.ensures c.request_now-request.ensures.request in
     reading-asks kind m was v file now p opened c.requires.may.update is _ _ terms mid called stands.drives c.in-Some.end c.args.s.now c.ask.new.self within
@@ -99,7 +99,7 @@ returns-in-Some-clause-call g c now m was v file terms tied stands is there =
 pub read_granted-requires-clause-no_read : goal.read_granted-requires-clause-no_read
 read_granted-requires-clause-no_read g c =
     let p = c.args.p.0 in
-    let mid : FileState = record c.args.files.now { disks = c.fd.new.self } in
+    let mid : FileState = record c.args.files.now { disks = c.size.new.self } in
     let request = c.request_now-request.result in
     let grant = answer_in c.args.files.now.records.locks p c.args.s.now.tick request in
     let granted : grant ≡ Granted = goes-on grant (λ end is. c.in_default.not-Some end (c.ask.ensures.end ∙ is)) in
@@ -109,7 +109,7 @@ read_granted-requires-clause-no_read g c =
 pub read_granted-requires-clause-opened : goal.read_granted-requires-clause-opened
 read_granted-requires-clause-opened g c =
     let p = c.args.p.0 in
-    let mid : FileState = record c.args.files.now { disks = c.fd.new.self } in
+    let mid : FileState = record c.args.files.now { disks = c.size.new.self } in
     let request = c.request_now-request.result in
     let grant = answer_in c.args.files.now.records.locks p c.args.s.now.tick request in
     let granted : grant ≡ Granted = goes-on grant (λ end is. c.in_default.not-Some end (c.ask.ensures.end ∙ is)) in
@@ -118,7 +118,7 @@ read_granted-requires-clause-opened g c =
     record {
       path = subst (λ (state : FileState). IsPathOf state.io opened) (sym went) c.requires.opened.path;
       file =
-          file-stays opened.place None (λ (v : DiskVolume) (file : DiskFile). 1) c.args.files.now.disks c.fd.new.self c.ask.new.self.disks _ _
+          file-stays opened.place None (λ (v : DiskVolume) (file : DiskFile). 1) c.args.files.now.disks c.size.new.self c.ask.new.self.disks _ _
           (ap (λ (state : FileState). state.disks) went) c.requires.opened.file c.in-Ok.ensures.drive;
     }
 
@@ -140,7 +140,7 @@ returns-clause-call g c now m was v file terms tied stands is there =
     let p = c.args.p.0 in
     let opened = c.args.opened.now in
     let kind = c.args.kind in
-    let mid : FileState = record c.args.files.now { disks = c.fd.new.self } in
+    let mid : FileState = record c.args.files.now { disks = c.size.new.self } in
     let calls : DiskVolume → DiskFile → ℕ = λ v file. 1 in
     let called = called-read c.args.files.now mid _ _ was opened.place v file None calls stands is there c.in-Ok.ensures.drive in
     let read = has-read c.args.files.now mid _ _ was opened.place file None calls stands (file-there was opened.place v file is there) refl refl refl c.in-Ok.ensures.drive in
@@ -150,7 +150,7 @@ returns-clause-call g c now m was v file terms tied stands is there =
     let asker = asker_of m p now in
     let start = begins kind asker was found true in
     let starts : start ≡ c.position-at.result = ap (λ (l : Locks). start_of (request_of l p) opened.desc.at) locks_are ∙ sym c.position-at.ensures in
-    let size_is : c.in-Ok.fd.size ≡ length file.contents = (c.in-Ok.ensures.ok was.volumes v file stands.mounted is there).size_is in
+    let size_is : c.in-Ok.size ≡ length file.contents = c.in-Ok.ensures.ok was.volumes v file stands.mounted is there in
     let within : nat_le (length file.contents) start ≡ false = not-le (length file.contents) start (omega (arith, size_is, starts, c.if-size-at.false)) in
     let tick = c.args.s.now.tick in
     let tick_is : m.tick ≡ tick = ap (λ (i : Inner). i.tick) tied.is in
@@ -158,7 +158,7 @@ returns-clause-call g c now m was v file terms tied stands is there =
     let grant = answer_in locks p tick request in
     let y_is : (regs_at m p).y ≡ c.args.regs.y = ap (λ (r : Regs). r.y) (sym (c.requires.regs ∙ regs-tied c.args.s.now m p tied)) in
     let same : request_now asker was found (read_claim kind asker found start) ≡ request =
-    read-request kind m was now c.args.p opened v file c.code_of.result c.in-Ok.fd.size c.position-at.result start c.args.regs.y c.from.result
+    read-request kind m was now c.args.p opened v file c.code_of.result c.in-Ok.size c.position-at.result start c.args.regs.y c.from.result
     c.range_of.result locks tick request c.code_of.ensures y_is locks_are tick_is
     size_is starts c.from.ensures c.range_of.ensures c.request_now-request.ensures.request in
     let granted : grant ≡ Granted = goes-on grant (λ end is. c.in_default.not-Some end (c.ask.ensures.end ∙ is)) in

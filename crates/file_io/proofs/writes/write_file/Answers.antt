@@ -29,10 +29,10 @@ returns-in-Err-clause-call g c m was v file terms tied stands is there =
     let bytes : List ℕ = take count c.args.s.now.buffer.items in
     let long : length bytes ≡ count = length-take-le count c.args.s.now.buffer.items (omega arith) in
     let some : 0 < length bytes = omega (arith, long, c.requires.sends.some) in
-    let mid : FileState = record c.args.files.now { disks = c.fd.new.self } in
+    let mid : FileState = record c.args.files.now { disks = c.size.new.self } in
     let calls : DiskVolume → DiskFile → ℕ = λ v file. 1 in
-    let fault : IsFault _ c.in-Err.fault = fault-of c.fd.result c.in-Err.fault c.in-Err.is c.fd.ensures.device in
-    let drive = as-fault opened.place _ fault.number calls c.args.files.now.disks c.fd.new.self _ _ fault.is c.fd.ensures.drive in
+    let fault : IsFault _ c.in-Err.fault = fault-of c.size.result c.in-Err.fault c.in-Err.is c.size.ensures.device in
+    let drive = as-fault opened.place _ fault.number calls c.args.files.now.disks c.size.new.self _ _ fault.is c.size.ensures.drive in
     let called = called-read c.args.files.now mid _ _ was opened.place v file (Some fault.number) calls stands is there drive in
     sending-fails c.args.sent.code bytes c.args.sent.done m was v file c.args.now p opened is there some _ _ terms mid called stands.drives count long
     c.refuse.result c.args.s.now (record mid { io = c.refuse.new.io }) fault.number
@@ -50,7 +50,7 @@ returns-in-Some-clause-call g c m was v file terms tied stands is there =
     let bytes : List ℕ = take count c.args.s.now.buffer.items in
     let long : length bytes ≡ count = length-take-le count c.args.s.now.buffer.items (omega arith) in
     let some : 0 < length bytes = omega (arith, long, c.requires.sends.some) in
-    let mid : FileState = record c.args.files.now { disks = c.fd.new.self } in
+    let mid : FileState = record c.args.files.now { disks = c.size.new.self } in
     let calls : DiskVolume → DiskFile → ℕ = λ v file. 1 in
     let called = called-read c.args.files.now mid _ _ was opened.place v file None calls stands is there c.in-Ok.ensures.drive in
     let read = has-read c.args.files.now mid _ _ was opened.place file None calls stands (file-there was opened.place v file is there) refl refl refl c.in-Ok.ensures.drive in
@@ -63,8 +63,8 @@ returns-in-Some-clause-call g c m was v file terms tied stands is there =
     let request = c.request_now-request.result in
     let grant = answer_in locks p tick request in
     let same : request_now asker was found (write_claim found code (length bytes)) ≡ request =
-    write-request m was c.args.now c.args.p opened v file code bytes count c.in-Ok.fd.size c.from.result c.range_of.result locks tick request long locks_are tick_is
-    (c.in-Ok.ensures.ok was.volumes v file stands.mounted is there).size_is c.from.ensures c.range_of.ensures c.request_now-request.ensures.request in
+    write-request m was c.args.now c.args.p opened v file code bytes count c.in-Ok.size c.from.result c.range_of.result locks tick request long locks_are tick_is
+    (c.in-Ok.ensures.ok was.volumes v file stands.mounted is there) c.from.ensures c.range_of.ensures c.request_now-request.ensures.request in
     sending-asks code bytes c.args.sent.done m was v file c.args.now p opened is there some _ _ terms mid called stands.drives count long c.in-Some.end c.args.s.now c.ask.new.self
     (ap (λ (r : Request). r.lock.owner.0) same ∙ c.request_now-request.ensures.own.owner) read grant
     (ap (answer_to asker was) same
@@ -75,7 +75,7 @@ returns-in-Some-clause-call g c m was v file terms tied stands is there =
 pub write_granted-requires-clause-no_read : goal.write_granted-requires-clause-no_read
 write_granted-requires-clause-no_read g c =
     let p = c.args.p.0 in
-    let mid : FileState = record c.args.files.now { disks = c.fd.new.self } in
+    let mid : FileState = record c.args.files.now { disks = c.size.new.self } in
     let request = c.request_now-request.result in
     let grant = answer_in c.args.files.now.records.locks p c.args.s.now.tick request in
     let granted : grant ≡ Granted = goes-on grant (λ end is. c.in_default.not-Some end (c.ask.ensures.end ∙ is)) in
@@ -86,12 +86,12 @@ pub write_granted-requires-clause-file : goal.write_granted-requires-clause-file
 write_granted-requires-clause-file g c =
     let p = c.args.p.0 in
     let place = c.args.opened.now.place in
-    let mid : FileState = record c.args.files.now { disks = c.fd.new.self } in
+    let mid : FileState = record c.args.files.now { disks = c.size.new.self } in
     let request = c.request_now-request.result in
     let grant = answer_in c.args.files.now.records.locks p c.args.s.now.tick request in
     let granted : grant ≡ Granted = goes-on grant (λ end is. c.in_default.not-Some end (c.ask.ensures.end ∙ is)) in
     let went : c.ask.new.self ≡ asked mid p request Granted = c.ask.ensures.state ∙ ap (asked mid p request) granted in
-    data-stays place None (λ (v : DiskVolume) (file : DiskFile). 1) c.args.files.now.disks c.fd.new.self c.ask.new.self.disks _ _
+    data-stays place None (λ (v : DiskVolume) (file : DiskFile). 1) c.args.files.now.disks c.size.new.self c.ask.new.self.disks _ _
     (ap (λ (state : FileState). state.disks) went) c.requires.file c.in-Ok.ensures.drive
 
 pub returns-clause-call : goal.returns-clause-call
@@ -104,7 +104,7 @@ returns-clause-call g c m was v file terms tied stands is there =
     let bytes : List ℕ = take count c.args.s.now.buffer.items in
     let long : length bytes ≡ count = length-take-le count c.args.s.now.buffer.items (omega arith) in
     let some : 0 < length bytes = omega (arith, long, c.requires.sends.some) in
-    let mid : FileState = record c.args.files.now { disks = c.fd.new.self } in
+    let mid : FileState = record c.args.files.now { disks = c.size.new.self } in
     let calls : DiskVolume → DiskFile → ℕ = λ v file. 1 in
     let called = called-read c.args.files.now mid _ _ was opened.place v file None calls stands is there c.in-Ok.ensures.drive in
     let read = has-read c.args.files.now mid _ _ was opened.place file None calls stands (file-there was opened.place v file is there) refl refl refl c.in-Ok.ensures.drive in
@@ -117,8 +117,8 @@ returns-clause-call g c m was v file terms tied stands is there =
     let request = c.request_now-request.result in
     let grant = answer_in locks p tick request in
     let same : request_now asker was found (write_claim found code (length bytes)) ≡ request =
-    write-request m was c.args.now c.args.p opened v file code bytes count c.in-Ok.fd.size c.from.result c.range_of.result locks tick request long locks_are tick_is
-    (c.in-Ok.ensures.ok was.volumes v file stands.mounted is there).size_is c.from.ensures c.range_of.ensures c.request_now-request.ensures.request in
+    write-request m was c.args.now c.args.p opened v file code bytes count c.in-Ok.size c.from.result c.range_of.result locks tick request long locks_are tick_is
+    (c.in-Ok.ensures.ok was.volumes v file stands.mounted is there) c.from.ensures c.range_of.ensures c.request_now-request.ensures.request in
     let granted : grant ≡ Granted = goes-on grant (λ end is. c.in_default.not-Some end (c.ask.ensures.end ∙ is)) in
     let went : c.ask.new.self ≡ asked mid p request Granted = c.ask.ensures.state ∙ ap (asked mid p request) granted in
     sending-goes code bytes done m was v file c.args.now p opened is there some _ _ terms mid called stands.drives count long c.write_granted.result

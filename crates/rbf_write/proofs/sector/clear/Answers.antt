@@ -1,8 +1,11 @@
-use Rattle.std.proofs.Common.{◌≡◌, ◌∙◌, take, length, arith}
+use Rattle.std.proofs.Common.{◌≡◌, ◌∙◌, refl, take, length, arith}
 use Rattle.std.proofs.lemmas.List.{length-take-le}
 use Rattle.rbf_write.proofs.LaidBytes.{zeros}
 use Rattle.rbf_write.proofs.LaidSector.{cleared, zeros_front}
 use Rattle.rbf_write.proofs.sector.clear.Goals as goal
+
+pub returns-then-end-first : goal.returns-then-end-first
+returns-then-end-first c = record { whole = refl; zeros = λ q low high. absurd (omega arith); others = λ q far. refl }
 
 pub returns : goal.returns
 returns c =

@@ -22,13 +22,13 @@ returns-then-touch-clause-still g c m is held =
 pub returns-in-Ok-clause-cached : goal.returns-in-Ok-clause-cached
 returns-in-Ok-clause-cached g c =
     let same = c.touch.ensures.absent c.if-touch.false in
-    cached_read _ _ c.touch.new.self c.add.new.self 256 c.args.lsn c.in-Ok.bytes c.in-Ok.ensures.media_kept c.add.ensures c.in-Ok.ensures.bytes
+    cached_read _ _ c.touch.new.self c.add.new.self 256 c.args.lsn c.read_into.new.into c.in-Ok.ensures.media_kept c.add.ensures c.in-Ok.ensures.bytes
     (subst (IsCacheOf _) (sym same) c.requires.cached)
 
 pub returns-in-Ok-clause-used : goal.returns-in-Ok-clause-used
 returns-in-Ok-clause-used g c =
     let same = c.touch.ensures.absent c.if-touch.false in
-    subst (λ old. IsUsed c.args.lsn old c.add.new.self) same (used_kept c.args.lsn c.touch.new.self c.add.new.self c.in-Ok.bytes c.add.ensures)
+    subst (λ old. IsUsed c.args.lsn old c.add.new.self) same (used_kept c.args.lsn c.touch.new.self c.add.new.self c.read_into.new.into c.add.ensures)
 
 pub returns-in-Ok-clause-still : goal.returns-in-Ok-clause-still
 returns-in-Ok-clause-still g c m is held = absurd (false≢true (sym c.if-touch.false ∙ c.touch.ensures.held.1 is))
