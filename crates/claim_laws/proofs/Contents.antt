@@ -24,19 +24,21 @@ use Rattle.file_rules.specs.Locking.{records_after}
 use Rattle.file_rules.specs.Seek.{long_of}
 use Rattle.file_rules.specs.Sharing.{is_open}
 use Rattle.file_rules.specs.Step.{Deed, DoesDeed, FileDoes, FileEffect, FileStep, IsBroken, MayBeLeft, as_io, changes, deed_of, drive_of, leaves_so}
+use Rattle.file_rules.specs.declared.path_call.PathCall.TheVariants as Call
+use Rattle.file_rules.specs.declared.status.TheConstants.{SS_SIZE}
 use Rattle.file_laws.proofs.Named.{is-named}
 use Rattle.file_laws.specs.Kinds.{AreKinds, IsOfKind, IsOnTarget}
-use Rattle.touch_laws.specs.Attempt.{Attempt, HasFault, made_in}
-use Rattle.touch_laws.specs.Claims.{Made}
-use Rattle.touch_laws.specs.Devices.{number_in}
-use Rattle.touch_laws.proofs.Requests.{over-drops}
-use Rattle.claim_laws.specs.Contents.{ChangesWithin, ContentsCome, HasPath, IsCovered, IsPathOn, contents_of}
-use Rattle.touch_laws.specs.Recorded.{IsGranted, path_in, settled}
+use Rattle.file_laws.specs.Attempt.{Attempt, HasFault, made_in}
+use Rattle.file_laws.specs.Claims.{Made}
+use Rattle.file_laws.specs.Devices.{number_in}
+use Rattle.file_laws.proofs.Requests.{over-drops}
+use Rattle.claim_laws.specs.Contents.{ChangesWithin, ContentsCome, HasPath, IsCovered, IsPathOn, WritesBytes, contents_of}
+use Rattle.file_laws.specs.Recorded.{IsGranted, path_in, settled}
 use Rattle.claim_laws.proofs.Answers.{broken-fault}
-use Rattle.touch_laws.proofs.Claimed.{claimed}
+use Rattle.file_laws.proofs.Claimed.{claimed}
 use Rattle.claim_laws.proofs.Covering.{request-covers, request-file}
 use Rattle.claim_laws.proofs.Open.{path-opens}
-use Rattle.touch_laws.proofs.ClaimSteps.{Claimed, IsClaimedChange, IsFolderIn, LeftSo, StepClaimed}
+use Rattle.file_laws.proofs.ClaimSteps.{Claimed, IsClaimedChange, IsFolderIn, LeftSo, StepClaimed}
 use Rattle.claim_laws.proofs.Volumes.{IsThen, Same, attributes-ended, attributes-then, deleted-then, deletion-ended, entered-then, new-file-ended, other-size-ended, other-sized, other-write-ended, other-written, size-ended, size-then, sized-same, write-ended, write-then}
 
 same-place : (a b : FilePlace) → a.drive ≡ b.drive → a.number ≡ b.number → a ≡ b
@@ -104,12 +106,12 @@ module _ (m : Made) (kinds : AreKinds m.files) (covered : IsCovered m) (place : 
       then-come it = ContentsCome.stay (new-contents Same it ∙ it.holds ∙ sym old-contents)
 
       within-come : (request : Request) (bytes : List ℕ) (granted : IsGranted m request) → request.lock.file ≡ place
-          → Has request granted bytes → IsThen (ChangesWithin request.lock.range) v w place.number there-of.file
+          → WritesBytes m granted.requests.found bytes → Has request granted bytes → IsThen (ChangesWithin request.lock.range bytes) v w place.number there-of.file
           → Come volumes
-      within-come request bytes granted file has it =
-          ContentsCome.within request bytes granted file
-          (subst (λ (old : List ℕ). ChangesWithin request.lock.range old (contents_in volumes place)) (sym old-contents)
-          (subst (ChangesWithin request.lock.range there-of.file.contents) (sym (new-contents (ChangesWithin request.lock.range) it)) it.holds)) has
+      within-come request bytes granted file writes has it =
+          ContentsCome.within request bytes granted file writes
+          (subst (λ (old : List ℕ). ChangesWithin request.lock.range bytes old (contents_in volumes place)) (sym old-contents)
+          (subst (ChangesWithin request.lock.range bytes there-of.file.contents) (sym (new-contents (ChangesWithin request.lock.range bytes) it)) it.holds)) has
 
       -- the place of a granted request whose number is this one's
       place-is : (request : Request) (granted : IsGranted m request) → drive ≡ granted.requests.found.place.drive → place.number ≡ granted.requests.found.place.number → request.lock.file ≡ place
@@ -142,21 +144,22 @@ module _ (m : Made) (kinds : AreKinds m.files) (covered : IsCovered m) (place : 
 
       -- a size is another one, which is in the history, or the file has it already
       sized-come : (request : Request) (granted : IsGranted m request) → request.lock.file ≡ place
-          → granted.requests.found.file ≡ there-of.file → request.lock.range.end ≡ None → request.lock.range.start ≤
+          → (m.call ≡ Call.SetStt) × (m.asker.caller.regs.b ≡ SS_SIZE) → granted.requests.found.file ≡ there-of.file
+          → request.lock.range.end ≡ None → request.lock.range.start ≤
           long_of m.asker.caller.regs → SetsSize v w place.number (long_of m.asker.caller.regs) m.asker.now
           → (same : Bool) → (length granted.requests.found.file.contents == long_of m.asker.caller.regs) ≡ same
           → IsAfter (if same then without_lock m.files.records (path_in granted) else written_by m.files.records
           (path_in granted) request.lock []) → Come volumes
-      sized-come request granted file found open_end from it true is after =
+      sized-come request granted file set found open_end from it true is after =
           then-come (sized-same v w place.number there-of.file was-there (long_of m.asker.caller.regs) m.asker.now
           (ap (λ (file : DiskFile). length file.contents) (sym found) ∙ eqb-true (length granted.requests.found.file.contents) (long_of m.asker.caller.regs) is) it)
-      sized-come request granted file found open_end from it false is after =
-          within-come request [] granted file (inl after)
+      sized-come request granted file set found open_end from it false is after =
+          within-come request [] granted file (inr (set.0, set.1, refl)) (inl after)
           (size-then v w place.number there-of.file was-there request.lock.range open_end (long_of m.asker.caller.regs) m.asker.now from it)
 
       made-come : (change : Change) (records : Records) → IsClaimedChange m.call m.asker m.files m.terms drive change
           records → IsAfter records → (n : ℕ) → Makes change m.asker.user m.asker.now v w n → Come volumes
-      made-come change records (IsClaimedChange.by_write request bytes granted on is room recorded) after n makes =
+      made-come change records (IsClaimedChange.by_write request bytes granted sent on is room recorded) after n makes =
           by_number (subst (λ (change : Change). Makes change m.asker.user m.asker.now v w n) is makes)
         where
           has : Has request granted bytes
@@ -165,12 +168,12 @@ module _ (m : Made) (kinds : AreKinds m.files) (covered : IsCovered m) (place : 
           by_number : Makes (Change.writes granted.requests.found.place.number request.lock.range.start bytes) m.asker.user m.asker.now v w n → Come volumes
           by_number it = elim (cases_eq place.number granted.requests.found.place.number) [
             | inl same ↦
-                within-come request bytes granted (place-is request granted on same) has
+                within-come request bytes granted (place-is request granted on same) (inl sent) has
                 (write-then v w place.number there-of.file was-there request.lock.range bytes m.asker.now (room (request-covers m covered request granted.requests))
                 (subst (λ (k : ℕ). Makes (Change.writes k request.lock.range.start bytes) m.asker.user m.asker.now v w n) (sym same) it))
             | inr apart ↦ then-come (other-written v w place.number there-of.file was-there granted.requests.found.place.number request.lock.range.start bytes m.asker.now apart it)
           ]
-      made-come change records (IsClaimedChange.by_size request granted on is room recorded) after n makes =
+      made-come change records (IsClaimedChange.by_size request granted set on is room recorded) after n makes =
           by_number (subst (λ (change : Change). Makes change m.asker.user m.asker.now v w n) is makes)
         where
           by_number : Makes (Change.sizes granted.requests.found.place.number (long_of m.asker.caller.regs)) m.asker.user m.asker.now v w n → Come volumes
@@ -178,7 +181,7 @@ module _ (m : Made) (kinds : AreKinds m.files) (covered : IsCovered m) (place : 
               let (open_end, from) = room (request-covers m covered request granted.requests) in
               elim (cases_eq place.number granted.requests.found.place.number) [
                 | inl same ↦
-                    sized-come request granted (place-is request granted on same) (found-is request granted on same) open_end from
+                    sized-come request granted (place-is request granted on same) set (found-is request granted on same) open_end from
                     (subst (λ (k : ℕ). Makes (Change.sizes k (long_of m.asker.caller.regs)) m.asker.user m.asker.now v w n) (sym same) it)
                     (length granted.requests.found.file.contents == long_of m.asker.caller.regs) refl
                     (after ∙ ap (λ (records : Records). with_waiting records m.asker.caller.process.0 None) recorded)
@@ -205,18 +208,18 @@ module _ (m : Made) (kinds : AreKinds m.files) (covered : IsCovered m) (place : 
       -- ---- ended by a fault
 
       left-come : faulted → (change : Change) (records : Records) → IsClaimedChange m.call m.asker m.files m.terms drive change records → MayLeave change m.asker.user m.asker.now v w → Come volumes
-      left-come broke change records (IsClaimedChange.by_write request bytes granted on is room recorded) left =
+      left-come broke change records (IsClaimedChange.by_write request bytes granted sent on is room recorded) left =
           by_number (subst (λ (change : Change). MayLeave change m.asker.user m.asker.now v w) is left)
         where
           by_number : MayLeave (Change.writes granted.requests.found.place.number request.lock.range.start bytes) m.asker.user m.asker.now v w → Come volumes
           by_number it = elim (cases_eq place.number granted.requests.found.place.number) [
             | inl same ↦
-                within-come request bytes granted (place-is request granted on same) (inr broke)
+                within-come request bytes granted (place-is request granted on same) (inl sent) (inr broke)
                 (write-ended v w place.number there-of.file was-there request.lock.range bytes (room (request-covers m covered request granted.requests))
                 (subst (λ (k : ℕ). MayLeave (Change.writes k request.lock.range.start bytes) m.asker.user m.asker.now v w) (sym same) it))
             | inr apart ↦ then-come (other-write-ended v w place.number there-of.file was-there granted.requests.found.place.number request.lock.range.start bytes apart it)
           ]
-      left-come broke change records (IsClaimedChange.by_size request granted on is room recorded) left =
+      left-come broke change records (IsClaimedChange.by_size request granted set on is room recorded) left =
           by_number (subst (λ (change : Change). MayLeave change m.asker.user m.asker.now v w) is left)
         where
           by_number : MayLeave (Change.sizes granted.requests.found.place.number (long_of m.asker.caller.regs)) m.asker.user m.asker.now v w → Come volumes
@@ -224,7 +227,7 @@ module _ (m : Made) (kinds : AreKinds m.files) (covered : IsCovered m) (place : 
               let (open_end, from) = room (request-covers m covered request granted.requests) in
               elim (cases_eq place.number granted.requests.found.place.number) [
                 | inl same ↦
-                    within-come request [] granted (place-is request granted on same) (inr broke)
+                    within-come request [] granted (place-is request granted on same) (inr (set.0, set.1, refl)) (inr broke)
                     (size-ended v w place.number there-of.file was-there request.lock.range open_end image (long_of m.asker.caller.regs) m.asker.now from
                     (subst (λ (k : ℕ). SizeEnds image v w k (long_of m.asker.caller.regs) m.asker.now) (sym same) it))
                 | inr apart ↦ then-come (other-size-ended v w place.number there-of.file was-there image granted.requests.found.place.number (long_of m.asker.caller.regs) m.asker.now apart it)
@@ -267,8 +270,8 @@ module _ (it : Attempt) (place : FilePlace) (kinds : AreKinds it.files) (covered
 
   left-same : (effect : FileEffect) → LeftSo it.call m.asker it.files m.terms effect → Comes effect
   left-same effect (LeftSo.still so) = same-left effect so.volumes
-  left-same effect (LeftSo.held request kind bytes granted fits done recorded) = same-left effect done.volumes
-  left-same effect (LeftSo.ended found names done recorded) = same-left effect done.volumes
+  left-same effect (LeftSo.held request kind bytes granted taken done recorded) = same-left effect done.volumes
+  left-same effect (LeftSo.ended found names ends done recorded) = same-left effect done.volumes
   left-same effect (LeftSo.waited request requests answer is) =
       same-left effect (ap (λ (it : FileEffect). it.files.volumes) is)
   left-same effect (LeftSo.opposed request requests (inl (answer, is))) =

@@ -18,8 +18,8 @@ use Rattle.file_rules.specs.declared.claim.Claim.{Claim}
 use Rattle.file_rules.specs.declared.path_call.PathCall.{PathCall}
 use Rattle.file_rules.specs.declared.path_call.PathCall.TheVariants as Call
 use Rattle.file_rules.specs.declared.status.TheConstants.{SS_LOCK, SS_SIZE}
-use Rattle.touch_laws.proofs.Lengths.{user-length}
-use Rattle.touch_laws.specs.Claims.{Claims, CoversCall, Made, Requests, read_call}
+use Rattle.file_laws.proofs.Lengths.{user-length}
+use Rattle.file_laws.specs.Claims.{Claims, CoversCall, Made, Requests, read_call}
 use Rattle.claim_laws.specs.Contents.{IsCovered}
 
 -- a number of bytes from a position on are in their range

@@ -11,10 +11,10 @@ use Rattle.lock_model.specs.declared.lock.Request.{Request}
 use Rattle.lock_model.specs.declared.lock.TheConstants.{LOCK_PROCESSES}
 use Rattle.lock_model.proofs.Chains.{some-opposer}
 use Rattle.lock_model.proofs.Longest.{of-closes}
-use Rattle.touch_laws.specs.Attempt.{Attempt, made_in}
+use Rattle.file_laws.specs.Attempt.{Attempt, made_in}
 use Rattle.claim_laws.specs.Answered.{IsAnsweredSo}
-use Rattle.touch_laws.specs.Claims.{ClosesCycle}
-use Rattle.touch_laws.proofs.LockCauses.{at-first, closes-cycle}
+use Rattle.file_laws.specs.Claims.{ClosesCycle}
+use Rattle.file_laws.proofs.LockCauses.{at-first, closes-cycle}
 
 -- ---- a first answer
 

@@ -1,5 +1,5 @@
 -- What a change of a volume makes of the contents of a file that a path is on, done or ended by a fault.
-use Rattle.std.proofs.Common.{◌≡◌, ◌≢◌, ℕ, ◌<◌, ◌≤◌, ◌==◌, Bool, true, false, Option, Some, None, List, length, refl, sym, ap, ◌∙◌, subst, inl, inr, arith}
+use Rattle.std.proofs.Common.{◌≡◌, ◌≢◌, ℕ, ◌<◌, ◌≤◌, ◌==◌, Bool, true, false, Option, Some, None, List, [], length, refl, sym, ap, ◌∙◌, subst, inl, inr, arith}
 use Rattle.std.specs.Prelude.{if◌then◌else◌}
 use Rattle.std.proofs.lemmas.Bool.{cases_eq, eq-eqb, eqb-true, false≢true}
 use Rattle.std.proofs.lemmas.Option.{same_Some}
@@ -72,47 +72,47 @@ lost-then fact v u w n file clusters lose it = record {
 -- ---- the file that is changed
 
 module _ (v w : DiskVolume) (n : ℕ) (file : DiskFile) (there : v.files n ≡ Some file) (range : Range) where
-  abbrev Within : List ℕ → List ℕ → Type 0
-  Within = ChangesWithin range
+  abbrev Within : List ℕ → List ℕ → List ℕ → Type 0
+  Within bytes = ChangesWithin range bytes
 
-  pub write-then : (bytes : List ℕ) (now : TimePacket) → Covers range (length bytes) → Writes v w n range.start bytes now → IsThen Within v w n file
+  pub write-then : (bytes : List ℕ) (now : TimePacket) → Covers range (length bytes) → Writes v w n range.start bytes now → IsThen (Within bytes) v w n file
   write-then bytes now covers it =
-      subst (λ (w : DiskVolume). IsThen Within v w n file) (sym it.volume)
-      (replaced-then Within v n n it.old it.new file it.is there refl
-      (subst (λ (new : DiskFile). Within it.old.contents new.contents) (sym it.changed.file) (written-within range it.old.contents bytes covers)))
+      subst (λ (w : DiskVolume). IsThen (Within bytes) v w n file) (sym it.volume)
+      (replaced-then (Within bytes) v n n it.old it.new file it.is there refl
+      (subst (λ (new : DiskFile). Within bytes it.old.contents new.contents) (sym it.changed.file) (written-within range it.old.contents bytes covers)))
 
   sized-within : range.end ≡ None → (size : ℕ) (now : TimePacket) → range.start ≤ size → (old new : DiskFile)
-      → SizesFile (cluster_size v) (is_free_in v) n size now old new → Within old.contents new.contents
-  sized-within open_end size now from old _ (stays same) = same-within range old.contents old.contents refl
+      → SizesFile (cluster_size v) (is_free_in v) n size now old new → Within [] old.contents new.contents
+  sized-within open_end size now from old _ (stays same) = same-within range [] old.contents old.contents refl
   sized-within open_end size now from old new (lengthens less it) =
-      subst (λ (new : DiskFile). Within old.contents new.contents) (sym it.file) (resized-within range open_end old.contents size from (omega (arith, less)))
+      subst (λ (new : DiskFile). Within [] old.contents new.contents) (sym it.file) (resized-within range open_end old.contents size from (omega (arith, less)))
   sized-within open_end size now from old _ (cuts more) = cut-within range open_end old.contents size from (omega (arith, more))
 
-  pub size-then : range.end ≡ None → (size : ℕ) (now : TimePacket) → range.start ≤ size → SetsSize v w n size now → IsThen Within v w n file
+  pub size-then : range.end ≡ None → (size : ℕ) (now : TimePacket) → range.start ≤ size → SetsSize v w n size now → IsThen (Within []) v w n file
   size-then open_end size now from it =
-      subst (λ (w : DiskVolume). IsThen Within v w n file) (sym it.volume)
-      (replaced-then Within v n n it.old it.new file it.is there refl (sized-within open_end size now from it.old it.new it.changed))
+      subst (λ (w : DiskVolume). IsThen (Within []) v w n file) (sym it.volume)
+      (replaced-then (Within []) v n n it.old it.new file it.is there refl (sized-within open_end size now from it.old it.new it.changed))
 
-  pub write-ended : (bytes : List ℕ) → Covers range (length bytes) → WriteEnds v w n range.start bytes → IsThen Within v w n file
+  pub write-ended : (bytes : List ℕ) → Covers range (length bytes) → WriteEnds v w n range.start bytes → IsThen (Within bytes) v w n file
   write-ended bytes covers it =
-      lost-then Within v (replaced v n (Some (with_front it.old range.start bytes it.count))) w n file _ it.volume
-      (replaced-then Within v n n it.old (with_front it.old range.start bytes it.count) file it.is there refl (front-within range it.old.contents bytes it.count covers it.front))
+      lost-then (Within bytes) v (replaced v n (Some (with_front it.old range.start bytes it.count))) w n file _ it.volume
+      (replaced-then (Within bytes) v n n it.old (with_front it.old range.start bytes it.count) file it.is there refl (front-within range it.old.contents bytes it.count covers it.front))
 
-  stays-then : w ≡ v → IsThen Within v w n file
+  stays-then : w ≡ v → IsThen (Within []) v w n file
   stays-then same = record {
     new = file;
     there = ap (λ (u : DiskVolume). u.files n) same ∙ there;
-    holds = same-within range file.contents file.contents refl;
+    holds = same-within range [] file.contents file.contents refl;
   }
 
-  pub size-ended : range.end ≡ None → (image : List ℕ) (size : ℕ) (now : TimePacket) → range.start ≤ size → SizeEnds image v w n size now → IsThen Within v w n file
+  pub size-ended : range.end ≡ None → (image : List ℕ) (size : ℕ) (now : TimePacket) → range.start ≤ size → SizeEnds image v w n size now → IsThen (Within []) v w n file
   size-ended open_end image size now from (before same) = stays-then same
   size-ended open_end image size now from (longer it) =
-      lost-then Within v v w n file _ it.volume (record { new = file; there = there; holds = same-within range file.contents file.contents refl })
+      lost-then (Within []) v v w n file _ it.volume (record { new = file; there = there; holds = same-within range [] file.contents file.contents refl })
   size-ended open_end image size now from (cut it) =
-      lost-then Within v (replaced v n (Some it.new)) w n file _ it.volume
-      (replaced-then Within v n n it.old it.new file it.is there refl
-      (subst (λ (new : DiskFile). Within it.old.contents new.contents) (sym it.cut) (cut-within range open_end it.old.contents size from (omega (arith, it.shorter)))))
+      lost-then (Within []) v (replaced v n (Some it.new)) w n file _ it.volume
+      (replaced-then (Within []) v n n it.old it.new file it.is there refl
+      (subst (λ (new : DiskFile). Within [] it.old.contents new.contents) (sym it.cut) (cut-within range open_end it.old.contents size from (omega (arith, it.shorter)))))
 
 -- ---- files that are not changed
 

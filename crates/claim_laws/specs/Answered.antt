@@ -6,8 +6,8 @@ use Rattle.io_rules.specs.Step.{IoStep}
 use Rattle.file_rules.specs.Attempts.{file_step}
 use Rattle.file_rules.specs.Locking.{answer_to}
 use Rattle.file_rules.specs.Step.{as_io, deed_of}
-use Rattle.touch_laws.specs.Attempt.{Attempt, asker_in, made_in}
-use Rattle.touch_laws.specs.Claims.{Requests}
+use Rattle.file_laws.specs.Attempt.{Attempt, asker_in, made_in}
+use Rattle.file_laws.specs.Claims.{Requests}
 
 -- an attempt makes a request, which gets this answer
 pub record IsAnsweredSo (grant : Grant) (it : Attempt) : Type 0 where

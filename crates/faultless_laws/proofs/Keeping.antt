@@ -18,9 +18,9 @@ use Rattle.file_rules.specs.Step.{Deed, DoesDeed, FileDoes, FileEffect, MayBeLef
 use Rattle.file_rules.specs.declared.path_call.PathCall.{PathCall}
 use Rattle.file_laws.specs.Kinds.{AreKinds}
 use Rattle.file_laws.proofs.Kept.{volume-new, volume-other}
-use Rattle.touch_laws.proofs.Attempts.{step-splits}
-use Rattle.touch_laws.proofs.Loads.{chain-leaves, fork-leaves, load-leaves}
-use Rattle.touch_laws.proofs.Splits.{Splits}
+use Rattle.file_laws.proofs.TouchAttempts.{step-splits}
+use Rattle.file_laws.proofs.Loads.{chain-leaves, fork-leaves, load-leaves}
+use Rattle.file_laws.proofs.Splits.{Splits}
 use Rattle.event_rules.specs.Event.{next_instruction}
 use Rattle.event_rules.specs.declared.ends.EventEnd.{EventEnd}
 use Rattle.machine_model.specs.Event.{Acts, Event, before_delivery, files_after_delivery, files_after_instruction}

@@ -28,7 +28,7 @@ use Rattle.file_rules.specs.declared.path_call.PathCall.TheVariants as Call
 use Rattle.lock_model.specs.declared.place.FilePlace.{FilePlace}
 use Rattle.file_laws.specs.Kinds.{AreKinds}
 use Rattle.file_laws.proofs.Steps.{IsFound, needs-by, refuses-by}
-use Rattle.touch_laws.proofs.Splits.{list-by}
+use Rattle.file_laws.proofs.Splits.{list-by}
 use Rattle.call_laws.specs.Terminals.{AreOnTerminals}
 use Rattle.call_laws.proofs.StepWalk.{step-gives}
 use Rattle.run_laws.specs.Mounted.{AreMounted}

@@ -48,9 +48,9 @@ use Rattle.lock_model.specs.declared.place.FilePlace.{FilePlace}
 use Rattle.file_rules.specs.declared.status.TheConstants.{SS_ATTR, SS_LOCK, SS_SIZE, SS_TICKS}
 use Rattle.file_laws.proofs.Opening.{of-not}
 use Rattle.file_laws.proofs.Steps.{IsFound, list-by, needs-by, refuses-by}
-use Rattle.touch_laws.specs.Touch.{may_change_volume}
-use Rattle.touch_laws.proofs.Attempts.{step-splits}
-use Rattle.touch_laws.proofs.Splits.{Splits}
+use Rattle.file_laws.specs.Touch.{may_change_volume}
+use Rattle.file_laws.proofs.TouchAttempts.{step-splits}
+use Rattle.file_laws.proofs.Splits.{Splits}
 use Rattle.faultless_laws.specs.InOrder.{DeletesNoDirectory}
 
 -- a file that may be deleted is not a directory

@@ -1,5 +1,7 @@
-//! Laws of the calls on files: what paths and directories of processes are on, and which drives
-//! have a volume, at the start and after every attempt.
+//! Laws of an attempt of a call on paths, files and directories: what paths and directories of
+//! processes are on and which drives have a volume, at the start and after it; and what it touches of
+//! terminals, pipes, paths, pending calls, volumes and record locks.
 #![tactic(auto)]
 
-pub mod laws;
+pub mod places;
+pub mod touches;

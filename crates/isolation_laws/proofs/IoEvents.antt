@@ -40,13 +40,13 @@ use Rattle.call_laws.proofs.IoKept.{EffectLeft, FailsOn}
 use Rattle.call_laws.proofs.OthersLeft.{attempt-leaves, effect-left, left-leaves}
 use Rattle.call_laws.proofs.OthersKept.{free-is, living-record}
 use Rattle.call_laws.proofs.PathsKept.{IoLeft, PathsLeft, io-call, io-ended, io-interrupted, io-same, left-numbers}
-use Rattle.touch_laws.specs.Devices.{IsOnDevice, number_in}
-use Rattle.touch_laws.specs.Touch.{ChangesPath, IsSamePath, KeepsIo, LeavesDevices, PathsMove, WaitsForRecord}
+use Rattle.file_laws.specs.Devices.{IsOnDevice, number_in}
+use Rattle.file_laws.specs.Touch.{ChangesPath, IsSamePath, KeepsIo, LeavesDevices, PathsMove, WaitsForRecord}
 use Rattle.file_rules.specs.Locking.{call_of}
-use Rattle.touch_laws.proofs.Attempts.{attempt-comes}
-use Rattle.touch_laws.proofs.Codes.{code-there}
-use Rattle.touch_laws.proofs.Keeps.{IsNamed, file-named, free-desc, io-kept}
-use Rattle.touch_laws.proofs.Loads.{chain-leaves, fork-leaves, load-leaves}
+use Rattle.file_laws.proofs.TouchAttempts.{attempt-comes}
+use Rattle.file_laws.proofs.Codes.{code-there}
+use Rattle.file_laws.proofs.Keeps.{IsNamed, file-named, free-desc, io-kept}
+use Rattle.file_laws.proofs.Loads.{chain-leaves, fork-leaves, load-leaves}
 use Rattle.machine_model.specs.Event.{Acts, Event, before_delivery, files_after_delivery, files_after_instruction}
 use Rattle.machine_model.specs.Services.{Serves, Service, files_after_call, files_after_fork, loads, no_call, on_paths, on_processes, on_time, service_of, with_files}
 use Rattle.machine_model.specs.State.{Rest, State, with_rest}

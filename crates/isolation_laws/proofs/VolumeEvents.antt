@@ -38,10 +38,10 @@ use Rattle.event_rules.specs.Event.{next_instruction}
 use Rattle.event_rules.specs.declared.ends.EventEnd.{EventEnd}
 use Rattle.call_laws.specs.Others.{AttemptsCall}
 use Rattle.call_laws.proofs.ForkedChildren.{NamesChild}
-use Rattle.touch_laws.specs.Devices.{IsOnDevice}
-use Rattle.touch_laws.specs.Touch.{FaultAnswers, LeavesDevices, LeavesFiles, NoVolumeChanges, OneDriveFails, OneVolumeChanges, WaitsForRecord, may_change_volume}
-use Rattle.touch_laws.proofs.Attempts.{attempt-comes}
-use Rattle.touch_laws.proofs.Loads.{chain-leaves, fork-leaves, load-leaves}
+use Rattle.file_laws.specs.Devices.{IsOnDevice}
+use Rattle.file_laws.specs.Touch.{FaultAnswers, LeavesDevices, LeavesFiles, NoVolumeChanges, OneDriveFails, OneVolumeChanges, WaitsForRecord, may_change_volume}
+use Rattle.file_laws.proofs.TouchAttempts.{attempt-comes}
+use Rattle.file_laws.proofs.Loads.{chain-leaves, fork-leaves, load-leaves}
 use Rattle.machine_model.specs.Event.{Acts, Event, before_delivery, files_after_delivery, files_after_instruction}
 use Rattle.machine_model.specs.Services.{Serves, Service, files_after_call, files_after_fork, loads, no_call, on_paths, on_processes, on_time, service_of, with_files}
 use Rattle.machine_model.specs.State.{Rest, State, with_rest}

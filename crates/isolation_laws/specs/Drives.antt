@@ -10,7 +10,7 @@ use Rattle.file_rules.specs.Program.{named_program, tests_program}
 use Rattle.file_rules.specs.ProgramFile.{program_file}
 use Rattle.file_rules.specs.Step.{drive_of}
 use Rattle.time_rules.specs.Clock.{IsNow}
-use Rattle.touch_laws.specs.Touch.{drive_reached}
+use Rattle.file_laws.specs.Touch.{drive_reached}
 use Rattle.machine_model.specs.Services.{Service, loads, no_call, on_paths, on_processes, on_time, service_of}
 use Rattle.machine_model.specs.State.{State}
 

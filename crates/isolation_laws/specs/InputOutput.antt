@@ -18,8 +18,8 @@ use Rattle.file_rules.specs.Files.{OpenFile, open_file}
 use Rattle.file_rules.specs.declared.path_call.PathCall.{PathCall}
 use Rattle.call_laws.specs.Terminals.{KeepsReading}
 use Rattle.call_laws.specs.Others.{AttemptsCall}
-use Rattle.touch_laws.specs.Devices.{IsDevice, number_in}
-use Rattle.touch_laws.specs.Touch.{ChangesPath, IsSamePath}
+use Rattle.file_laws.specs.Devices.{IsDevice, number_in}
+use Rattle.file_laws.specs.Touch.{ChangesPath, IsSamePath}
 use Rattle.isolation_laws.specs.Drives.{AttemptsService}
 use Rattle.machine_model.specs.Services.{on_paths}
 use Rattle.machine_model.specs.State.{State}

@@ -10,7 +10,7 @@ use Rattle.file_rules.specs.declared.places.Directories.{Directories}
 use Rattle.call_laws.specs.Others.{AttemptsCall}
 use Rattle.time_rules.specs.Codes.{time_call_of}
 use Rattle.time_rules.specs.declared.time_call.TimeCall.TheVariants as Time
-use Rattle.touch_laws.specs.Touch.{may_change_volume}
+use Rattle.file_laws.specs.Touch.{may_change_volume}
 use Rattle.isolation_laws.specs.Drives.{Reaches}
 use Rattle.machine_model.specs.Services.{Service, on_paths}
 use Rattle.machine_model.specs.State.{State}

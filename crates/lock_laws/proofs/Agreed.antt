@@ -31,10 +31,10 @@ use Rattle.file_rules.specs.declared.path_call.PathCall.{PathCall}
 use Rattle.file_rules.specs.declared.path_call.PathCall.TheVariants as Path
 use Rattle.io_model.specs.declared.terminal.ReadKind.{ReadKind}
 use Rattle.io_model.specs.declared.terminal.ReadKind.TheVariants.{Bytes, WholeLine}
-use Rattle.touch_laws.specs.Attempt.{Attempt, made_in}
-use Rattle.touch_laws.specs.Touch.{LeavesFiles}
-use Rattle.touch_laws.proofs.Codes.{code-there}
-use Rattle.touch_laws.proofs.Loads.{chain-leaves, fork-leaves, load-leaves}
+use Rattle.file_laws.specs.Attempt.{Attempt, made_in}
+use Rattle.file_laws.specs.Touch.{LeavesFiles}
+use Rattle.file_laws.proofs.Codes.{code-there}
+use Rattle.file_laws.proofs.Loads.{chain-leaves, fork-leaves, load-leaves}
 use Rattle.event_rules.specs.Event.{next_instruction}
 use Rattle.event_rules.specs.declared.ends.EventEnd.{EventEnd}
 use Rattle.machine_model.specs.Event.{Acts, Event, before_delivery, files_after_delivery, files_after_instruction}
@@ -44,8 +44,8 @@ use Rattle.machine_model.specs.Start.{Boot, Starts}
 use Rattle.machine_model.specs.State.{Rest, State}
 use Rattle.isolation_laws.proofs.Asked.{Asks, asks}
 use Rattle.wait_laws.specs.Running.{IsRunning}
-use Rattle.touch_laws.specs.Claims.{Claims, CoversCall, Made, Requests, read_call}
-use Rattle.touch_laws.proofs.Claimed.{records-come}
+use Rattle.file_laws.specs.Claims.{Claims, CoversCall, Made, Requests, read_call}
+use Rattle.file_laws.proofs.Claimed.{records-come}
 use Rattle.claim_laws.proofs.Covering.{range-covers}
 use Rattle.lock_laws.specs.Locked.{AreAgreed}
 use Rattle.lock_laws.proofs.Changes.{CoversLine, come-agreed}

@@ -45,11 +45,11 @@ use Rattle.time_rules.specs.declared.time_call.TimeCall.TheVariants as Time
 use Rattle.call_laws.specs.Others.{ComesOf}
 use Rattle.call_laws.proofs.Codes.{attempts-code}
 use Rattle.call_laws.proofs.OthersKept.{living-record, living-within}
-use Rattle.touch_laws.specs.Attempt.{Attempt, OnDevice, TouchesNone, WaitsOnRecord}
-use Rattle.touch_laws.specs.Claims.{CoversCall}
-use Rattle.touch_laws.specs.Touch.{WaitsForRecord}
-use Rattle.touch_laws.proofs.Loads.{chain-leaves, fork-leaves, load-leaves}
-use Rattle.touch_laws.proofs.OfAttempts.{comes-of}
+use Rattle.file_laws.specs.Attempt.{Attempt, OnDevice, TouchesNone, WaitsOnRecord}
+use Rattle.file_laws.specs.Claims.{CoversCall}
+use Rattle.file_laws.specs.Touch.{WaitsForRecord}
+use Rattle.file_laws.proofs.Loads.{chain-leaves, fork-leaves, load-leaves}
+use Rattle.file_laws.proofs.OfAttempts.{comes-of}
 use Rattle.event_rules.specs.Event.{next_instruction}
 use Rattle.event_rules.specs.declared.ends.EventEnd.{EventEnd}
 use Rattle.machine_model.specs.Event.{Acts, Event, before_delivery, files_after_delivery, files_after_instruction}

@@ -1,10 +1,10 @@
 -- What an attempt makes of the records keeps their agreement.
 use Rattle.std.proofs.Common.{◌≡◌, ◌⊎◌, ℕ, ◌+◌, ◌<◌, ◌≤◌, not, Bool, true, false, Option, Some, None, List, length, refl, sym, ap, ◌∙◌, subst, inl, inr, arith}
-use Rattle.std.specs.Prelude.{is_none, unwrap_or, if◌then◌else◌}
+use Rattle.std.specs.Prelude.{drop, is_none, min, unwrap_or, if◌then◌else◌}
 use Rattle.std.proofs.lemmas.Bool.{cases_lt}
-use Rattle.std.proofs.lemmas.List.{get_or_past, set-get_or}
+use Rattle.std.proofs.lemmas.List.{get_or_past, length-take, set-get_or}
 use Rattle.std.proofs.lemmas.Option.{none-some}
-use Rattle.io_model.specs.Line.{has_return}
+use Rattle.io_model.specs.Line.{has_return, line_length}
 use Rattle.io_model.specs.Path.{desc_of}
 use Rattle.io_model.specs.declared.terminal.ReadKind.{ReadKind}
 use Rattle.io_model.specs.declared.terminal.ReadKind.TheVariants.{Bytes, WholeLine}
@@ -21,13 +21,15 @@ use Rattle.lock_model.proofs.Agreeing.{records-forgotten, records-held, records-
 use Rattle.lock_model.proofs.Keeping.{may-hold, part-held}
 use Rattle.file_rules.specs.Files.{OpenFile, open_file}
 use Rattle.file_rules.specs.Locking.{answer_in, first_request, request_kept}
-use Rattle.file_rules.specs.Read.{lock_by}
+use Rattle.file_rules.specs.Read.{bytes_at, lock_by}
 use Rattle.file_laws.proofs.Named.{opened-desc}
+use Rattle.rbf_change.specs.Contents.{bytes_from}
+use Rattle.file_rules.specs.declared.path_call.PathCall.{PathCall}
 use Rattle.file_rules.specs.declared.path_call.PathCall.TheVariants as Call
-use Rattle.touch_laws.specs.Devices.{number_in}
-use Rattle.touch_laws.proofs.Requests.{emptied-at}
-use Rattle.touch_laws.specs.Claims.{CoversCall, Made, Requests}
-use Rattle.touch_laws.specs.Recorded.{FitsLine, IsGranted, RecordsCome, path_in, settled}
+use Rattle.file_laws.specs.Devices.{number_in}
+use Rattle.file_laws.proofs.Requests.{emptied-at}
+use Rattle.file_laws.specs.Claims.{CoversCall, Made, Requests}
+use Rattle.file_laws.specs.Recorded.{IsGranted, IsTaken, RecordsCome, path_in, settled}
 
 -- ---- what answers say
 
@@ -84,6 +86,21 @@ line-held locks lock bytes covers may = by_return (has_return bytes)
     by_return true = part-held locks lock (lock.range.start + length bytes) covers may
     by_return false = may
 
+line-bytes : WholeLine ≡ Bytes → ⊥
+line-bytes is = cc
+
+-- a line that was read fits in the range requested if that covers the call
+line-fits : (m : Made) (found : OpenFile) (request : Request) (bytes : List ℕ)
+    → bytes ≡ bytes_at WholeLine m.asker found request.lock.range.start → Covers request.lock.range m.asker.caller.regs.y
+    → Covers request.lock.range (length bytes)
+line-fits m found request bytes is covers last end =
+    let count : ℕ = m.asker.caller.regs.y in
+    let start : ℕ = request.lock.range.start in
+    let front : List ℕ = bytes_from found.file.contents start count in
+    let long : length bytes ≡ min (line_length front) (length front) = ap (length {A = ℕ}) is ∙ length-take (line_length front) front in
+    let most : length front ≡ min count (length (drop start found.file.contents)) = length-take count (drop start found.file.contents) in
+    omega (arith, long, most, covers last end)
+
 -- the request of a line read covers the call
 abbrev pub CoversLine : Made → Type 0
 CoversLine m = m.call ≡ Call.ReadLn → (request : Request) → Requests m request → CoversCall m.call m.asker.caller.regs request
@@ -127,12 +144,16 @@ module _ (m : Made) (agreed : AreRecords m.files.records) (places : length m.fil
       (ap (request_of (settled m).locks) (owner-is request it.requests) ∙ emptied-at locks.requests p)
       (granted-free locks p m.asker.tick request (request_of locks p) it.answer)
 
-  lock-may : (request : Request) (it : IsGranted m request) (kind : ReadKind) (bytes : List ℕ) → FitsLine m request
-      kind bytes → CoversLine m → MayHold (settled m).locks (lock_by kind request.lock bytes)
-  lock-may request it Bytes bytes fits covers = granted-may request it
-  lock-may request it WholeLine bytes fits covers =
-      let (call, few) = fits refl in
-      line-held (settled m).locks request.lock bytes (few (covers call request it.requests)) (granted-may request it)
+  lock-may : (request : Request) (it : IsGranted m request) (kind : ReadKind) (bytes : List ℕ)
+      → IsTaken m it.requests.found request kind bytes → CoversLine m
+      → MayHold (settled m).locks (lock_by kind request.lock bytes)
+  lock-may request it Bytes bytes taken covers = granted-may request it
+  lock-may request it WholeLine bytes (IsTaken.by_read call is) covers =
+      line-held (settled m).locks request.lock bytes
+      (line-fits m it.requests.found request bytes is
+      (subst (λ (call : PathCall). CoversCall call m.asker.caller.regs request) call (covers call request it.requests)))
+      (granted-may request it)
+  lock-may request it WholeLine bytes (IsTaken.by_lock call code kind none) covers = absurd (line-bytes kind)
 
   -- a process that waits on keeps its request
   waits-agreed : (request : Request) → Requests m request → answer_in locks p m.asker.tick request ≡ Wait → AreRecords (with_waiting m.files.records request.lock.owner.0 (Some request))
@@ -158,14 +179,14 @@ module _ (m : Made) (agreed : AreRecords m.files.records) (places : length m.fil
 
   pub come-agreed : CoversLine m → (now : Records) → RecordsCome m now → AreRecords now
   come-agreed covers now (RecordsCome.stay is) = subst AreRecords (sym is) settled-agreed
-  come-agreed covers now (RecordsCome.holds request kind bytes it fits is) =
+  come-agreed covers now (RecordsCome.holds request kind bytes it taken is) =
       subst AreRecords (sym is) (records-held (settled m) (path_in it) (lock_by kind request.lock bytes) bytes
-      (path-low it.requests.found it.requests.names) (lock-may request it kind bytes fits covers) settled-agreed)
-  come-agreed covers now (RecordsCome.writes request bytes it is) =
+      (path-low it.requests.found it.requests.names) (lock-may request it kind bytes taken covers) settled-agreed)
+  come-agreed covers now (RecordsCome.writes request bytes it sent is) =
       subst AreRecords (sym is) (records-written (settled m) (path_in it) request.lock bytes
       (path-low it.requests.found it.requests.names) (granted-free locks p m.asker.tick request
       (request_of locks p) it.answer) settled-agreed)
-  come-agreed covers now (RecordsCome.ends found names is) =
+  come-agreed covers now (RecordsCome.ends found names ends is) =
       subst AreRecords (sym is) (records-without (settled m) found.opened.path.0 settled-agreed)
   come-agreed covers now (RecordsCome.waits request requests answer is) =
       subst AreRecords (sym is) (waits-agreed request requests answer)

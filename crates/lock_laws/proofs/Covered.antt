@@ -21,12 +21,12 @@ use Rattle.file_rules.specs.Locking.{first_request, request_kept}
 use Rattle.file_rules.specs.declared.path_call.PathCall.{PathCall}
 use Rattle.file_rules.specs.declared.path_call.PathCall.TheVariants as Call
 use Rattle.file_laws.proofs.Named.{is-named, opened-desc}
-use Rattle.touch_laws.specs.Devices.{device_call, number_in}
-use Rattle.touch_laws.proofs.Codes.{code-there}
-use Rattle.touch_laws.proofs.Keeps.{file-slot}
+use Rattle.file_laws.specs.Devices.{device_call, number_in}
+use Rattle.file_laws.proofs.Codes.{code-there}
+use Rattle.file_laws.proofs.Keeps.{file-slot}
 use Rattle.wait_laws.specs.Running.{IsRunning}
 use Rattle.machine_model.specs.State.{State}
-use Rattle.touch_laws.specs.Claims.{CoversCall, Made, Names, Requests}
+use Rattle.file_laws.specs.Claims.{CoversCall, Made, Names, Requests}
 use Rattle.claim_laws.specs.Contents.{IsCovered}
 use Rattle.lock_laws.specs.Locked.{AreOnFiles}
 

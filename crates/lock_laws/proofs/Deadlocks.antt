@@ -23,9 +23,9 @@ use Rattle.file_rules.specs.Seek.{seeks_nothing}
 use Rattle.file_rules.specs.Step.{Deed, DoesDeed, FileDoes, FileEffect, FileStep, as_io, deed_of, drive_of}
 use Rattle.file_rules.specs.declared.path_call.PathCall.{PathCall}
 use Rattle.time_rules.specs.Clock.{seconds_since}
-use Rattle.touch_laws.specs.Attempt.{Attempt, HasFault, asker_in, made_in}
-use Rattle.touch_laws.proofs.Attempts.{ends-refused}
-use Rattle.touch_laws.proofs.Splits.{IsDeviceStep, not-refused}
+use Rattle.file_laws.specs.Attempt.{Attempt, HasFault, asker_in, made_in}
+use Rattle.file_laws.proofs.TouchAttempts.{ends-refused}
+use Rattle.file_laws.proofs.Splits.{IsDeviceStep, not-refused}
 use Rattle.event_rules.specs.declared.ends.EventEnd.{EventEnd}
 use Rattle.machine_model.specs.Event.{Acts, Event}
 use Rattle.machine_model.specs.Services.{Attempts, Serves, Service, on_paths, service_of}
@@ -34,12 +34,12 @@ use Rattle.refusal_laws.specs.Causes.{StatedCause, bad_address, bad_mode, bad_pa
 use Rattle.refusal_laws.specs.RefusedEvents.{IsRefused}
 use Rattle.refusal_laws.proofs.Refusing.{Comes, refusal}
 use Rattle.claim_laws.specs.Answered.{DoesAsDevice, IsAnsweredSo}
-use Rattle.touch_laws.specs.Claims.{ClosesCycle, IsLockedOut, Made}
+use Rattle.file_laws.specs.Claims.{ClosesCycle, IsLockedOut, Made}
 use Rattle.claim_laws.proofs.Answers.{deadlock-only, deadlock-refuses, fault-number, lock-only}
-use Rattle.touch_laws.proofs.Claimed.{claimed}
+use Rattle.file_laws.proofs.Claimed.{claimed}
 use Rattle.claim_laws.proofs.Cycles.{answered-so, closes-so}
-use Rattle.touch_laws.proofs.ClaimSteps.{Claimed, is_of_lock}
-use Rattle.touch_laws.proofs.LockCauses.{locked-out}
+use Rattle.file_laws.proofs.ClaimSteps.{Claimed, is_of_lock}
+use Rattle.file_laws.proofs.LockCauses.{locked-out}
 use Rattle.lock_laws.specs.Cycles.{AttemptsSo, ClosesCycleIn, IsFaulted, IsLockedOutIn}
 use Rattle.lock_laws.specs.Locked.{IsAgreed}
 use Rattle.lock_laws.proofs.LockedOut.{locked-refuses}

@@ -35,7 +35,7 @@ use Rattle.io_rules.specs.declared.io_call.IoCall.{IoCall}
 use Rattle.io_rules.specs.declared.io_call.IoCall.TheVariants as Call
 use Rattle.io_rules.specs.declared.modes.TheConstants.{STANDARD_ERROR}
 use Rattle.io_rules.specs.declared.status.TheConstants.{OPTION_BYTES, SS_EOF, SS_OPT, SS_READY}
-use Rattle.touch_laws.proofs.Keeps.{DescStays, free-desc}
+use Rattle.file_laws.proofs.Keeps.{DescStays, free-desc}
 
 -- each descriptor stays, but for its position and its ticks
 abbrev pub DescsStay : PathTable → PathTable → Type 0

@@ -15,7 +15,7 @@ use Rattle.io_rules.specs.Processes.{io_ended}
 use Rattle.file_rules.specs.Files.{Files}
 use Rattle.file_rules.specs.Locking.{files_interrupted, lock_ends}
 use Rattle.file_rules.specs.Processes.{files_ended}
-use Rattle.touch_laws.proofs.Requests.{keeps-forgotten}
+use Rattle.file_laws.proofs.Requests.{keeps-forgotten}
 use Rattle.wait_laws.proofs.Requested.{none-ended}
 use Rattle.claim_laws.specs.Contents.{IsPathOn}
 use Rattle.lock_laws.specs.Locked.{AreAgreed}

@@ -29,14 +29,14 @@ use Rattle.file_rules.specs.declared.path_call.PathCall.{PathCall}
 use Rattle.file_rules.specs.declared.path_call.PathCall.TheVariants as Call
 use Rattle.file_laws.specs.Kinds.{AreKinds, IsOnTarget}
 use Rattle.file_laws.proofs.Named.{is-named, opened-desc}
-use Rattle.touch_laws.specs.Attempt.{Attempt, OnDevice, TouchesNone, WaitsOnRecord, asker_in, made_in}
-use Rattle.touch_laws.specs.Claims.{Claims, Made, Names, Requests}
-use Rattle.touch_laws.specs.Devices.{device_call, number_in}
-use Rattle.touch_laws.specs.Recorded.{IsGranted, RecordsCome, path_in, settled}
-use Rattle.touch_laws.proofs.Claimed.{records-come}
-use Rattle.touch_laws.proofs.Keeps.{file-slot, stays}
-use Rattle.touch_laws.proofs.OfAttempts.{comes-of}
-use Rattle.touch_laws.proofs.Requests.{keeps-forgotten, without-requests}
+use Rattle.file_laws.specs.Attempt.{Attempt, OnDevice, TouchesNone, WaitsOnRecord, asker_in, made_in}
+use Rattle.file_laws.specs.Claims.{Claims, Made, Names, Requests}
+use Rattle.file_laws.specs.Devices.{device_call, number_in}
+use Rattle.file_laws.specs.Recorded.{IsGranted, RecordsCome, path_in, settled}
+use Rattle.file_laws.proofs.Claimed.{records-come}
+use Rattle.file_laws.proofs.Keeps.{file-slot, stays}
+use Rattle.file_laws.proofs.OfAttempts.{comes-of}
+use Rattle.file_laws.proofs.Requests.{keeps-forgotten, without-requests}
 use Rattle.claim_laws.specs.Contents.{IsCovered, IsPathOn}
 use Rattle.claim_laws.proofs.Covering.{request-file}
 use Rattle.lock_laws.proofs.Changes.{owner-is}
@@ -208,9 +208,9 @@ module _ (m : Made) (kinds : AreKinds m.files) (agreed : AreRecords m.files.reco
   come-leaves : RecordsCome m new.records → Left
   come-leaves (RecordsCome.stay is) =
       same-leaves p m.files new (forgotten-requests (settled m) is refl) (ap (λ (records : Records). records.locks.held) is) stay held_on
-  come-leaves (RecordsCome.holds request kind bytes it fits is) = held-leaves request kind bytes it is
-  come-leaves (RecordsCome.writes request bytes it is) = written-leaves request bytes it is
-  come-leaves (RecordsCome.ends found names is) = freed-leaves found names is
+  come-leaves (RecordsCome.holds request kind bytes it taken is) = held-leaves request kind bytes it is
+  come-leaves (RecordsCome.writes request bytes it sent is) = written-leaves request bytes it is
+  come-leaves (RecordsCome.ends found names ends is) = freed-leaves found names is
   come-leaves (RecordsCome.waits request requests answer is) =
       same-leaves p m.files new
       (λ q differ. ap (λ (records : Records). request_of records.locks q) is

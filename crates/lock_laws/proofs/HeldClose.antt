@@ -28,8 +28,8 @@ use Rattle.file_rules.specs.Locking.{lock_ends, records_after}
 use Rattle.file_rules.specs.OnFile.{by_kind}
 use Rattle.file_rules.specs.Step.{FileDoes, FileEffect, done, leaves, on_files, with_drives_after}
 use Rattle.file_laws.specs.Kinds.{AreKinds, IsOnTarget}
-use Rattle.touch_laws.proofs.Keeps.{file-slot}
-use Rattle.touch_laws.proofs.Requests.{device-settled, ends-requests, keeps-forgotten}
+use Rattle.file_laws.proofs.Keeps.{file-slot}
+use Rattle.file_laws.proofs.Requests.{device-settled, ends-requests, keeps-forgotten}
 use Rattle.claim_laws.specs.Contents.{IsPathOn}
 use Rattle.lock_laws.proofs.Descs.{close-paths, closed-desc, number-holds}
 use Rattle.lock_laws.proofs.Held.{AreHeldOn, LeavesRecords, OnStay, on-same, same-leaves}

@@ -14,6 +14,7 @@ use Rattle.lock_model.specs.History.{dropped, got, put}
 use Rattle.lock_model.specs.Locks.{lock_of}
 use Rattle.lock_model.specs.Records.{Records, ends_lock, ends_locks_below, entered, without_lock}
 use Rattle.lock_model.specs.declared.history.Entry.{Entry}
+use Rattle.lock_model.specs.declared.lock.EntryKind.TheVariants.{Drop, Put}
 use Rattle.lock_model.specs.declared.lock.Held.{Held}
 use Rattle.lock_model.specs.declared.lock.Request.{Request}
 use Rattle.lock_model.specs.declared.lock.TheConstants.{PATH_PLACES}
@@ -23,23 +24,24 @@ use Rattle.file_rules.specs.Locking.{files_interrupted, lock_ends}
 use Rattle.file_rules.specs.Processes.{files_ended, files_started, io_left}
 use Rattle.file_rules.specs.Read.{lock_by}
 use Rattle.file_rules.specs.declared.path_call.PathCall.{PathCall}
-use Rattle.touch_laws.specs.Attempt.{made_in}
-use Rattle.touch_laws.specs.Claims.{Made}
-use Rattle.touch_laws.proofs.Loads.{chain-leaves, fork-leaves, load-leaves}
+use Rattle.file_laws.specs.Attempt.{made_in}
+use Rattle.file_laws.specs.Claims.{Made}
+use Rattle.file_laws.proofs.Loads.{chain-leaves, fork-leaves, load-leaves}
 use Rattle.event_rules.specs.Event.{next_instruction}
 use Rattle.event_rules.specs.declared.ends.EventEnd.{EventEnd}
 use Rattle.machine_model.specs.Event.{Acts, Event, before_delivery, files_after_delivery, files_after_instruction}
 use Rattle.machine_model.specs.Services.{Serves, Service, files_after_call, files_after_fork, loads, no_call, on_paths, on_processes, on_time, service_of}
 use Rattle.machine_model.specs.State.{Rest, State}
-use Rattle.touch_laws.specs.Recorded.{IsGranted, RecordsCome, path_in, settled}
-use Rattle.touch_laws.proofs.Claimed.{records-come}
+use Rattle.file_laws.specs.Recorded.{IsGranted, RecordsCome, path_in, settled}
+use Rattle.file_laws.proofs.Claimed.{records-come}
 use Rattle.isolation_laws.proofs.Asked.{Asks, asks}
 use Rattle.lock_laws.specs.Locked.{IsAgreed, IsRunLocked}
-use Rattle.lock_laws.specs.Written.{GainsOwn, GainsRead, HasGained, IsEntryOf, IsReadOf}
+use Rattle.lock_laws.specs.Written.{GainsOwn, GainsPut, GainsRead, HasGained, IsEntryOf, IsPutIn, IsReadOf}
 use Rattle.lock_laws.proofs.Changes.{owner-is}
 use Rattle.lock_laws.proofs.Covered.{state-covered}
 use Rattle.lock_laws.proofs.GetBytes.{drop-get, get-bytes}
 use Rattle.lock_laws.proofs.HeldAttempts.{lock-owner}
+use Rattle.lock_laws.proofs.PutBytes.{put-bytes}
 use Rattle.lock_laws.proofs.VolumeEvents.{attempt_by}
 
 -- ---- records
@@ -92,13 +94,13 @@ module _ (Of : Entry → Type 0) (drops : (path : ℕ) (lock : Held) → Of (dro
   come-gains : (m : Made) (now : Records) → OfGranted m now → RecordsCome m now → Gains m.files.records now
   come-gains m now granted (RecordsCome.stay is) =
       gains-none m.files.records now (ap (λ (records : Records). records.history) is)
-  come-gains m now granted (RecordsCome.holds request kind bytes it fits is) =
+  come-gains m now granted (RecordsCome.holds request kind bytes it taken is) =
       let entry : Entry = got (path_in it) (lock_by kind request.lock bytes) bytes in
       (entry ∷ [], ap (λ (records : Records). records.history) is, (granted request it entry (lock-owner kind request.lock bytes) (ap (λ (records : Records). records.history) is), tt))
-  come-gains m now granted (RecordsCome.writes request bytes it is) =
+  come-gains m now granted (RecordsCome.writes request bytes it sent is) =
       let entry : Entry = put (path_in it) request.lock bytes in
       (entry ∷ [], ap (λ (records : Records). records.history) is, (granted request it entry refl (ap (λ (records : Records). records.history) is), tt))
-  come-gains m now granted (RecordsCome.ends found names is) =
+  come-gains m now granted (RecordsCome.ends found names gone is) =
       subst (Gains m.files.records) (sym is)
       (gains-on m.files.records (settled m) (without_lock (settled m) found.opened.path.0) (gains-none m.files.records (settled m) refl) (without-gains (settled m) found.opened.path.0))
   come-gains m now granted (RecordsCome.waits request requests answer is) =
@@ -106,25 +108,25 @@ module _ (Of : Entry → Type 0) (drops : (path : ℕ) (lock : Held) → Of (dro
 
 -- ---- events
 
--- what an attempt of a process enters for a request that is granted
-abbrev GrantedBy : State → ℕ → (Entry → Type 0) → Type 0
+-- what an attempt of a process enters for a request that is granted, by the files that it leaves
+abbrev GrantedBy : State → ℕ → (Files → Entry → Type 0) → Type 0
 GrantedBy s p Of =
     (code : ℕ) → act_of s.inner p ≡ attempts code → (call : PathCall) → service_of code ≡ on_paths call
     → (now : TimePacket) (result : CallResult) (rest : Rest)
     (it : FileAttempts call s.inner s.files now p result rest.files s.terms rest.terms) (request : Request)
     → IsGranted (made_in (attempt_by s p now call result rest it)) request → (entry : Entry) → entry.process ≡ request.lock.owner.0
-    → rest.files.records.history ≡ s.files.records.history ++ entry ∷ [] → Of entry
+    → rest.files.records.history ≡ s.files.records.history ++ entry ∷ [] → Of rest.files entry
 
-module _ (s : State) (p : ℕ) (Of : Entry → Type 0) (drops : (path : ℕ) (lock : Held) → Of (dropped path lock)) (granted : GrantedBy s p Of) where
+module _ (s : State) (p : ℕ) (Of : Files → Entry → Type 0) (drops : (files : Files) (path : ℕ) (lock : Held) → Of files (dropped path lock)) (granted : GrantedBy s p Of) where
   abbrev On : Files → Type 0
-  On files = Gains Of drops s.files.records files.records
+  On files = Gains (Of files) (drops files) s.files.records files.records
 
   same-on : (files : Files) → files.records ≡ s.files.records → On files
-  same-on files same = gains-none Of drops s.files.records files.records (ap (λ (records : Records). records.history) same)
+  same-on files same = gains-none (Of files) (drops files) s.files.records files.records (ap (λ (records : Records). records.history) same)
 
   ended-on : On (files_ended s.files p)
   ended-on =
-      below-gains Of drops (lock_ends (io_left s.files p).io.paths (λ owner. owner == p)) PATH_PLACES (io_left s.files p).records
+      below-gains (Of (files_ended s.files p)) (drops (files_ended s.files p)) (lock_ends (io_left s.files p).io.paths (λ owner. owner == p)) PATH_PLACES (io_left s.files p).records
 
   instruction-on : (outcome : Outcome) → On (files_after_instruction s.files p outcome)
   instruction-on (Done effect) = same-on s.files refl
@@ -132,7 +134,8 @@ module _ (s : State) (p : ℕ) (Of : Entry → Type 0) (drops : (path : ℕ) (lo
   instruction-on (Aborts status) = ended-on
 
   delivery-on : (result : Result Inner ℕ) → On (files_after_delivery s.files p result)
-  delivery-on (Ok t) = gains-none Of drops s.files.records (files_interrupted s.files p).records refl
+  delivery-on (Ok t) =
+      gains-none (Of (files_interrupted s.files p)) (drops (files_interrupted s.files p)) s.files.records (files_interrupted s.files p).records refl
   delivery-on (Err status) = ended-on
 
   call-on : (result : CallResult) → On (files_after_call s.files p result)
@@ -167,7 +170,7 @@ module _ (s : State) (p : ℕ) (Of : Entry → Type 0) (drops : (path : ℕ) (lo
   serves-on code next (on_time call) serves now result rest (clock, timed, is) =
       rest-on rest s.files (ap files_in is) (same-on s.files refl)
   serves-on code next (on_paths call) serves now result rest (it, clock) =
-      come-gains Of drops (made_in (attempt_by s p now call result rest it)) rest.files.records
+      come-gains (Of rest.files) (drops rest.files) (made_in (attempt_by s p now call result rest it)) rest.files.records
       (granted code next call serves now result rest it) (records-come (attempt_by s p now call result rest it))
   serves-on code next no_call serves now result rest (refusal, is) = rest-on rest s.files (ap files_in is) (same-on s.files refl)
 
@@ -181,17 +184,17 @@ module _ (s : State) (p : ℕ) (Of : Entry → Type 0) (drops : (path : ℕ) (lo
 
 pub event-gains : (s t : State) (end : EventEnd) → Event s end t → HasGained s t
 event-gains s t end (p, chosen, lives, acts) =
-    let (entries, is, all) = acts-on s p (λ entry. Unit {0}) (λ path lock. tt)
+    let (entries, is, all) = acts-on s p (λ files entry. Unit {0}) (λ files path lock. tt)
     (λ code next call serves now result rest it request granted entry owner gained. tt) (act_of s.inner p) end t refl acts in
     record { entries = entries; is = is }
 
 -- each entry is that of a lock that ended, or one of the chosen process
 pub event-gains-own : (s t : State) (end : EventEnd) → IsAgreed s → Event s end t → GainsOwn s t
 event-gains-own s t end agreed (p, chosen, lives, acts) =
-    let (entries, is, all) = acts-on s p (IsEntryOf s.chosen) (λ path lock. inl refl) of_granted (act_of s.inner p) end t refl acts in
+    let (entries, is, all) = acts-on s p (λ files. IsEntryOf s.chosen) (λ files path lock. inl refl) of_granted (act_of s.inner p) end t refl acts in
     record { gained = record { entries = entries; is = is }; own = all }
   where
-    of_granted : GrantedBy s p (IsEntryOf s.chosen)
+    of_granted : GrantedBy s p (λ files. IsEntryOf s.chosen)
     of_granted code next call serves now result rest it request granted entry owner gained =
         inr (chosen ∙ ap (λ (p : ℕ). Some p) (sym (owner
         ∙ owner-is (made_in (attempt_by s p now call result rest it)) agreed.agreed.records agreed.agreed.places
@@ -200,11 +203,26 @@ event-gains-own s t end agreed (p, chosen, lives, acts) =
 -- the entry of a read has the bytes that its file had
 pub event-gains-read : (s t : State) (end : EventEnd) → IsRunLocked s → Event s end t → GainsRead s t
 event-gains-read s t end locked (p, chosen, lives, acts) =
-    let (entries, is, all) = acts-on s p (IsReadOf s.files) (λ path lock kind. absurd (drop-get kind)) of_granted (act_of s.inner p) end t refl acts in
+    let (entries, is, all) = acts-on s p (λ files. IsReadOf s.files) (λ files path lock kind. absurd (drop-get kind)) of_granted (act_of s.inner p) end t refl acts in
     record { gained = record { entries = entries; is = is }; read = all }
   where
-    of_granted : GrantedBy s p (IsReadOf s.files)
+    of_granted : GrantedBy s p (λ files. IsReadOf s.files)
     of_granted code next call serves now result rest it request granted entry owner gained kind =
         get-bytes (attempt_by s p now call result rest it)
         (state-covered s p code locked.state.running locked.on next now call (subst (Asks code) serves (asks code)) (length s.terms))
         entry kind gained
+
+drop-put : Drop ≡ Put → ⊥
+drop-put is = cc
+
+-- the entry of a write has the bytes that its file has then
+pub event-gains-put : (s t : State) (end : EventEnd) → IsRunLocked s → Event s end t → GainsPut s t
+event-gains-put s t end locked (p, chosen, lives, acts) =
+    let (entries, is, all) = acts-on s p IsPutIn (λ files path lock kind. absurd (drop-put kind)) of_granted (act_of s.inner p) end t refl acts in
+    record { gained = record { entries = entries; is = is }; put = all }
+  where
+    of_granted : GrantedBy s p IsPutIn
+    of_granted code next call serves now result rest it request granted entry owner gained kind =
+        put-bytes (attempt_by s p now call result rest it)
+        (state-covered s p code locked.state.running locked.on next now call (subst (Asks code) serves (asks code)) (length s.terms))
+        entry.file entry kind refl gained

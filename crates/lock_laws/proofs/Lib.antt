@@ -1,6 +1,7 @@
 pub mod Agreed
 pub mod Apart
 pub mod Changes
+pub mod CallLocks
 pub mod AskedEvents
 pub mod Covered
 pub mod Deadlocks

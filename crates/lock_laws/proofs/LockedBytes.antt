@@ -11,7 +11,7 @@ use Rattle.lock_model.specs.declared.lock.Range.{Range}
 use Rattle.lock_model.specs.declared.lock.Request.{Request}
 use Rattle.lock_model.proofs.Chains.{some-opposer}
 use Rattle.rbf_model.specs.Volume.{DiskVolume}
-use Rattle.touch_laws.specs.Attempt.{Attempt, HasFault, made_in}
+use Rattle.file_laws.specs.Attempt.{Attempt, HasFault, made_in}
 use Rattle.event_rules.specs.declared.ends.EventEnd.{EventEnd}
 use Rattle.machine_model.specs.Event.{Event}
 use Rattle.machine_model.specs.State.{State}
@@ -48,8 +48,8 @@ module _ (locks : Locks) (path : ℕ) (lock : Held) (is : lock_of locks path ≡
           against = against-so asked lock differ file (overlaps-by asked.range lock.range byte one two);
         }) refl)
 
-    keeps-locked : (old new : List ℕ) → ChangesWithin asked.range old new → KeepsLocked lock.range old new
-    keeps-locked old new changes = record {
+    keeps-locked : (bytes old new : List ℕ) → ChangesWithin asked.range bytes old new → KeepsLocked lock.range old new
+    keeps-locked bytes old new changes = record {
       kept = λ at inside there. changes.kept at (λ granted. disjoint at granted inside) there;
       none_new = λ open_end at from there. by_gain at open_end from (changes.gained at there);
     }
@@ -91,11 +91,11 @@ module _ (s : State) (p : ℕ) (it : IsRunLocked s) (path : ℕ) (lock : Held) (
           → KeepsLocked lock.range (contents_of s.files lock.file) (contents_of rest.files lock.file)
       by_contents (ContentsCome.stay same) =
           kept-locked lock.range (contents_of s.files lock.file) (contents_of rest.files lock.file) same
-      by_contents (ContentsCome.within request bytes granted file changes entered) =
+      by_contents (ContentsCome.within request bytes granted file writes changes entered) =
           keeps-locked s.files.records.locks path lock is request.lock
           (granted-free s.files.records.locks p s.inner.tick request (request_of s.files.records.locks p) granted.answer)
           (λ same. differ (sym (owner-is (made_in attempt) it.state.agreed.records it.state.agreed.places own request granted.requests) ∙ same))
-          file (contents_of s.files lock.file) (contents_of rest.files lock.file) changes
+          file bytes (contents_of s.files lock.file) (contents_of rest.files lock.file) changes
 
 pub event-keeps-locked : (s t : State) (end : EventEnd) (path : ℕ) (lock : Held) → IsRunLocked s → Event s end t
     → lock_of s.files.records.locks path ≡ Some lock → s.chosen ≢ Some lock.owner.0 → KeepsLocked lock.range

@@ -11,9 +11,9 @@ use Rattle.lock_model.specs.declared.lock.Grant.TheVariants.{Deadlock, Granted, 
 use Rattle.lock_model.specs.declared.lock.Request.{Request}
 use Rattle.lock_model.proofs.Chains.{some-opposer}
 use Rattle.file_rules.specs.Locking.{answer_to}
-use Rattle.touch_laws.specs.Attempt.{Attempt, HasFault, made_in}
-use Rattle.touch_laws.specs.Claims.{IsLockedOut, Made, WaitsNot}
-use Rattle.touch_laws.proofs.LockCauses.{at-first}
+use Rattle.file_laws.specs.Attempt.{Attempt, HasFault, made_in}
+use Rattle.file_laws.specs.Claims.{IsLockedOut, Made, WaitsNot}
+use Rattle.file_laws.proofs.LockCauses.{at-first}
 use Rattle.claim_laws.proofs.Answers.{lock-refuses}
 
 -- ---- by the tests of an answer

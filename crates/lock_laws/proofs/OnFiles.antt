@@ -13,7 +13,7 @@ use Rattle.lock_model.proofs.Ranks.{first-quiet}
 use Rattle.file_rules.specs.Files.{Files}
 use Rattle.file_rules.specs.Locking.{call_of}
 use Rattle.file_rules.specs.Processes.{first_files}
-use Rattle.touch_laws.specs.Claims.{CoversCall}
+use Rattle.file_laws.specs.Claims.{CoversCall}
 use Rattle.event_rules.specs.Console.{terminals_emptied}
 use Rattle.event_rules.specs.declared.ends.EventEnd.{EventEnd}
 use Rattle.event_rules.specs.declared.ends.SliceEnd.{SliceEnd}

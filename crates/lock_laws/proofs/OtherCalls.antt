@@ -27,11 +27,11 @@ use Rattle.proc_model.specs.declared.module.ModuleInfo.{ModuleInfo}
 use Rattle.proc_model.specs.Loading.{EntersModules, entry_refusal, module_error}
 use Rattle.proc_model.specs.ModuleList.{ModuleEntry, is_known, module_room}
 use Rattle.time_rules.specs.declared.time_call.TimeCall.{TimeCall}
-use Rattle.touch_laws.specs.Causes.{FileCause, LeadsNowhere}
-use Rattle.touch_laws.specs.Claims.{Claims, Made}
-use Rattle.touch_laws.specs.LoadCauses.{CauseOfLoad, GroupCause, LinkCause, ReadCause, StartCause, TestCause, looking}
-use Rattle.touch_laws.specs.Touch.{FaultAnswers}
-use Rattle.touch_laws.proofs.ClaimSteps.{is_of_lock}
+use Rattle.file_laws.specs.Causes.{FileCause, LeadsNowhere}
+use Rattle.file_laws.specs.Claims.{Claims, Made}
+use Rattle.file_laws.specs.LoadCauses.{CauseOfLoad, GroupCause, LinkCause, ReadCause, StartCause, TestCause, looking}
+use Rattle.file_laws.specs.Touch.{FaultAnswers}
+use Rattle.file_laws.proofs.ClaimSteps.{is_of_lock}
 use Rattle.machine_model.specs.Services.{on_paths, service_of}
 use Rattle.machine_model.specs.State.{State}
 use Rattle.refusal_laws.specs.CallCauses.{ProcCause, TimeCause}

@@ -22,9 +22,9 @@ use Rattle.io_rules.specs.declared.io_call.IoCall.{IoCall}
 use Rattle.file_rules.specs.Files.{Asker, Files}
 use Rattle.file_rules.specs.declared.path_call.PathCall.{PathCall}
 use Rattle.call_laws.proofs.StepWalk.{StepGives, Walk, step-gives}
-use Rattle.touch_laws.specs.Attempt.{Attempt, OnDevice, TouchesNone, WaitsOnRecord, asker_in}
-use Rattle.touch_laws.specs.Touch.{PathsMove}
-use Rattle.touch_laws.proofs.OfAttempts.{comes-of}
+use Rattle.file_laws.specs.Attempt.{Attempt, OnDevice, TouchesNone, WaitsOnRecord, asker_in}
+use Rattle.file_laws.specs.Touch.{PathsMove}
+use Rattle.file_laws.proofs.OfAttempts.{comes-of}
 
 module _ (count : ℕ) where
   abbrev HasPlaces : PathTable → Type 0

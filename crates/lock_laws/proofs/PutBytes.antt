@@ -28,11 +28,11 @@ use Rattle.file_rules.specs.Locking.{records_after}
 use Rattle.file_rules.specs.Read.{lock_by}
 use Rattle.file_rules.specs.Seek.{long_of}
 use Rattle.file_rules.specs.Step.{Deed, DoesDeed, FileDoes, FileEffect, FileStep, as_io, changes, deed_of, drive_of, leaves_so}
-use Rattle.touch_laws.specs.Attempt.{Attempt, made_in}
-use Rattle.touch_laws.specs.Claims.{Made}
-use Rattle.touch_laws.specs.Recorded.{IsGranted, path_in}
-use Rattle.touch_laws.proofs.Claimed.{claimed}
-use Rattle.touch_laws.proofs.ClaimSteps.{Claimed, IsClaimedChange, LeftSo, StepClaimed}
+use Rattle.file_laws.specs.Attempt.{Attempt, made_in}
+use Rattle.file_laws.specs.Claims.{Made}
+use Rattle.file_laws.specs.Recorded.{IsGranted, path_in}
+use Rattle.file_laws.proofs.Claimed.{claimed}
+use Rattle.file_laws.proofs.ClaimSteps.{Claimed, IsClaimedChange, LeftSo, StepClaimed}
 use Rattle.claim_laws.specs.Contents.{IsCovered, contents_of}
 use Rattle.claim_laws.proofs.Covering.{request-file}
 use Rattle.lock_laws.specs.Written.{HasBytes}
@@ -132,10 +132,10 @@ module _ (it : Attempt) (covered : IsCovered (made_in it)) (place : FilePlace) (
 
   left-none : (effect : FileEffect) → LeftSo it.call m.asker it.files m.terms effect → Gained effect.files.records → ⊥
   left-none effect (LeftSo.still so) gained = same-records effect.files.records so.records gained
-  left-none effect (LeftSo.held request kind bytes granted fits done is) gained =
+  left-none effect (LeftSo.held request kind bytes granted taken done is) gained =
       other-kind effect.files.records (got (path_in granted) (lock_by kind request.lock bytes) bytes) get-put
       (ap (λ (records : Records). records.history) is) gained
-  left-none effect (LeftSo.ended found names done is) gained =
+  left-none effect (LeftSo.ended found names ends done is) gained =
       no-drop found.opened.path.0 effect.files.records is gained
   left-none effect (LeftSo.waited request requests answer is) gained =
       none-gained effect.files.records (ap (λ (it : FileEffect). it.files.records.history) is) gained
@@ -189,10 +189,10 @@ module _ (it : Attempt) (covered : IsCovered (made_in it)) (place : FilePlace) (
 
     made-has : (change : Change) (records : Records) → IsClaimedChange it.call m.asker it.files m.terms drive change records
         → Gained records → (n : ℕ) → Makes change m.asker.user m.asker.now v w n → Has volumes
-    made-has change records (IsClaimedChange.by_write request bytes granted on is covers recorded) gained n makes =
+    made-has change records (IsClaimedChange.by_write request bytes granted sent on is covers recorded) gained n makes =
         entry-has request bytes granted on (subst (λ (change : Change). Makes change m.asker.user m.asker.now v w n) is makes)
         (gained-is records (put (path_in granted) request.lock bytes) (ap (λ (records : Records). records.history) recorded) gained)
-    made-has change records (IsClaimedChange.by_size request granted on is covers recorded) gained n makes =
+    made-has change records (IsClaimedChange.by_size request granted set on is covers recorded) gained n makes =
         by_size (length granted.requests.found.file.contents == long_of m.asker.caller.regs) recorded
       where
         by_size : (same : Bool) → records ≡ (if same then without_lock it.files.records (path_in granted) else

@@ -12,8 +12,8 @@ use Rattle.file_rules.specs.Attempts.{FileAttempts, asker_of}
 use Rattle.file_rules.specs.Files.{Files}
 use Rattle.file_rules.specs.declared.path_call.PathCall.{PathCall}
 use Rattle.time_rules.specs.Clock.{IsNow}
-use Rattle.touch_laws.specs.Attempt.{Attempt}
-use Rattle.touch_laws.proofs.Loads.{chain-leaves, fork-leaves, load-leaves}
+use Rattle.file_laws.specs.Attempt.{Attempt}
+use Rattle.file_laws.proofs.Loads.{chain-leaves, fork-leaves, load-leaves}
 use Rattle.event_rules.specs.Event.{next_instruction}
 use Rattle.event_rules.specs.declared.ends.EventEnd.{EventEnd}
 use Rattle.machine_model.specs.Event.{Acts, before_delivery, files_after_delivery, files_after_instruction}

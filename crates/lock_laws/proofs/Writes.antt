@@ -14,18 +14,18 @@ use Rattle.rbf_model.specs.Volume.{DiskVolume}
 use Rattle.file_rules.specs.Attempts.{FileAttempts}
 use Rattle.file_rules.specs.declared.path_call.PathCall.{PathCall}
 use Rattle.time_rules.specs.Clock.{IsNow}
-use Rattle.touch_laws.specs.Attempt.{Attempt, HasFault, made_in}
+use Rattle.file_laws.specs.Attempt.{Attempt, HasFault, made_in}
 use Rattle.event_rules.specs.declared.ends.EventEnd.{EventEnd}
 use Rattle.machine_model.specs.Event.{Event}
 use Rattle.machine_model.specs.Services.{Serves, Service, on_paths, service_of}
 use Rattle.machine_model.specs.State.{Rest, State, with_rest}
 use Rattle.isolation_laws.proofs.Asked.{Asks, asks}
 use Rattle.claim_laws.specs.Contents.{ChangesWithin, ContentsCome, HasPath, IsCovered, contents_of}
-use Rattle.touch_laws.specs.Recorded.{IsGranted, path_in, settled}
+use Rattle.file_laws.specs.Recorded.{IsGranted, path_in, settled}
 use Rattle.claim_laws.proofs.Contents.{contents-come}
 use Rattle.lock_laws.specs.Cycles.{EndsInFault}
 use Rattle.lock_laws.specs.Locked.{IsRunLocked}
-use Rattle.lock_laws.specs.Written.{IsWritten}
+use Rattle.lock_laws.specs.Written.{IsCutShort, IsWritten, WritesWithin}
 use Rattle.lock_laws.proofs.Changes.{owner-is}
 use Rattle.lock_laws.proofs.Covered.{state-covered}
 use Rattle.lock_laws.proofs.PutBytes.{put-bytes}
@@ -33,7 +33,7 @@ use Rattle.lock_laws.proofs.VolumeEvents.{acts-so, attempt_by}
 
 module _ (s : State) (p : ℕ) (chosen : s.chosen ≡ Some p) (lives : IsLiving s.inner.records p) (it : IsRunLocked s) (place : FilePlace) (path : HasPath s.files place) where
   abbrev Fact : State → Type 0
-  Fact t = (contents_of t.files place ≡ contents_of s.files place) ⊎ (IsWritten s t place ⊎ EndsInFault s t)
+  Fact t = (contents_of t.files place ≡ contents_of s.files place) ⊎ (IsWritten s t place ⊎ IsCutShort s t place)
 
   stays : (t : State) → t.files.volumes ≡ s.files.volumes → Fact t
   stays t same =
@@ -57,7 +57,7 @@ module _ (s : State) (p : ℕ) (chosen : s.chosen ≡ Some p) (lives : IsLiving 
 
     -- a write that the history has
     written-so : (request : Request) (bytes : List ℕ) (granted : IsGranted (made_in attempt) request) → request.lock.file ≡ place
-        → ChangesWithin request.lock.range (contents_of s.files place) (contents_of rest.files place)
+        → ChangesWithin request.lock.range bytes (contents_of s.files place) (contents_of rest.files place)
         → rest.files.records ≡ written_by (settled (made_in attempt)) (path_in granted) request.lock bytes
         → IsWritten s then place
     written-so request bytes granted file changes is = record {
@@ -95,11 +95,29 @@ module _ (s : State) (p : ℕ) (chosen : s.chosen ≡ Some p) (lives : IsLiving 
       },
     )
 
+    -- what it has changed then
+    cut-short : HasFault attempt → WritesWithin (made_in attempt) place (contents_of s.files place) (contents_of rest.files place) → IsCutShort s then place
+    cut-short fault changes = record {
+      fault = faulted-so fault;
+      within = record {
+        process = p;
+        chosen = chosen;
+        code = code;
+        attempted = next;
+        call = call;
+        serves = serves;
+        now = now;
+        is_now = is_now;
+        so = changes;
+      };
+    }
+
     contents-so : ContentsCome (made_in attempt) place rest.files.records (HasFault attempt) (contents_of s.files place) (contents_of rest.files place) → Fact then
     contents-so (ContentsCome.stay same) = inl same
-    contents-so (ContentsCome.within request bytes granted file changes (inl is)) =
+    contents-so (ContentsCome.within request bytes granted file writes changes (inl is)) =
         inr (inl (written-so request bytes granted file changes is))
-    contents-so (ContentsCome.within request bytes granted file changes (inr fault)) = inr (inr (faulted-so fault))
+    contents-so (ContentsCome.within request bytes granted file writes changes (inr fault)) =
+        inr (inr (cut-short fault (record { request = request; granted = granted; file = file; bytes = bytes; writes = writes; within = changes })))
 
     attempt-so : Fact then
     attempt-so =
@@ -107,6 +125,6 @@ module _ (s : State) (p : ℕ) (chosen : s.chosen ≡ Some p) (lives : IsLiving 
 
 pub event-written : (s t : State) (end : EventEnd) (place : FilePlace) → IsRunLocked s → Event s end t
     → HasPath s.files place → (contents_of t.files place ≡ contents_of s.files place) ⊎
-    (IsWritten s t place ⊎ EndsInFault s t)
+    (IsWritten s t place ⊎ IsCutShort s t place)
 event-written s t end place it (p, chosen, lives, acts) path =
     acts-so s p (Fact s p chosen lives it place path) (stays s p chosen lives it place path) (attempt-so s p chosen lives it place path) (act_of s.inner p) end t refl acts

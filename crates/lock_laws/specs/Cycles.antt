@@ -5,7 +5,7 @@ use Rattle.call_rules.specs.Ready.{attempts, act_of}
 use Rattle.file_rules.specs.Files.{OneFailed}
 use Rattle.file_rules.specs.declared.path_call.PathCall.{PathCall}
 use Rattle.time_rules.specs.Clock.{IsNow}
-use Rattle.touch_laws.specs.Claims.{ClosesCycle, IsLockedOut, Made}
+use Rattle.file_laws.specs.Claims.{ClosesCycle, IsLockedOut, Made}
 use Rattle.machine_model.specs.Services.{on_paths, service_of}
 use Rattle.machine_model.specs.State.{State}
 use Rattle.refusal_laws.specs.RefusedEvents.{IsRefused, made_by}

@@ -1,3 +1,4 @@
+pub mod Changed
 pub mod Cycles
 pub mod Locked
 pub mod Written

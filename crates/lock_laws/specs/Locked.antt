@@ -14,7 +14,7 @@ use Rattle.file_rules.specs.Files.{Files}
 use Rattle.file_rules.specs.declared.path_call.PathCall.{PathCall}
 use Rattle.wait_laws.specs.Running.{IsRunning}
 use Rattle.machine_model.specs.State.{State}
-use Rattle.touch_laws.specs.Claims.{CoversCall}
+use Rattle.file_laws.specs.Claims.{CoversCall}
 use Rattle.claim_laws.specs.Contents.{IsPathOn}
 
 -- a request in which a process waits is for bytes of the file that its path was opened on, and covers what its call

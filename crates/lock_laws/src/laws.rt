@@ -17,9 +17,10 @@ ghost use Rattle.machine_model.specs.Run.{Choose, Run, Slice, Tick};
 ghost use Rattle.machine_model.specs.Start.{Boot, Starts};
 ghost use Rattle.machine_model.specs.State.{State};
 ghost use Rattle.refusal_laws.specs.RefusedEvents.{IsRefused};
-ghost use Rattle.lock_laws.specs.Cycles.{ClosesCycleIn, EndsInFault, IsFaulted, IsLockedOutIn};
+ghost use Rattle.lock_laws.specs.Changed.{ChangesLocks};
+ghost use Rattle.lock_laws.specs.Cycles.{ClosesCycleIn, IsFaulted, IsLockedOutIn};
 ghost use Rattle.lock_laws.specs.Locked.{AllAgreed, AllRunLocked, AreOnFiles, IsAgreed, IsRunLocked, LeavesLocks};
-ghost use Rattle.lock_laws.specs.Written.{GainsOwn, GainsRead, HasGained, IsWritten, KeepsLocked};
+ghost use Rattle.lock_laws.specs.Written.{GainsOwn, GainsPut, GainsRead, HasGained, IsCutShort, IsWritten, KeepsLocked};
 
 /// Locks, requests and their history agree: at the start of a machine with one to four terminals,
 /// and after each event, each tick and each choice. So they do in every state of a run (Level Two
@@ -71,6 +72,15 @@ pub fn an_event_leaves_the_locks_of_the_others()
         → Event s end t → LeavesLocks s p t }
 {}
 
+/// An event changes the locks of paths only with the end of its process, or by a call on paths that
+/// its process attempts: by the request of that call, or by ending the lock of its path. So no
+/// instruction, no signal that is delivered and no other call changes a lock of a process that goes
+/// on.
+pub fn an_event_changes_locks_by_its_call()
+    ensures { (s t : State) (end : EventEnd) (p : ℕ) → s.chosen ≡ Some p → Event s end t
+        → ChangesLocks s p end t.files }
+{}
+
 /// E$DeadLk is the answer to a call exactly if it is on a file, and at its first attempt its
 /// request would wait and that would close a cycle of waits; unless a drive fails in the attempt,
 /// whose fault it answers.
@@ -92,20 +102,24 @@ pub fn a_lock_refuses_exactly_what_does_not_wait()
 {}
 
 /// The history only gains entries: those of locks that end without a read or a write, and those of
-/// the chosen process. A read in it has the bytes that its file had. An event changes the bytes of
-/// a file on which a path is open only if it is a write of the chosen process, which is the entry
-/// that the history gains, with the bytes that the file has then; or if its call is refused with the
-/// fault of a drive. The range of the write has all that has changed, but for the bytes that fill a
-/// gap between the old end of the file and the range.
+/// the chosen process. A read in it has the bytes that its file had, and a write those that its file
+/// has then. An event changes the bytes of a file on which a path is open only if it is a write of
+/// the chosen process, which is the entry that the history gains; or if its call is refused with the
+/// fault of a drive, and then only in the range of its request. The range of the write has all that
+/// has changed, but for the zeros that fill a gap between the old end of the file and the range. Each
+/// byte of the file is then the one that was at its place, one of those that the call writes, or a
+/// zero behind the old end; only SS.Size cuts bytes off.
 pub fn what_is_written_is_in_the_history()
     ensures gains { (s t : State) (end : EventEnd) → Event s end t → HasGained s t }
     ensures own { (s t : State) (end : EventEnd) → IsAgreed s → Event s end t → GainsOwn s t }
     ensures read { (s t : State) (end : EventEnd) → IsRunLocked s → Event s end t
         → GainsRead s t }
+    ensures put { (s t : State) (end : EventEnd) → IsRunLocked s → Event s end t
+        → GainsPut s t }
     ensures written { (s t : State) (end : EventEnd) (place : FilePlace) → IsRunLocked s
         → Event s end t → HasPath s.files place
         → (contents_of t.files place ≡ contents_of s.files place)
-        ⊎ (IsWritten s t place ⊎ EndsInFault s t) }
+        ⊎ (IsWritten s t place ⊎ IsCutShort s t place) }
 {}
 
 /// An event of another process, whether a drive fails in it or not, leaves each byte that a file

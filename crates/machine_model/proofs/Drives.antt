@@ -3,7 +3,7 @@ use Rattle.std.proofs.Common.{◌≡◌, ◌⊎◌, ℕ, ◌≤◌, Option, List
 use Rattle.std.proofs.lemmas.Bool.{cases_eq}
 use Rattle.call_rules.specs.CallResult.{CallResult}
 use Rattle.file_rules.specs.Files.{DriveState, Files, NoneFailed, OneFailed, drive_at}
-use Rattle.touch_laws.specs.Touch.{FaultAnswers, NoVolumeChanges, OneDriveFails, OneVolumeChanges}
+use Rattle.file_laws.specs.Touch.{FaultAnswers, NoVolumeChanges, OneDriveFails, OneVolumeChanges}
 use Rattle.machine_model.specs.Devices.{DrivesOnlyGain}
 
 pub drives-same : (drives : List DriveState) → DrivesOnlyGain drives drives

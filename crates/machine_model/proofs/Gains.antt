@@ -13,10 +13,10 @@ use Rattle.call_rules.specs.Ready.{Act, attempts, delivers, executes, act_of}
 use Rattle.file_rules.specs.declared.path_call.PathCall.{PathCall}
 use Rattle.file_rules.specs.Attempts.{asker_of}
 use Rattle.file_rules.specs.Files.{Files}
-use Rattle.touch_laws.specs.Devices.{IsOnDevice}
-use Rattle.touch_laws.specs.Touch.{LeavesDevices, LeavesFiles, WaitsForRecord}
-use Rattle.touch_laws.proofs.Attempts.{attempt-comes}
-use Rattle.touch_laws.proofs.Loads.{chain-leaves, fork-leaves, load-leaves}
+use Rattle.file_laws.specs.Devices.{IsOnDevice}
+use Rattle.file_laws.specs.Touch.{LeavesDevices, LeavesFiles, WaitsForRecord}
+use Rattle.file_laws.proofs.TouchAttempts.{attempt-comes}
+use Rattle.file_laws.proofs.Loads.{chain-leaves, fork-leaves, load-leaves}
 use Rattle.event_rules.specs.declared.ends.EventEnd.{EventEnd}
 use Rattle.event_rules.specs.declared.ends.SliceEnd.{SliceEnd}
 use Rattle.event_rules.specs.declared.ends.SliceEnd.TheVariants.{Idle, Ran as SliceRan}

@@ -30,8 +30,8 @@ use Rattle.file_laws.specs.Kinds.{AreKinds, IsOnTarget}
 use Rattle.file_laws.proofs.Named.{path-desc}
 use Rattle.refusal_laws.specs.Causes.{HasNoDevice, IsBadName, IsNoDrive, IsOn, IsOnDisk, IsUnreadable, ListBreaksOff, LooksFor, StatedCause, device_at, search_of}
 use Rattle.refusal_laws.specs.Causes as Stated
-use Rattle.touch_laws.specs.Devices.{IsOnNoFile, LeadsToDevice, device_call}
-use Rattle.touch_laws.proofs.Named.{create-leads, open-leads}
+use Rattle.file_laws.specs.Devices.{IsOnNoFile, LeadsToDevice, device_call}
+use Rattle.file_laws.proofs.TouchNamed.{create-leads, open-leads}
 use Rattle.refusal_laws.specs.CallCauses.{DeviceCause, IsOnLostFile, bad_address, bad_mode, bad_path_number, lost_file, no_status, not_ready, path_table_full}
 
 -- ---- a list that leads to a terminal or a pipe

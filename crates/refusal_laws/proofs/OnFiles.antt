@@ -15,15 +15,15 @@ use Rattle.file_rules.specs.Files.{Asker, DriveState, Files, NoneFailed, OneFail
 use Rattle.file_rules.specs.Step.{Deed, DoesDeed, FileEffect, GoesWell, IsBroken, as_io, changes, deed_of, leaves_so, refuses_so, with_drives_after}
 use Rattle.file_rules.specs.declared.path_call.PathCall.{PathCall}
 use Rattle.file_rules.specs.declared.path_call.PathCall.TheVariants as Call
-use Rattle.touch_laws.specs.Causes.{FileCause, finds_no_segment}
-use Rattle.touch_laws.specs.Devices.{IsOnDevice, IsOnNoFile}
-use Rattle.touch_laws.specs.Touch.{NoVolumeChanges}
-use Rattle.touch_laws.proofs.Attempts.{ends-refused, on-device, step-splits}
-use Rattle.touch_laws.proofs.Caused.{Caused, StepCaused}
-use Rattle.touch_laws.proofs.CausedDeletes.{delete-caused, deletx-caused}
-use Rattle.touch_laws.proofs.CausedNames.{chgdir-caused, create-caused, makdir-caused, open-caused}
-use Rattle.touch_laws.proofs.CausedNumbers.{close-caused, getstt-caused, made, perr-caused, read-caused, readln-caused, seek-caused, setstt-caused, write-caused, writln-caused}
-use Rattle.touch_laws.proofs.Splits.{EndsSo, Splits, not-refused}
+use Rattle.file_laws.specs.Causes.{FileCause, finds_no_segment}
+use Rattle.file_laws.specs.Devices.{IsOnDevice, IsOnNoFile}
+use Rattle.file_laws.specs.Touch.{NoVolumeChanges}
+use Rattle.file_laws.proofs.TouchAttempts.{ends-refused, on-device, step-splits}
+use Rattle.file_laws.proofs.Caused.{Caused, StepCaused}
+use Rattle.file_laws.proofs.CausedDeletes.{delete-caused, deletx-caused}
+use Rattle.file_laws.proofs.CausedNames.{chgdir-caused, create-caused, makdir-caused, open-caused}
+use Rattle.file_laws.proofs.CausedNumbers.{close-caused, getstt-caused, made, perr-caused, read-caused, readln-caused, seek-caused, setstt-caused, write-caused, writln-caused}
+use Rattle.file_laws.proofs.Splits.{EndsSo, Splits, not-refused}
 use Rattle.machine_model.specs.State.{State}
 use Rattle.refusal_laws.specs.RefusedEvents.{FailsOnDrive, made_by, step_of}
 

@@ -43,9 +43,9 @@ use Rattle.call_rules.specs.declared.proc_call.ProcCall.{ProcCall}
 use Rattle.call_rules.specs.declared.proc_call.ProcCall.TheVariants as Call
 use Rattle.os9_base.specs.Cells.{Cells}
 use Rattle.file_rules.specs.Program.{chains, forks, named_program, parameters_of}
-use Rattle.touch_laws.specs.LoadCauses.{LinkCause, StartCause, TestCause, blocks_for, many_pages, no_memory, no_parameters, no_place, no_process, no_program, other_type, pages_for}
-use Rattle.touch_laws.specs.LoadCauses as Load
-use Rattle.touch_laws.proofs.Caused.{not-is}
+use Rattle.file_laws.specs.LoadCauses.{LinkCause, StartCause, TestCause, blocks_for, many_pages, no_memory, no_parameters, no_place, no_process, no_program, other_type, pages_for}
+use Rattle.file_laws.specs.LoadCauses as Load
+use Rattle.file_laws.proofs.Caused.{not-is}
 use Rattle.refusal_laws.specs.CallCauses.{Finds, ProcCause, bad_address, bad_name, begins, blocks_asked, blocks_more, in_memory, most_links, no_blocks, no_child, no_file, no_module, no_slots, not_linked, not_reached, not_started, not_tested, pending, starts_program}
 
 -- ---- what a refusal comes from, by the parts of a call

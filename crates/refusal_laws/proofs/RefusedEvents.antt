@@ -34,14 +34,14 @@ use Rattle.event_rules.specs.declared.ends.EventEnd.TheVariants.{Ran}
 use Rattle.refusal_laws.specs.Refusals.{LeavesProcesses}
 use Rattle.refusal_laws.proofs.ProcessesLeft.{leaves-processes}
 use Rattle.refusal_laws.proofs.Refusing.{Comes, refusal, same-refusal}
-use Rattle.touch_laws.specs.Causes.{FileCause}
-use Rattle.touch_laws.specs.Devices.{IsOnDevice, IsOnNoFile}
-use Rattle.touch_laws.specs.LoadCauses.{ChainCause, ForkCause, LoadCause}
-use Rattle.touch_laws.specs.Touch.{FaultAnswers, LeavesDevices, LeavesFiles, NoVolumeChanges, WaitsForRecord}
-use Rattle.touch_laws.proofs.Attempts.{attempt-splits}
-use Rattle.touch_laws.proofs.Caused.{is_nothing}
-use Rattle.touch_laws.proofs.CausedLoads.{chain-caused, fork-caused, load-caused}
-use Rattle.touch_laws.proofs.Loads.{chain-leaves, fork-leaves, load-leaves}
+use Rattle.file_laws.specs.Causes.{FileCause}
+use Rattle.file_laws.specs.Devices.{IsOnDevice, IsOnNoFile}
+use Rattle.file_laws.specs.LoadCauses.{ChainCause, ForkCause, LoadCause}
+use Rattle.file_laws.specs.Touch.{FaultAnswers, LeavesDevices, LeavesFiles, NoVolumeChanges, WaitsForRecord}
+use Rattle.file_laws.proofs.TouchAttempts.{attempt-splits}
+use Rattle.file_laws.proofs.Caused.{is_nothing}
+use Rattle.file_laws.proofs.CausedLoads.{chain-caused, fork-caused, load-caused}
+use Rattle.file_laws.proofs.Loads.{chain-leaves, fork-leaves, load-leaves}
 use Rattle.machine_model.specs.Event.{Acts, Event}
 use Rattle.machine_model.specs.Services.{Service, Serves, loads, no_call, on_paths, on_processes, on_time, service_of, with_files}
 use Rattle.machine_model.specs.State.{Rest, State, rest_of}

@@ -35,7 +35,7 @@ use Rattle.time_rules.specs.declared.clock.TheConstants.{PACKET_BYTES}
 use Rattle.time_rules.specs.declared.time_call.TimeCall.{TimeCall}
 use Rattle.time_rules.specs.declared.time_call.TimeCall.TheVariants as Time
 use Rattle.refusal_laws.specs.Causes.{HasNoByte, HasNoStatus, IsFull, IsUnreadable, LacksMode, NamesNoPath, search_of}
-use Rattle.touch_laws.specs.LoadCauses.{LinkCause, StartCause, TestCause}
+use Rattle.file_laws.specs.LoadCauses.{LinkCause, StartCause, TestCause}
 
 -- ---- a call on a terminal or a pipe
 

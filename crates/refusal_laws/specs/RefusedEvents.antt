@@ -23,11 +23,11 @@ use Rattle.file_rules.specs.declared.path_call.PathCall.{PathCall}
 use Rattle.time_rules.specs.Clock.{IsNow}
 use Rattle.time_rules.specs.declared.time_call.TimeCall.{TimeCall}
 use Rattle.refusal_laws.specs.Refusals.{ChangesNothing, LeavesProcesses, LeftAtEnd, LeftAtFault}
-use Rattle.touch_laws.specs.Causes.{FileCause}
-use Rattle.touch_laws.specs.Claims.{Made}
-use Rattle.touch_laws.specs.Devices.{IsOnNoFile, LocksStay, device_call}
-use Rattle.touch_laws.specs.LoadCauses.{ChainCause, ForkCause, LoadCause}
-use Rattle.touch_laws.specs.Touch.{FaultAnswers, NoVolumeChanges, may_change_volume}
+use Rattle.file_laws.specs.Causes.{FileCause}
+use Rattle.file_laws.specs.Claims.{Made}
+use Rattle.file_laws.specs.Devices.{IsOnNoFile, LocksStay, device_call}
+use Rattle.file_laws.specs.LoadCauses.{ChainCause, ForkCause, LoadCause}
+use Rattle.file_laws.specs.Touch.{FaultAnswers, NoVolumeChanges, may_change_volume}
 use Rattle.machine_model.specs.Services.{Attempts, loads, no_call, on_paths, on_processes, on_time, service_of}
 use Rattle.machine_model.specs.State.{State, rest_of, with_rest}
 use Rattle.refusal_laws.specs.CallCauses.{DeviceCause, ProcCause, TimeCause, starts_program}

@@ -20,7 +20,7 @@ use Rattle.file_rules.specs.Change.{Change, FindsNoPlace, Makes, MayBeTooLong, w
 use Rattle.file_rules.specs.Files.{Asker, DriveState, Files, drive_at, volume_at}
 use Rattle.file_rules.specs.Step.{Deed, DoesDeed, FileDoes, FileEffect, FileStep, GoesWell, IsBroken, IsChanged, IsTooLong, VolumeChange, as_io, changes, deed_of, leaves_so, on_files, with_drives_after, with_volume_after}
 use Rattle.file_rules.specs.declared.path_call.PathCall.{PathCall}
-use Rattle.touch_laws.proofs.Splits.{Answers, CreatesFile, Splits}
+use Rattle.file_laws.proofs.Splits.{Answers, CreatesFile, Splits}
 use Rattle.run_laws.specs.Faults.{DeedTakes, NeedsClusters, NoDriveFailed, TakesClusters, TakesFrom}
 use Rattle.run_laws.proofs.Terminals.{NoneOf, OneEffect, does-one}
 

@@ -16,7 +16,7 @@ use Rattle.file_rules.specs.Attempts.{asker_of, file_step, files_after, io_effec
 use Rattle.file_rules.specs.Files.{DriveState, Files, with_io}
 use Rattle.file_rules.specs.Step.{FileEffect, FileStep, deed_of, drive_of, with_drives_after}
 use Rattle.file_rules.specs.declared.path_call.PathCall.{PathCall}
-use Rattle.touch_laws.proofs.Attempts.{step-splits}
+use Rattle.file_laws.proofs.TouchAttempts.{step-splits}
 use Rattle.event_rules.specs.Event.{call_event_end}
 use Rattle.event_rules.specs.declared.ends.EventEnd.{EventEnd}
 use Rattle.event_rules.specs.declared.ends.EventEnd.TheVariants.{Ran}

@@ -26,8 +26,8 @@ use Rattle.file_laws.proofs.Counts.{none-many}
 use Rattle.file_laws.proofs.Kept.{volume-new, volume-other}
 use Rattle.file_laws.proofs.Starts.{image-of}
 use Rattle.file_laws.proofs.Volumes.{free-whole}
-use Rattle.touch_laws.proofs.Attempts.{step-splits}
-use Rattle.touch_laws.proofs.Splits.{EndsSo, Splits}
+use Rattle.file_laws.proofs.TouchAttempts.{step-splits}
+use Rattle.file_laws.proofs.Splits.{EndsSo, Splits}
 use Rattle.run_laws.specs.Mounted.{AreMounted, HasNumbers}
 
 -- ---- one volume

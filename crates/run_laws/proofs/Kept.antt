@@ -15,10 +15,10 @@ use Rattle.file_rules.specs.Files.{Files, volume_at}
 use Rattle.file_rules.specs.Step.{Deed, as_io, changes, deed_of, leaves_so}
 use Rattle.event_rules.specs.Event.{next_instruction}
 use Rattle.event_rules.specs.declared.ends.EventEnd.{EventEnd}
-use Rattle.touch_laws.specs.Devices.{IsOnDevice}
-use Rattle.touch_laws.specs.Touch.{LeavesDevices, NoVolumeChanges, OneDriveFails, OneVolumeChanges, WaitsForRecord}
-use Rattle.touch_laws.proofs.Attempts.{attempt-comes}
-use Rattle.touch_laws.proofs.Loads.{chain-leaves, fork-leaves, load-leaves}
+use Rattle.file_laws.specs.Devices.{IsOnDevice}
+use Rattle.file_laws.specs.Touch.{LeavesDevices, NoVolumeChanges, OneDriveFails, OneVolumeChanges, WaitsForRecord}
+use Rattle.file_laws.proofs.TouchAttempts.{attempt-comes}
+use Rattle.file_laws.proofs.Loads.{chain-leaves, fork-leaves, load-leaves}
 use Rattle.machine_model.specs.Event.{Acts, Event, before_delivery, files_after_delivery, files_after_instruction}
 use Rattle.machine_model.specs.Run.{Choose, Tick}
 use Rattle.machine_model.specs.Services.{Service, Serves, files_after_call, files_after_fork, loads, no_call, on_paths, on_processes, on_time, service_of, with_files}

@@ -43,8 +43,8 @@ pub fn a_session_goes_on_turn_by_turn()
 {}
 
 /// Two sessions with one script and one list of slices, from one state, write the same, if no
-/// device fails in them and no call takes clusters of a volume: the prompt at which a key was typed
-/// is not observable.
+/// device fails in them, and no state that can be reached from the first one has an attempt of a
+/// call that may take clusters of a volume: the prompt at which a key was typed is not observable.
 pub fn sessions_of_one_script_write_the_same()
     ensures sessions { (turns others : List Turn) (s t u : State) (states through : List State)
         (written bytes : List ℕ) → script turns ≡ script others → counts turns ≡ counts others

@@ -18,13 +18,13 @@ use Rattle.file_rules.specs.Attempts.{asker_of}
 use Rattle.file_rules.specs.Files.{Files, OpenFile, open_file}
 use Rattle.time_rules.specs.Attempts.{time_step, result_of as time_result}
 use Rattle.time_rules.specs.Step.{TimeStep, refused as time_refused, sets, tells}
-use Rattle.touch_laws.specs.Attempt.{Attempt, OnDevice, TouchesNone, WaitsOnRecord, regs_in}
-use Rattle.touch_laws.specs.Devices.{IsDevice, device_call, takes_number}
-use Rattle.touch_laws.specs.Touch.{IsOver, KeepsIo}
-use Rattle.touch_laws.proofs.Keeps.{io-kept}
-use Rattle.touch_laws.proofs.Loads.{chain-leaves, fork-leaves, load-leaves}
-use Rattle.touch_laws.proofs.Named.{device-no-file}
-use Rattle.touch_laws.proofs.OfAttempts.{comes-of, number-of}
+use Rattle.file_laws.specs.Attempt.{Attempt, OnDevice, TouchesNone, WaitsOnRecord, regs_in}
+use Rattle.file_laws.specs.Devices.{IsDevice, device_call, takes_number}
+use Rattle.file_laws.specs.Touch.{IsOver, KeepsIo}
+use Rattle.file_laws.proofs.Keeps.{io-kept}
+use Rattle.file_laws.proofs.Loads.{chain-leaves, fork-leaves, load-leaves}
+use Rattle.file_laws.proofs.TouchNamed.{device-no-file}
+use Rattle.file_laws.proofs.OfAttempts.{comes-of, number-of}
 use Rattle.stream_laws.proofs.CallCodes.{AttemptsNone, same-code}
 use Rattle.machine_model.specs.Services.{Serves, Service, files_after_call, files_after_fork, loads, no_call, on_paths, on_processes, on_time, with_files}
 use Rattle.machine_model.specs.State.{Rest, State}

@@ -12,8 +12,8 @@ use Rattle.file_rules.specs.Codes.{path_call_of}
 use Rattle.file_rules.specs.declared.path_call.PathCall.{PathCall}
 use Rattle.time_rules.specs.Codes.{time_call_of, time_codes}
 use Rattle.time_rules.specs.declared.time_call.TimeCall.{TimeCall}
-use Rattle.touch_laws.specs.Devices.{device_call}
-use Rattle.touch_laws.proofs.Codes.{code-none, code-there}
+use Rattle.file_laws.specs.Devices.{device_call}
+use Rattle.file_laws.proofs.Codes.{code-none, code-there}
 use Rattle.stream_laws.proofs.CallCodes.{found-code, not-both}
 use Rattle.machine_model.specs.Services.{Service, loads, on_processes, on_time, on_paths, no_call, service_of}
 

@@ -72,9 +72,17 @@ left-aside m p end n left = record {
 
 -- ---- input and output of the others
 
--- a number names a path with the same mode then
-abbrev pub StaysNamed : Io → ℕ → ℕ → OpenPath → Type 0
-StaysNamed new q n opened = (now : OpenPath) × (open_path new q n ≡ Some now) × (now.desc.mode ≡ opened.desc.mode)
+-- a number names the same path then, with the same mode and on the same
+pub record StaysNamed (new : Io) (q n : ℕ) (opened : OpenPath) : Type 0 where
+  pub now : OpenPath
+  pub is : open_path new q n ≡ Some now
+  pub path : now.path ≡ opened.path
+  pub mode : now.desc.mode ≡ opened.desc.mode
+  pub target : now.desc.target ≡ opened.desc.target
+
+-- a path that is unchanged
+pub same-named : (new : Io) (q n : ℕ) (opened : OpenPath) → open_path new q n ≡ Some opened → StaysNamed new q n opened
+same-named new q n opened is = record { now = opened; is = is; path = refl; mode = refl; target = refl }
 
 -- the numbers, the paths and the calls of the others that live stay, and no terminal of a path is gone
 pub record IoAside (records : List (Option Record)) (terms p : ℕ) (old new : Io) : Type 0 where
@@ -90,7 +98,7 @@ pub leaves-aside : (records : List (Option Record)) (terms p : ℕ) (old new : I
     → IoAside records terms p old new
 leaves-aside records terms p old new it places on = record {
   numbers = λ q differ lives. it.numbers q differ;
-  paths = λ q n opened differ lives is. (opened, it.paths q n opened differ is, refl);
+  paths = λ q n opened differ lives is. same-named new q n opened (it.paths q n opened differ is);
   calls = it.calls;
   places = places;
   on = on;
@@ -112,7 +120,7 @@ mode-so old new q n stays may = by_path (open_path old q n) refl may
         → IsSomeAnd path (λ opened. can_read opened.desc.mode ≡ true) → IsSomeAnd (open_path new q n)
         (λ opened. can_read opened.desc.mode ≡ true)
     by_path None is may = absurd may
-    by_path (Some opened) is may = (let (now, there, mode) = stays opened is in by_now opened now there mode may)
+    by_path (Some opened) is may = (let it = stays opened is in by_now opened it.now it.is it.mode may)
 
 -- a call stays allowed, where what is named stays so
 stays-so : (call : IoCall) (cells later : Cells) (regs now : Regs) (old new : Io) (q : ℕ) → now ≡ regs

@@ -1,5 +1,5 @@
 -- An attempt of a call keeps what holds of a state of a run.
-use Rattle.std.proofs.Common.{◌≡◌, ◌≢◌, ◌⊎◌, ℕ, ◌==◌, not, Bool, true, false, Option, Some, None, List, length, refl, sym, ap, ◌∙◌, subst, inl, inr, arith}
+use Rattle.std.proofs.Common.{◌≡◌, ◌≢◌, ◌⊎◌, ℕ, ◌==◌, not, Bool, true, false, Option, Some, None, is_some, List, length, refl, sym, ap, ◌∙◌, subst, inl, inr, arith}
 use Rattle.std.specs.Prelude.{is_none, option_map, if◌then◌else◌}
 use Rattle.std.specs.Option.{option_map_or}
 use Rattle.std.proofs.lemmas.Bool.{eqb-true}
@@ -47,13 +47,13 @@ use Rattle.time_rules.specs.Step.{TimeStep, sets, tells, needs as time_needs, re
 use Rattle.time_rules.specs.declared.clock.Clock.{Clock}
 use Rattle.time_rules.specs.declared.time_call.TimeCall.{TimeCall}
 use Rattle.time_rules.specs.declared.time_call.TimeCall.TheVariants as Time
-use Rattle.touch_laws.specs.Attempt.{Attempt, OnDevice, TouchesNone, WaitsOnRecord}
-use Rattle.touch_laws.specs.Devices.{NoneRequested}
-use Rattle.touch_laws.specs.Touch.{IsOver as IsAnswered, KeepsIo, WaitsForRecord}
-use Rattle.touch_laws.proofs.Codes.{code-none, code-there}
-use Rattle.touch_laws.proofs.Keeps.{io-kept}
-use Rattle.touch_laws.proofs.Loads.{chain-leaves, fork-leaves, load-leaves}
-use Rattle.touch_laws.proofs.OfAttempts.{comes-of}
+use Rattle.file_laws.specs.Attempt.{Attempt, OnDevice, TouchesNone, Waits, WaitsOnRecord}
+use Rattle.file_laws.specs.Devices.{NoneRequested}
+use Rattle.file_laws.specs.Touch.{IsOver as IsAnswered, KeepsIo, WaitsForRecord}
+use Rattle.file_laws.proofs.Codes.{code-none, code-there}
+use Rattle.file_laws.proofs.Keeps.{io-kept}
+use Rattle.file_laws.proofs.Loads.{chain-leaves, fork-leaves, load-leaves}
+use Rattle.file_laws.proofs.OfAttempts.{comes-of, waits-of}
 use Rattle.call_laws.proofs.PathsKept.{open-stays}
 use Rattle.call_laws.proofs.OthersKept.{free-is, living-record}
 use Rattle.call_laws.proofs.PathsKept.{io-ended, io-interrupted, left-numbers}
@@ -61,7 +61,7 @@ use Rattle.call_laws.proofs.EndsKept.{by-end}
 use Rattle.call_laws.proofs.OthersLeft.{attempt-leaves, left-leaves}
 use Rattle.call_laws.proofs.CallsKept.{AttemptLeft}
 use Rattle.call_laws.proofs.ForksKept.{attempt-left}
-use Rattle.wait_laws.proofs.KeptEvents.{ended-none, io-keeps}
+use Rattle.wait_laws.proofs.KeptEvents.{ended-none, io-keeps, io-path}
 use Rattle.wait_laws.proofs.InCalls.{IsWaiting, in-call, in-io}
 use Rattle.wait_laws.proofs.OnTerminals.{on-attempt, on-ended, on-interrupted}
 use Rattle.wait_laws.proofs.Places.{many-attempt, many-ended, many-interrupted}
@@ -71,11 +71,12 @@ use Rattle.wait_laws.proofs.CallCodes.{not-both}
 use Rattle.call_laws.proofs.Codes.{attempts-code}
 use Rattle.machine_model.specs.Services.{Attempts, Serves, files_after_call, files_after_fork, loads, no_call, on_paths, on_processes, on_time, with_files}
 use Rattle.machine_model.specs.State.{Rest, State, rest_of, with_rest}
-use Rattle.wait_laws.specs.Running.{AreRequested, IsRunning}
-use Rattle.wait_laws.proofs.Aside.{Aside, IoAside, aside-in, aside-kept, aside-places, leaves-aside, left-aside}
+use Rattle.wait_laws.specs.Running.{AreRequested, IsRunning, WaitsOnPath}
+use Rattle.wait_laws.proofs.Aside.{Aside, IoAside, aside-in, aside-kept, aside-places, leaves-aside, left-aside, same-named}
 use Rattle.wait_laws.proofs.Loads.{Child, chain-over, fork-over, load-over}
-use Rattle.wait_laws.proofs.RecordWaits.{is-waiting, waits-aside, waits-in, waits-keep, waits-left, waits-within}
-use Rattle.wait_laws.proofs.Requested.{none-ended, none-then, same-then, waits-requested}
+use Rattle.wait_laws.proofs.RecordWaits.{is-waiting, waits-aside, waits-in, waits-keep, waits-left, waits-on, waits-within}
+use Rattle.wait_laws.proofs.OnPaths.{all-wait, device-waits}
+use Rattle.wait_laws.proofs.Requested.{RequestsStay, attempt-stay, ended-stay, none-ended, none-then, same-stay, same-then, waits-others, waits-requested}
 use Rattle.wait_laws.proofs.RunningLaws.{running-then}
 use Rattle.wait_laws.proofs.Over.{IsOver, Over, aside-regs, aside-same, aside-stored, over-done, over-refused}
 
@@ -115,7 +116,7 @@ module _ (records : List (Option Record)) (terms p : ℕ) (old : Io) where
   pub io-same : IoAside records terms p old old
   io-same = record {
     numbers = λ q differ lives. refl;
-    paths = λ q n opened differ lives is. (opened, is, refl);
+    paths = λ q n opened differ lives is. same-named old q n opened is;
     calls = λ q differ. refl;
     places = refl;
     on = λ on. on;
@@ -125,7 +126,13 @@ module _ (records : List (Option Record)) (terms p : ℕ) (old : Io) where
   io-touched new it = record {
     numbers = λ q differ lives. it.paths.numbers q differ;
     paths =
-        λ q n opened differ lives is. (let (now, there, same) = it.paths.paths q n opened is in (now, there, ap (λ (d : Desc). d.mode) same.desc));
+        λ q n opened differ lives is. (let (now, there, same) = it.paths.paths q n opened is in record {
+          now = now;
+          is = there;
+          path = same.path;
+          mode = ap (λ (d : Desc). d.mode) same.desc;
+          target = ap (λ (d : Desc). d.target) same.desc;
+        });
     calls = it.calls.others;
     places = it.calls.places;
     on =
@@ -144,7 +151,7 @@ module _ (records : List (Option Record)) (terms p : ℕ) (old : Io) where
   io-begun child free = record {
     numbers = λ q differ lives. numbers q lives;
     paths =
-        λ q n opened differ lives is. (opened, open-stays old (io_started old p child) q n opened (numbers q lives) (λ path d named there. there) is, refl);
+        λ q n opened differ lives is. same-named (io_started old p child) q n opened (open-stays old (io_started old p child) q n opened (numbers q lives) (λ path d named there. there) is);
     calls = λ q differ. refl;
     places = refl;
     on = λ on. on;
@@ -204,13 +211,17 @@ path-tick m p effect (keeps kept) = refl
 pub next-running : (s : State) (p : ℕ) (t : State) → IsRunning s → Aside s.inner t.inner p → IoAside s.inner.records
     (length s.terms) p s.files.io t.files.io → ((kept : Kept) → kept_at t.files.io p ≡ Some kept → KeepsCall t.inner
     t.files.io p kept) → (IsWaiting t.inner.records p → WaitsInCall t.inner t.files.io p) → length t.terms ≡ length
-    s.terms → AreRequested t.files → AreKinds t.files → IsClock t.clock t.inner.tick → IsRunning t
-next-running s p t running aside io kept in_calls long requested kinds clock =
+    s.terms → AreRequested t.files → RequestsStay p s.files.records t.files.records
+    → ((kept : Kept) → kept_at t.files.io p ≡ Some kept → WaitsOnPath t.files p kept) → AreKinds t.files
+    → IsClock t.clock t.inner.tick → IsRunning t
+next-running s p t running aside io kept in_calls long requested stay own kinds clock =
     running-then s t running
     (aside-kept s.inner t.inner (length s.terms) p s.files.io t.files.io aside io kept running.kept)
     (aside-in s.inner t.inner (length s.terms) p s.files.io t.files.io aside io in_calls running.in_calls)
     (aside-places s.inner t.inner (length s.terms) p s.files.io t.files.io aside io running.places)
-    (io.on running.on) long requested kinds clock
+    (io.on running.on) long requested
+    (all-wait s.inner (length s.terms) p s.files t.files running.kept io stay running.waits own)
+    (let records = aside.places in let requests = stay.places in let rooms = running.rooms in omega (arith, records, requests, rooms)) kinds clock
 
 -- ---- an attempt
 
@@ -227,10 +238,15 @@ module _ (s : State) (p code : ℕ) (running : IsRunning s) (lives : IsLiving s.
 
   -- and in no request
   abbrev EndsRequest : Files → Type 0
-  EndsRequest new = NoneRequested p s.files new ⊎ ((kept_at s.files.io p ≡ None) × (new.records ≡ s.files.records))
+  EndsRequest new =
+      (NoneRequested p s.files new × RequestsStay p s.files.records new.records) ⊎ ((kept_at s.files.io p ≡ None) × (new.records ≡ s.files.records))
+
+  stays-then : (new : Files) → EndsRequest new → RequestsStay p s.files.records new.records
+  stays-then new (inl (none, stay)) = stay
+  stays-then new (inr (none, same)) = same-stay p s.files.records new.records same
 
   requested-then : (new : Files) → IoAside s.inner.records (length s.terms) p s.files.io new.io → EndsRequest new → AreRequested new
-  requested-then new io (inl none) = none-then p s.files new io.calls running.requested none
+  requested-then new io (inl (none, stay)) = none-then p s.files new io.calls running.requested none
   requested-then new io (inr (none, same)) = same-then p s.files new io.calls running.requested none same
 
   over-runs : (result : CallResult) (rest : Rest) → Over s.inner p result → BesideIo rest.files.io
@@ -239,7 +255,8 @@ module _ (s : State) (p code : ℕ) (running : IsRunning s) (lives : IsLiving s.
   over-runs result rest over io gone terms kinds clock =
       next-running s p (after result rest) running over.aside io.0
       (λ kept is. absurd (none-some kept (sym io.1 ∙ is))) (λ waiting. absurd (over.runs waiting))
-      (ap (λ (terms : List TerminalState). length terms) terms) (requested-then rest.files io.0 gone) kinds
+      (ap (λ (terms : List TerminalState). length terms) terms) (requested-then rest.files io.0 gone) (stays-then rest.files gone)
+      (λ kept is. absurd (none-some kept (sym io.1 ∙ is))) kinds
       (subst (IsClock rest.clock) (sym over.tick) clock)
 
   none-kept : io_call_of code ≡ None → kept_at s.files.io p ≡ None
@@ -281,9 +298,10 @@ module _ (s : State) (p code : ℕ) (running : IsRunning s) (lives : IsLiving s.
 
     -- a call on a terminal or a pipe
     io-runs : (device : IoCall) → io_call_of code ≡ Some device → IoAttempts device s.inner s.files.io
-        (length s.files.drives) p result rest.files.io s.terms rest.terms → NoneRequested p s.files rest.files
-        → AreKinds rest.files → IsClock rest.clock (after_attempt s.inner p result).tick → Runs result rest
-    io-runs device is it none kinds clock =
+        (length s.files.drives) p result rest.files.io s.terms rest.terms
+        → NoneRequested p s.files rest.files × RequestsStay p s.files.records rest.files.records
+        → ((kept : Kept) → kept_at rest.files.io p ≡ Some kept → WaitsOnPath rest.files p kept) → AreKinds rest.files → IsClock rest.clock (after_attempt s.inner p result).tick → Runs result rest
+    io-runs device is it none own kinds clock =
         let drives = length s.files.drives in
         let many : length rest.files.io.calls ≡ length s.files.io.calls = many-attempt s.files.io p device s.inner drives result rest.files.io s.terms rest.terms it in
         let io : IoAside s.inner.records (length s.terms) p s.files.io rest.files.io = leaves-aside s.inner.records
@@ -295,13 +313,13 @@ module _ (s : State) (p code : ℕ) (running : IsRunning s) (lives : IsLiving s.
         io
         (io-keeps s.inner s.files.io p running.kept lives code device drives result rest.files.io s.terms rest.terms next is it)
         (in-io s.inner s.files.io p running.in_calls lives running.places code device drives result rest.files.io s.terms rest.terms next many it)
-        long (requested-then rest.files io (inl none)) kinds clock
+        long (requested-then rest.files io (inl none)) none.1 own kinds clock
 
     -- a call that waits for a record of a file
     record-runs : (call : PathCall) → path_call_of code ≡ Some call → WaitsForRecord call s.inner s.files now p result
-        rest.files s.terms rest.terms → AreKinds rest.files → IsClock rest.clock (after_attempt s.inner p result).tick
-        → Runs result rest
-    record-runs call coded it kinds clock =
+        rest.files s.terms rest.terms → RequestsStay p s.files.records rest.files.records → AreKinds rest.files
+        → IsClock rest.clock (after_attempt s.inner p result).tick → Runs result rest
+    record-runs call coded it stay kinds clock =
         let then_is = is-waiting s p code running lives next now call coded result rest.files s.terms rest.terms it in
         next-running s p (after result rest) running
         (left-aside s.inner p (call_event_end result) (after_attempt s.inner p result) (waits-left s p code running lives next now call coded result rest.files s.terms rest.terms it))
@@ -309,8 +327,8 @@ module _ (s : State) (p code : ℕ) (running : IsRunning s) (lives : IsLiving s.
         (λ kept is. subst (λ (n : Inner). KeepsCall n rest.files.io p kept) (sym then_is) (waits-keep s p code running lives next now call coded result rest.files s.terms rest.terms it kept is))
         (subst (λ (n : Inner). IsWaiting n.records p → WaitsInCall n rest.files.io p) (sym then_is) (waits-in s p code running lives next now call coded result rest.files s.terms rest.terms it))
         long (waits-requested call s.inner s.files now p result rest.files s.terms rest.terms running.requested it
-        (waits-within s p code running lives next now call coded result rest.files s.terms rest.terms it)) kinds
-        clock
+        (waits-within s p code running lives next now call coded result rest.files s.terms rest.terms it)) stay
+        (waits-on s p code running lives next now call coded result rest.files s.terms rest.terms it) kinds clock
 
     path-runs : (call : PathCall) → path_call_of code ≡ Some call → Serves (on_paths call) s now p result rest → Runs result rest
     path-runs call coded (it, clock_is) = by_touch (comes-of attempt)
@@ -339,15 +357,28 @@ module _ (s : State) (p code : ℕ) (running : IsRunning s) (lives : IsLiving s.
         tick =
             ap (λ (result : CallResult). (after_attempt s.inner p result).tick) it.result_is ∙ path-tick s.inner p _ it.effect.end
 
+        -- a call that waits then
+        own : OnDevice attempt → (kept : Kept) → kept_at rest.files.io p ≡ Some kept → WaitsOnPath rest.files p kept
+        own on kept is = by_wait (waits-of attempt (ap is_some is))
+          where
+            by_wait : Waits attempt ⊎ WaitsOnRecord attempt → WaitsOnPath rest.files p kept
+            by_wait (inl waiting) =
+                device-waits call on.0.device s.inner s.files rest.files p on.0.device_is waiting kept
+                (io-path s.inner s.files.io p running.kept lives code on.0.device (length s.files.drives) result rest.files.io s.terms rest.terms next
+                (code-there code call coded ∙ on.0.device_is) on.0.attempted kept is)
+            by_wait (inr waiting) = waits-on s p code running lives next now call coded result rest.files s.terms rest.terms waiting kept is
+
         by_touch : OnDevice attempt ⊎ TouchesNone attempt ⊎ WaitsOnRecord attempt → Runs result rest
         by_touch (inr (inr waiting)) =
-            record-runs call coded waiting kinds (subst (IsClock rest.clock) (sym tick) clock)
+            record-runs call coded waiting (attempt-stay attempt (waits-others call s.inner s.files now p result rest.files s.terms rest.terms running.requested waiting))
+            kinds (subst (IsClock rest.clock) (sym tick) clock)
         by_touch (inl on) =
-            io-runs on.0.device (code-there code call coded ∙ on.0.device_is) on.0.attempted on.0.requests kinds (subst (IsClock rest.clock) (sym tick) clock)
+            io-runs on.0.device (code-there code call coded ∙ on.0.device_is)
+            on.0.attempted (on.0.requests, attempt-stay attempt on.0.requests.others) (own on) kinds (subst (IsClock rest.clock) (sym tick) clock)
         by_touch (inr (inl none)) =
             over-runs result rest (answered-over s.inner p result none.over)
             (let io = io-kept s.inner s.files p result rest.files s.terms rest.terms none in (io-touched s.inner.records (length s.terms) p s.files.io rest.files.io io, io.calls.none))
-            (inl none.requests) none.terminals kinds clock
+            (inl (none.requests, attempt-stay attempt none.requests.others)) none.terminals kinds clock
 
     -- ---- processes
 
@@ -391,7 +422,7 @@ module _ (s : State) (p code : ℕ) (running : IsRunning s) (lives : IsLiving s.
     call-ends none (done t) = inr (none-kept none, refl)
     call-ends none (refused number) = inr (none-kept none, refl)
     call-ends none (waits t) = inr (none-kept none, refl)
-    call-ends none (ends status) = inl (none-ended s.files p)
+    call-ends none (ends status) = inl (none-ended s.files p, ended-stay s.files p)
 
     call-kinds : (result : CallResult) → AreKinds (files_after_call s.files p result)
     call-kinds (done t) = running.kinds
@@ -406,7 +437,9 @@ module _ (s : State) (p code : ℕ) (running : IsRunning s) (lives : IsLiving s.
         (left-aside s.inner p (call_event_end result) (after_attempt s.inner p result) (subst (AttemptLeft s.inner p) (sym is) (attempt-left s.inner p call lives (code, next, coded))))
         io.0 (λ kept there. absurd (none-some kept (sym io.1 ∙ there)))
         (in-call s.inner s.files.io p running.in_calls lives running.places code call result _ next coded (subst (HasItsCall s.inner p) (sym is) (attempt-has s.inner p call)))
-        refl (requested-then (files_after_call s.files p result) io.0 (call-ends (proc-no-io code call coded) result)) (call-kinds result)
+        refl (requested-then (files_after_call s.files p result) io.0 (call-ends (proc-no-io code call coded) result))
+        (stays-then (files_after_call s.files p result) (call-ends (proc-no-io code call coded) result))
+        (λ kept there. absurd (none-some kept (sym io.1 ∙ there))) (call-kinds result)
         (subst (IsClock s.clock) (sym (ap (λ (result : CallResult). (after_attempt s.inner p result).tick) is ∙ attempt-tick s.inner p call)) running.clock))
 
     process-runs : (call : ProcCall) → call_of code ≡ Some call → Serves (on_processes call) s now p result rest → Runs result rest

@@ -21,7 +21,7 @@ use Rattle.time_rules.specs.Clock.{IsClock}
 use Rattle.machine_model.specs.Event.{Acts, Event, before_delivery, files_after_delivery, files_after_instruction}
 use Rattle.machine_model.specs.State.{State}
 use Rattle.wait_laws.specs.Running.{AreRequested, IsRunning}
-use Rattle.wait_laws.proofs.Requested.{none-ended, none-interrupted, none-then}
+use Rattle.wait_laws.proofs.Requested.{RequestsStay, ended-stay, interrupted-stay, none-ended, none-interrupted, none-then, same-stay}
 use Rattle.file_rules.specs.Locking.{files_interrupted}
 use Rattle.file_rules.specs.Processes.{files_ended}
 use Rattle.event_rules.specs.Event.{after_instruction, broken_off, delivery_end, instruction_end, next_instruction}
@@ -80,6 +80,15 @@ instruction-tick m p (Aborts status) = ended-tick m p status
 
 -- ---- files
 
+instruction-stay : (files : Files) (p : ℕ) (outcome : Outcome) → RequestsStay p files.records (files_after_instruction files p outcome).records
+instruction-stay files p (Done effect) = same-stay p files.records files.records refl
+instruction-stay files p (Calls code regs) = same-stay p files.records files.records refl
+instruction-stay files p (Aborts status) = ended-stay files p
+
+delivery-stay : (files : Files) (p : ℕ) (result : Result Inner ℕ) → RequestsStay p files.records (files_after_delivery files p result).records
+delivery-stay files p (Ok t) = interrupted-stay files p
+delivery-stay files p (Err status) = ended-stay files p
+
 module _ (files : Files) (p : ℕ) (kinds : AreKinds files) where
   instruction-kinds : (outcome : Outcome) → AreKinds (files_after_instruction files p outcome)
   instruction-kinds (Done effect) = kinds
@@ -131,7 +140,9 @@ module _ (s : State) (p : ℕ) (running : IsRunning s) (lives : IsLiving s.inner
       (left-aside s.inner p (instruction_end outcome) (after_instruction s.inner p outcome) (instruction-left s.inner p outcome))
       io.0 (λ kept there. absurd (none-some kept (sym io.1 ∙ there)))
       (in-instruction s.inner s.files.io p running.in_calls lives running.places next outcome _)
-      refl (instruction-requested outcome io.0) (instruction-kinds s.files p running.kinds outcome) (subst (IsClock s.clock) (sym (instruction-tick s.inner p outcome)) running.clock))
+      refl (instruction-requested outcome io.0) (instruction-stay s.files p outcome)
+      (λ kept there. absurd (none-some kept (sym io.1 ∙ there)))
+      (instruction-kinds s.files p running.kinds outcome) (subst (IsClock s.clock) (sym (instruction-tick s.inner p outcome)) running.clock))
   acts-run (delivers signal) end t next long (over, is) =
       let found = before_delivery s p in
       let result = delivered found p signal in
@@ -141,7 +152,8 @@ module _ (s : State) (p : ℕ) (running : IsRunning s) (lives : IsLiving s.inner
       (left-aside s.inner p (delivery_end result) (after_delivery found p result) (broken-left s.inner p signal (interrupted_count s.files.io p)))
       io.0 (λ kept there. absurd (none-some kept (sym io.1 ∙ there)))
       (in-delivery s.inner s.files.io p running.in_calls lives running.places signal (interrupted_count s.files.io p) _)
-      refl (delivery-requested result io.0) (delivery-kinds s.files p running.kinds result) (subst (IsClock s.clock) (sym tick) running.clock))
+      refl (delivery-requested result io.0) (delivery-stay s.files p result)
+      (λ kept there. absurd (none-some kept (sym io.1 ∙ there))) (delivery-kinds s.files p running.kinds result) (subst (IsClock s.clock) (sym tick) running.clock))
   acts-run (attempts code) end t next long (result, rest, attempted, over, is) =
       subst IsRunning (sym is) (attempt-runs s p code running lives next result rest (sym (ap (λ (t : State). length t.terms) is) ∙ long) attempted)
 

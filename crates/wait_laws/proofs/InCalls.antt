@@ -1,5 +1,5 @@
 -- A process that waits does so in a call, of which something is kept if it is one on paths: after what it does.
-use Rattle.std.proofs.Common.{◌≤◌, ◌≡◌, ◌≢◌, ℕ, ◌-◌, ◌<◌, ◌==◌, not, Bool, true, false, Option, Some, None, IsSome, is_some, Result, Ok, Err, List, length, map, refl, sym, ap, ◌∙◌, subst, arith}
+use Rattle.std.proofs.Common.{◌≤◌, ◌≡◌, ℕ, ◌-◌, ◌<◌, ◌==◌, not, Bool, true, false, Option, Some, None, IsSome, is_some, Result, Ok, Err, List, length, map, refl, sym, ap, ◌∙◌, subst, arith}
 use Rattle.std.specs.Option.{option_map_or}
 use Rattle.std.specs.Prelude.{if◌then◌else◌}
 use Rattle.std.proofs.lemmas.Bool.{false≢true}

@@ -48,10 +48,10 @@ use Rattle.io_rules.specs.declared.io_call.IoCall.TheVariants as Call
 use Rattle.io_rules.specs.declared.modes.TheConstants.{STANDARD_ERROR}
 use Rattle.io_rules.specs.declared.status.TheConstants.{SS_OPT, SS_READY, SS_EOF, OPTION_BYTES}
 use Rattle.call_laws.specs.Kept.{StaysAllowed}
-use Rattle.touch_laws.proofs.Lengths.{LineLength, line-length, user-fits, user-length}
+use Rattle.file_laws.proofs.Lengths.{LineLength, line-length, user-fits, user-length}
 
 -- a path that is open is the image of its number
-open-slot : (io : Io) (p n : ℕ) (opened : OpenPath) → open_path io p n ≡ Some opened → slot_of io.paths p n ≡ Some opened.path
+pub open-slot : (io : Io) (p n : ℕ) (opened : OpenPath) → open_path io p n ≡ Some opened → slot_of io.paths p n ≡ Some opened.path
 open-slot io p n opened is = by_slot (slot_of io.paths p n) refl is
   where
     with_place : SysPath → Option Desc → Option OpenPath

@@ -1,5 +1,5 @@
 -- What is kept of the call of a process after what it does.
-use Rattle.std.proofs.Common.{◌≡◌, ◌≢◌, ℕ, ◌<◌, not, Bool, true, false, Option, Some, None, List, length, refl, sym, ap, ◌∙◌, subst, inl, inr}
+use Rattle.std.proofs.Common.{◌≡◌, ℕ, ◌<◌, not, Bool, true, false, Option, Some, None, List, length, refl, sym, ap, ◌∙◌, subst, inl, inr}
 use Rattle.std.specs.Prelude.{IsSomeAnd, slice_index_or, unwrap_or}
 use Rattle.std.proofs.lemmas.Bool.{cases_lt, false≢true}
 use Rattle.std.proofs.lemmas.List.{get_or-set_same, get_or_past, length-set}
@@ -12,7 +12,7 @@ use Rattle.proc_rules.specs.declared.record.Life.TheVariants.{Waiting}
 use Rattle.proc_rules.specs.declared.record.Record.{Record}
 use Rattle.proc_rules.specs.Records.{IsLiving, has_ended, is_waiting, new_record, record_at, record_of, record_passes, with_record}
 use Rattle.call_rules.specs.Attempts.{after_attempt}
-use Rattle.call_rules.specs.CallResult.{CallResult, waits}
+use Rattle.call_rules.specs.CallResult.{CallResult}
 use Rattle.call_rules.specs.Inner.{Inner, own_at, regs_at, cells_at}
 use Rattle.call_rules.specs.Ready.{attempts, executes, act_of, next_act}
 use Rattle.io_model.specs.Path.{numbers_of, slot_of}
@@ -168,6 +168,15 @@ module _ (m : Inner) (old : Io) (p : ℕ) (kept_all : AreKept m old) (lives : Is
     kept-end (answers regs) kept is = absurd (none-some kept is)
     kept-end (fails number) kept is = absurd (none-some kept is)
     kept-end (keeps other) kept is = ap keeps (same_Some other kept is)
+
+    -- what is kept is of the path that the number of the call names
+    pub io-path : (kept : Kept) → kept_at io p ≡ Some kept → slot_of old.paths p (path_number call (regs_at m p)) ≡ Some kept.path
+    io-path kept is =
+        let put : kept_in attempt.effect.end ≡ Some kept = call-put attempt.effect.io p (kept_in attempt.effect.end) kept (sym (ap (λ (io : Io). kept_at io p) attempt.state) ∙ is) in
+        let good = does-keep call (caller_of m p) old before after (step_of call m p old drives before) attempt.effect
+        kept (step-keeps call (caller_of m p) old drives (length before) again) attempt.does
+        (kept-end attempt.effect.end kept put) in
+        good.0.kept_is.path
 
     -- the process then
     waiting-record : Record

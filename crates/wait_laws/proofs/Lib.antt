@@ -12,6 +12,7 @@ pub mod Over
 pub mod Places
 pub mod RecordWaits
 pub mod Requested
+pub mod OnPaths
 pub mod RunningLaws
 pub mod Runs
 pub mod WaitsMade

@@ -33,7 +33,7 @@ use Rattle.call_laws.specs.Objects.{KeepsSizes}
 use Rattle.call_laws.proofs.Lists.{slice_get-left}
 use Rattle.call_laws.proofs.MemoryKept.{Begun, map-other, started-kept}
 use Rattle.call_laws.proofs.OthersKept.{Free, free-is, living-record, living-within, own-other, record-other, record-put}
-use Rattle.touch_laws.proofs.Lengths.{user-length}
+use Rattle.file_laws.proofs.Lengths.{user-length}
 use Rattle.wait_laws.proofs.Aside.{Aside, ComesSo}
 use Rattle.wait_laws.proofs.Over.{IsOver, Over, aside-self, of-changes, of-needs, of-refuses, over-by}
 

@@ -1,10 +1,10 @@
 -- A call that waits for a record of a file is kept, like one that waits on a terminal or a pipe.
-use Rattle.std.proofs.Common.{◌≡◌, ℕ, ◌<◌, ◌≤◌, Option, Some, None, IsSome, true, List, [], length, refl, sym, ap, ◌∙◌, subst, arith}
+use Rattle.std.proofs.Common.{◌≡◌, ℕ, ◌<◌, Option, Some, None, IsSome, is_some, true, List, [], length, refl, sym, ap, ◌∙◌, subst, inr, arith}
 use Rattle.std.specs.Prelude.{IsSomeAnd, MatchOption, unwrap_or}
 use Rattle.std.proofs.lemmas.Bool.{false≢true}
 use Rattle.std.proofs.lemmas.List.{get_or-set_same, length-set}
-use Rattle.std.proofs.lemmas.Option.{none-some}
-use Rattle.os9_base.specs.Cells.{Cells, FitsIn}
+use Rattle.std.proofs.lemmas.Option.{none-some, same_Some}
+use Rattle.os9_base.specs.Cells.{FitsIn}
 use Rattle.os9_base.specs.declared.registers.Regs.{Regs}
 use Rattle.os9_base.specs.declared.registers.TimePacket.{TimePacket}
 use Rattle.os9_outer.specs.TerminalState.{TerminalState}
@@ -12,36 +12,35 @@ use Rattle.proc_rules.specs.declared.record.Life.TheVariants.{Waiting}
 use Rattle.proc_rules.specs.declared.record.Record.{Record}
 use Rattle.proc_rules.specs.Records.{IsLiving, is_waiting, record_at, record_of, with_record}
 use Rattle.call_rules.specs.Attempts.{after_attempt}
-use Rattle.call_rules.specs.CallResult.{CallResult, waits}
+use Rattle.call_rules.specs.CallResult.{CallResult}
 use Rattle.call_rules.specs.Inner.{Inner, cells_at, own_at, regs_at}
 use Rattle.call_rules.specs.Ready.{act_of, attempts}
 use Rattle.call_rules.specs.UserBytes.{user_bytes}
 use Rattle.lock_model.specs.declared.lock.Request.{Request}
-use Rattle.io_model.specs.Path.{slot_of}
+use Rattle.io_model.specs.Path.{desc_of, slot_of}
+use Rattle.io_model.specs.declared.path.Desc.{Desc}
 use Rattle.io_model.specs.declared.kept.Kept.{Kept}
-use Rattle.io_model.specs.declared.path.SysPath.{SysPath}
 use Rattle.io_rules.specs.Again.{IsKept, path_number}
-use Rattle.io_rules.specs.Attempts.{result_by}
-use Rattle.io_rules.specs.Codes.{direction_of_call, io_call_of}
-use Rattle.io_rules.specs.Io.{Io, OpenPath, kept_at, open_path, with_call}
+use Rattle.io_rules.specs.Codes.{io_call_of}
+use Rattle.io_rules.specs.Io.{Io, OpenPath, kept_at, open_path}
 use Rattle.io_rules.specs.Modes.{can_read}
 use Rattle.io_rules.specs.Step.{IoEffect, keeps}
 use Rattle.io_rules.specs.declared.io_call.Direction.TheVariants.{Reading}
 use Rattle.io_rules.specs.declared.io_call.IoCall.{IoCall}
-use Rattle.io_rules.specs.declared.io_call.IoCall.TheVariants as Device
 use Rattle.file_rules.specs.Attempts.{asker_of}
 use Rattle.file_rules.specs.Codes.{path_call_of}
 use Rattle.file_rules.specs.Files.{Asker, Files, OpenFile}
 use Rattle.file_rules.specs.Locking.{call_of, first_request, request_kept}
 use Rattle.file_rules.specs.declared.path_call.PathCall.{PathCall}
 use Rattle.file_rules.specs.declared.path_call.PathCall.TheVariants as Call
-use Rattle.touch_laws.specs.Devices.{device_call, number_in}
-use Rattle.touch_laws.specs.Touch.{WaitsForRecord}
-use Rattle.touch_laws.proofs.Counts.{ClaimsAs, ReadsThere, claims-as, reads-there}
-use Rattle.touch_laws.specs.Claims.{CanRead}
-use Rattle.touch_laws.proofs.Codes.{code-there}
-use Rattle.touch_laws.proofs.Keeps.{file-opened, file-slot}
-use Rattle.touch_laws.proofs.Lengths.{user-fits}
+use Rattle.file_laws.proofs.Named.{opened-desc}
+use Rattle.file_laws.specs.Devices.{device_call, number_in}
+use Rattle.file_laws.specs.Touch.{WaitsForRecord}
+use Rattle.file_laws.proofs.TouchCounts.{ClaimsAs, ReadsThere, claims-as, reads-there}
+use Rattle.file_laws.specs.Claims.{CanRead}
+use Rattle.file_laws.proofs.Codes.{code-there}
+use Rattle.file_laws.proofs.Keeps.{file-opened, file-slot}
+use Rattle.file_laws.proofs.Lengths.{user-fits}
 use Rattle.call_laws.proofs.CallsKept.{AttemptLeft}
 use Rattle.call_laws.proofs.OthersKept.{living-within}
 use Rattle.call_laws.specs.Kept.{KeepsCall, StaysAllowed, StaysRead, WaitsInCall}
@@ -51,12 +50,12 @@ use Rattle.call_laws.proofs.OthersLeft.{left-leaves}
 use Rattle.call_laws.proofs.PathsKept.{IoLeft, io-call}
 use Rattle.call_laws.specs.Terminals.{AreOnTerminals}
 use Rattle.machine_model.specs.State.{State}
-use Rattle.wait_laws.specs.Running.{IsRunning}
+use Rattle.wait_laws.specs.Running.{IsRunning, WaitsOnPath}
 use Rattle.wait_laws.proofs.Aside.{IoAside, leaves-aside}
 use Rattle.wait_laws.proofs.CallCodes.{code-is}
 use Rattle.wait_laws.proofs.InCalls.{IsWaiting, in-end}
 use Rattle.wait_laws.proofs.KeptEvents.{stays-on, there-at, there-lives}
-use Rattle.wait_laws.proofs.Requested.{waits-kept}
+use Rattle.wait_laws.proofs.Requested.{waits-kept, waits-there}
 
 -- ---- the number and the buffer of a call
 
@@ -227,6 +226,31 @@ module _ (s : State) (p code : ℕ) (running : IsRunning s) (lives : IsLiving s.
   pub waits-in : IsWaiting waiting_then.records p → WaitsInCall waiting_then new.io p
   waits-in =
       in-end s.inner s.files.io p running.in_calls lives running.places code effect (keeps (call_of it.request)) new.io next it.io many
+
+  -- its path is open
+  open-request : (desc : Desc) × (desc_of s.files.io.paths it.request.path ≡ Some desc)
+  open-request = by_kept (request_kept asker s.files) refl it.requests.is
+    where
+      by_kept : (kept : Option Request) → request_kept asker s.files ≡ kept → it.request ≡ unwrap_or kept (first_request asker it.requests.found it.requests.claim)
+          → (desc : Desc) × (desc_of s.files.io.paths it.request.path ≡ Some desc)
+      by_kept None none is = (
+        it.requests.found.opened.desc,
+        ap (λ (request : Request). desc_of s.files.io.paths request.path) is ∙ opened-desc s.files p (number_in call asker) it.requests.found it.requests.names,
+      )
+      by_kept (Some request) there is =
+          let was = running.waits p (call_of request) (running.requested p request there).kept in
+          (was.desc, ap (λ (request : Request). desc_of s.files.io.paths request.path) is ∙ was.there)
+
+  pub waits-on : (kept : Kept) → kept_at new.io p ≡ Some kept → WaitsOnPath new p kept
+  waits-on kept is =
+      let same : call_of it.request ≡ kept = same_Some (call_of it.request) kept (sym (waits-kept call s.inner s.files now p result new before after running.requested it waits-within) ∙ is) in
+      let here : p < length s.inner.records = living-within s.inner.records p lives in
+      let rooms = running.rooms in
+      subst (WaitsOnPath new p) same (record {
+        desc = open-request.0;
+        there = ap (λ (io : Io). desc_of io.paths it.request.path) it.io ∙ open-request.1;
+        on = inr (ap is_some (waits-there call s.inner s.files now p result new before after running.requested it (omega (arith, here, rooms))));
+      })
 
   pub waits-left : AttemptLeft s.inner p result
   waits-left =

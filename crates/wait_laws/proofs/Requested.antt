@@ -1,5 +1,5 @@
 -- Requests for records stay those of calls that wait.
-use Rattle.std.proofs.Common.{◌≡◌, ◌≢◌, ℕ, ◌<◌, ◌==◌, Option, Some, None, List, length, refl, sym, ap, ◌∙◌, subst, inl, inr}
+use Rattle.std.proofs.Common.{◌≡◌, ◌≢◌, ◌⊎◌, ℕ, ◌<◌, ◌==◌, Option, Some, None, IsSome, List, length, refl, sym, ap, ◌∙◌, subst, inl, inr}
 use Rattle.std.specs.Prelude.{slice_index_or, slice_set, unwrap_or}
 use Rattle.std.proofs.lemmas.Bool.{cases_eq, cases_lt}
 use Rattle.std.proofs.lemmas.List.{get_or-set_other, get_or-set_same, get_or_past, length-set}
@@ -14,18 +14,22 @@ use Rattle.lock_model.specs.Records.{Records, ends_locks_below, with_waiting}
 use Rattle.lock_model.specs.declared.lock.Request.{Request}
 use Rattle.lock_model.specs.declared.lock.TheConstants.{PATH_PLACES}
 use Rattle.io_model.specs.declared.kept.Kept.{Kept}
-use Rattle.io_model.specs.Path.{PathTable}
-use Rattle.io_rules.specs.Io.{Io, kept_at, with_call}
+use Rattle.io_model.specs.Path.{PathTable, desc_of}
+use Rattle.io_rules.specs.Io.{Io, kept_at}
 use Rattle.file_rules.specs.Attempts.{asker_of}
 use Rattle.file_rules.specs.Files.{Files}
-use Rattle.file_rules.specs.Locking.{call_of, files_interrupted, first_request, lock_ends, request_kept, request_now, waiting_in}
+use Rattle.file_rules.specs.Locking.{call_of, files_interrupted, first_request, lock_ends, request_kept}
 use Rattle.file_rules.specs.Processes.{files_ended, io_left}
 use Rattle.file_rules.specs.declared.path_call.PathCall.{PathCall}
-use Rattle.touch_laws.specs.Devices.{NoneRequested}
-use Rattle.touch_laws.specs.Touch.{WaitsForRecord}
-use Rattle.touch_laws.proofs.Counts.{claims-as}
-use Rattle.touch_laws.proofs.Requests.{KeepsOthers, below-requests, emptied-at, keeps-forgotten, keeps-same, none-requested}
-use Rattle.wait_laws.specs.Running.{AreRequested, IsRequested}
+use Rattle.file_laws.specs.Attempt.{Attempt, made_in}
+use Rattle.file_laws.specs.Claims.{Made}
+use Rattle.file_laws.specs.Devices.{IsDevice, NoneRequested}
+use Rattle.file_laws.specs.Recorded.{RecordsCome, settled}
+use Rattle.file_laws.specs.Touch.{WaitsForRecord}
+use Rattle.file_laws.proofs.Claimed.{records-come}
+use Rattle.file_laws.proofs.TouchCounts.{claims-as}
+use Rattle.file_laws.proofs.Requests.{KeepsOthers, below-requests, emptied-at, keeps-forgotten, keeps-same, none-requested, without-requests}
+use Rattle.wait_laws.specs.Running.{AreOnPaths, AreRequested, IsRequested}
 
 -- ---- one process goes on
 
@@ -54,6 +58,16 @@ calls-then old new same calls all q request is =
     let it = all q request (sym (ap (λ (records : Records). request_of records.locks q) same) ∙ is) in
     record { kept = ap (λ (calls : List (Option Kept)). slice_index_or calls q None) calls ∙ it.kept; owner = it.owner; covers = it.covers }
 
+-- and so are the paths
+pub paths-then : (old new : Files) → new.records ≡ old.records → new.io.calls ≡ old.io.calls → new.io.paths ≡ old.io.paths → AreOnPaths old → AreOnPaths new
+paths-then old new same calls paths all q kept is =
+    let it = all q kept (sym (ap (λ (calls : List (Option Kept)). slice_index_or calls q None) calls) ∙ is) in
+    record {
+      desc = it.desc;
+      there = ap (λ (paths : PathTable). desc_of paths kept.path.0) paths ∙ it.there;
+      on = subst (λ (records : Records). IsDevice it.desc.target ⊎ IsSome (request_of records.locks q)) (sym same) it.on;
+    }
+
 -- ---- ends and interruptions
 
 pub none-ended : (files : Files) (p : ℕ) → NoneRequested p files (files_ended files p)
@@ -71,6 +85,49 @@ none-ended files p = record {
 
 pub none-interrupted : (files : Files) (p : ℕ) → NoneRequested p files (files_interrupted files p)
 none-interrupted files p = none-requested p files (files_interrupted files p) files.records (λ q differ. refl) refl
+
+-- ---- the requests of the others, and the places for requests
+
+pub record RequestsStay (p : ℕ) (old new : Records) : Type 0 where
+  pub others : KeepsOthers p old new
+  pub places : length new.locks.requests ≡ length old.locks.requests
+
+pub same-stay : (p : ℕ) (old new : Records) → new ≡ old → RequestsStay p old new
+same-stay p old new same = record {
+  others = λ q differ. ap (λ (records : Records). request_of records.locks q) same;
+  places = ap (λ (records : Records). length records.locks.requests) same;
+}
+
+pub ended-stay : (files : Files) (p : ℕ) → RequestsStay p files.records (files_ended files p).records
+ended-stay files p = record {
+  others = (none-ended files p).others;
+  places =
+      ap length (below-requests (lock_ends (io_left files p).io.paths (λ owner. owner == p)) PATH_PLACES (with_waiting files.records p None))
+      ∙ length-set files.records.locks.requests p None;
+}
+
+pub interrupted-stay : (files : Files) (p : ℕ) → RequestsStay p files.records (files_interrupted files p).records
+interrupted-stay files p = record {
+  others = (none-interrupted files p).others;
+  places = length-set files.records.locks.requests p None;
+}
+
+-- an attempt leaves the places
+come-places : (m : Made) (now : Records) → RecordsCome m now → length now.locks.requests ≡ length m.files.records.locks.requests
+come-places m now (RecordsCome.stay is) =
+    ap (λ (records : Records). length records.locks.requests) is ∙ length-set m.files.records.locks.requests m.asker.caller.process.0 None
+come-places m now (RecordsCome.holds request kind bytes it taken is) =
+    ap (λ (records : Records). length records.locks.requests) is ∙ length-set m.files.records.locks.requests m.asker.caller.process.0 None
+come-places m now (RecordsCome.writes request bytes it sent is) =
+    ap (λ (records : Records). length records.locks.requests) is ∙ length-set m.files.records.locks.requests m.asker.caller.process.0 None
+come-places m now (RecordsCome.ends found names ends is) =
+    ap (λ (records : Records). length records.locks.requests) is
+    ∙ ap length (without-requests found.opened.path.0 (settled m)) ∙ length-set m.files.records.locks.requests m.asker.caller.process.0 None
+come-places m now (RecordsCome.waits request requests answer is) =
+    ap (λ (records : Records). length records.locks.requests) is ∙ length-set m.files.records.locks.requests request.lock.owner.0 (Some request)
+
+pub attempt-stay : (it : Attempt) → KeepsOthers it.process it.files.records it.new.records → RequestsStay it.process it.files.records it.new.records
+attempt-stay it others = record { others = others; places = come-places (made_in it) it.new.records (records-come it) }
 
 -- ---- a call that waits for a record
 
@@ -118,10 +175,17 @@ module _ (call : PathCall) (inner : Inner) (files : Files) (now : TimePacket) (p
   waits-kept within =
       ap (λ (io : Io). kept_at io p) it.io ∙ get_or-set_same files.io.calls p (Some (call_of it.request)) None within
 
+  pub waits-others : KeepsOthers p files.records new.records
+  waits-others q differ =
+      ap (λ (records : Records). request_of records.locks q) waits-records ∙ get_or-set_other files.records.locks.requests p q (Some it.request) None differ
+
+  pub waits-there : p < length files.records.locks.requests → request_of new.records.locks p ≡ Some it.request
+  waits-there within =
+      ap (λ (records : Records). request_of records.locks p) waits-records ∙ get_or-set_same files.records.locks.requests p (Some it.request) None within
+
   pub waits-requested : p < length files.io.calls → AreRequested new
   waits-requested within =
-      others-requested p files new waits-calls all
-      (λ q differ. ap (λ (records : Records). request_of records.locks q) waits-records ∙ get_or-set_other files.records.locks.requests p q (Some it.request) None differ)
+      others-requested p files new waits-calls all waits-others
       (λ request is. by_request request (put-is files.records.locks.requests p it.request request (sym (ap (λ (records : Records). request_of records.locks p) waits-records) ∙ is)))
     where
       by_request : (request : Request) → it.request ≡ request → IsRequested new p request

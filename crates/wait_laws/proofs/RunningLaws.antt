@@ -1,5 +1,5 @@
 -- What holds of every state of a run: at the start, after a tick and a choice.
-use Rattle.std.proofs.Common.{◌≡◌, ◌≢◌, ℕ, zero, suc, ◌+◌, ◌-◌, ◌<◌, ◌≤◌, ◌==◌, not, Bool, true, false, Option, Some, None, is_some, List, [], ◌∷◌, length, replicate, refl, sym, ap, ◌∙◌, subst, inl, inr, arith}
+use Rattle.std.proofs.Common.{◌≡◌, ◌≢◌, ℕ, zero, suc, ◌+◌, ◌<◌, ◌≤◌, ◌==◌, not, Bool, true, false, Option, Some, None, is_some, List, [], ◌∷◌, length, replicate, refl, sym, ap, ◌∙◌, subst, inl, inr, arith}
 use Rattle.std.specs.Prelude.{if◌then◌else◌, slice_index_or, ◌&&◌}
 use Rattle.std.proofs.lemmas.Bool.{cases_eq, cases_lt, false≢true}
 use Rattle.std.proofs.lemmas.List.{get_or-set_same, get_or-set_other, get_or_past, get_or-replicate, length-replicate, length-map, length-set}
@@ -35,8 +35,8 @@ use Rattle.event_rules.specs.Console.{terminals_emptied}
 use Rattle.event_rules.specs.Start.{first_priority, first_process, first_start, no_parent, superuser}
 use Rattle.event_rules.specs.Terminals.{TerminalsOnlyGain}
 use Rattle.machine_model.proofs.Gains.{tick-gains}
-use Rattle.wait_laws.specs.Running.{AreRequested, IsRunning}
-use Rattle.wait_laws.proofs.Requested.{calls-then}
+use Rattle.wait_laws.specs.Running.{AreOnPaths, AreRequested, IsRunning}
+use Rattle.wait_laws.proofs.Requested.{calls-then, paths-then}
 use Rattle.lock_model.specs.Locks.{request_of}
 use Rattle.lock_model.proofs.Ranks.{first-quiet}
 use Rattle.call_laws.proofs.OthersKept.{living-record, living-within}
@@ -59,9 +59,10 @@ zip-length (x ∷ before) (y ∷ now) gains =
 -- what holds, by its parts
 pub running-then : (s t : State) → IsRunning s → AreKept t.inner t.files.io → AreInCalls t.inner t.files.io
     → length t.inner.records ≤ length t.files.io.calls → AreOnTerminals (length s.terms) t.files.io.paths
-    → length t.terms ≡ length s.terms → AreRequested t.files → AreKinds t.files → IsClock t.clock t.inner.tick
+    → length t.terms ≡ length s.terms → AreRequested t.files → AreOnPaths t.files
+    → length t.inner.records ≤ length t.files.records.locks.requests → AreKinds t.files → IsClock t.clock t.inner.tick
     → IsRunning t
-running-then s t running kept in_calls places on long requested kinds clock = record {
+running-then s t running kept in_calls places on long requested waits rooms kinds clock = record {
   kept = kept;
   in_calls = in_calls;
   places = places;
@@ -69,6 +70,8 @@ running-then s t running kept in_calls places on long requested kinds clock = re
   some = subst (λ (n : ℕ). 0 < n) (sym long) running.some;
   few = subst (λ (n : ℕ). n ≤ 4) (sym long) running.few;
   requested = requested;
+  waits = waits;
+  rooms = rooms;
   kinds = kinds;
   clock = clock;
 }
@@ -374,6 +377,9 @@ tick-running s t (desk, arrives, is) running =
     (subst (λ (t : State). AreOnTerminals (length s.terms) t.files.io.paths) (sym is) (subst (AreOnTerminals (length s.terms)) (sym left.paths) running.on))
     (zip-length s.terms t.terms (tick-gains s t (desk, arrives, is)).terminals)
     (subst (λ (t : State). AreRequested t.files) (sym is) (calls-then s.files (with_io s.files desk.io) refl left.calls running.requested))
+    (subst (λ (t : State). AreOnPaths t.files) (sym is) (paths-then s.files (with_io s.files desk.io) refl left.calls left.paths running.waits))
+    (subst (λ (t : State). length t.inner.records ≤ length t.files.records.locks.requests) (sym is)
+    (subst (λ (n : ℕ). n ≤ length s.files.records.locks.requests) (sym left.long) running.rooms))
     (subst (λ (t : State). AreKinds t.files) (sym is) (kinds-same s.files desk.io left.paths running.kinds))
     (subst (λ (t : State). IsClock t.clock t.inner.tick) (sym is) (clock-later s.clock s.inner.tick desk.inner.tick (omega (arith, tick)) running.clock))
 
@@ -386,12 +392,15 @@ choice-running s t is running =
     (subst (λ (t : State). AreOnTerminals (length s.terms) t.files.io.paths) (sym is) running.on)
     (ap (λ (t : State). length t.terms) is)
     (subst (λ (t : State). AreRequested t.files) (sym is) running.requested)
+    (subst (λ (t : State). AreOnPaths t.files) (sym is) running.waits)
+    (subst (λ (t : State). length t.inner.records ≤ length t.files.records.locks.requests) (sym is) running.rooms)
     (subst (λ (t : State). AreKinds t.files) (sym is) running.kinds)
     (subst (λ (t : State). IsClock t.clock t.inner.tick) (sym is) running.clock)
 
 pub emptied-running : (m : State) → IsRunning m → IsRunning (record m { terms = terminals_emptied m.terms })
 emptied-running m running =
-    running-then m (record m { terms = terminals_emptied m.terms }) running running.kept running.in_calls running.places running.on (simp length-map) running.requested running.kinds running.clock
+    running-then m (record m { terms = terminals_emptied m.terms }) running running.kept running.in_calls running.places running.on
+    (simp length-map) running.requested running.waits running.rooms running.kinds running.clock
 
 -- ---- the start
 
@@ -435,6 +444,8 @@ start-running boot s starts some few time = subst IsRunning (sym starts.is) (rec
   few = few;
   requested =
       λ p request is. absurd (none-some request (sym (ap (λ (files : Files). request_of files.records.locks p) starts.mounted.is ∙ first-quiet p) ∙ is));
+  waits = λ p kept is. absurd (none-some kept (sym (ap (λ (io : Io). kept_at io p) io_is ∙ none-first p) ∙ is));
+  rooms = subst (λ (files : Files). PROCESS_PLACES ≤ length files.records.locks.requests) (sym starts.mounted.is) (omega arith);
   kinds = kinds-start boot.images boot.drives starts.files starts.mounted;
   clock = record { civil = time; set = omega arith };
 })

@@ -1,6 +1,9 @@
 -- Facts of every state of a run.
-use Rattle.std.specs.Prelude.{◌≡◌, ℕ, ◌<◌, ◌≤◌, Some, List, length}
+use Rattle.std.specs.Prelude.{◌≡◌, ◌⊎◌, ℕ, ◌<◌, ◌≤◌, Some, IsSome, List, length}
 use Rattle.std.specs.List.{AllByRecursion}
+use Rattle.io_model.specs.Path.{desc_of}
+use Rattle.io_model.specs.declared.kept.Kept.{Kept}
+use Rattle.io_model.specs.declared.path.Desc.{Desc}
 use Rattle.lock_model.specs.Laws.{Covers}
 use Rattle.lock_model.specs.Locks.{request_of}
 use Rattle.lock_model.specs.declared.lock.Request.{Request}
@@ -11,6 +14,7 @@ use Rattle.file_laws.specs.Kinds.{AreKinds}
 use Rattle.call_laws.specs.Kept.{AreInCalls, AreKept}
 use Rattle.call_laws.specs.Terminals.{AreOnTerminals}
 use Rattle.time_rules.specs.Clock.{IsClock}
+use Rattle.file_laws.specs.Devices.{IsDevice}
 use Rattle.machine_model.specs.State.{State}
 
 -- a process that waits in this request keeps its call, and owns the lock that it asks for, which has all bytes that the
@@ -25,16 +29,28 @@ abbrev pub AreRequested : Files → Type 0
 AreRequested files =
     (p : ℕ) (request : Request) → request_of files.records.locks p ≡ Some request → IsRequested files p request
 
+-- a call that waits is on an open path: on a terminal or a pipe, or its process waits in a request
+pub record WaitsOnPath (files : Files) (p : ℕ) (kept : Kept) : Type 0 where
+  pub desc : Desc
+  pub there : desc_of files.io.paths kept.path.0 ≡ Some desc
+  pub on : IsDevice desc.target ⊎ IsSome (request_of files.records.locks p)
+
+-- each call that waits is so
+abbrev pub AreOnPaths : Files → Type 0
+AreOnPaths files = (p : ℕ) (kept : Kept) → kept_at files.io p ≡ Some kept → WaitsOnPath files p kept
+
 -- the facts of a state of a run
 pub record IsRunning (s : State) : Type 0 where
   pub kept : AreKept s.inner s.files.io
   pub in_calls : AreInCalls s.inner s.files.io
-  -- each process has a place for what is kept of its call
+  -- each process has a place for what is kept of its call, and for its request
   pub places : length s.inner.records ≤ length s.files.io.calls
+  pub rooms : length s.inner.records ≤ length s.files.records.locks.requests
   pub on : AreOnTerminals (length s.terms) s.files.io.paths
   pub some : 0 < length s.terms
   pub few : length s.terms ≤ 4
   pub requested : AreRequested s.files
+  pub waits : AreOnPaths s.files
   pub kinds : AreKinds s.files  -- paths and directories of processes are on what is there
   pub clock : IsClock s.clock s.inner.tick
 

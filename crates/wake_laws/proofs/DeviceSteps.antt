@@ -29,7 +29,6 @@ use Rattle.io_model.specs.declared.path.Target.TheVariants.{File, Folder, Pipe, 
 use Rattle.io_model.specs.declared.pipe.PipeAns.{PipeAns}
 use Rattle.io_model.specs.declared.pipe.PipeAns.TheVariants.{Done, End, NoReader, Wait}
 use Rattle.io_model.specs.declared.terminal.Progress.{Progress}
-use Rattle.io_model.specs.declared.terminal.Progress.TheVariants as Progress
 use Rattle.io_model.specs.declared.terminal.ReadKind.{ReadKind}
 use Rattle.io_model.specs.declared.terminal.ReadKind.TheVariants.{Bytes, WholeLine}
 use Rattle.io_rules.specs.Alone.{is_alone}
@@ -52,7 +51,7 @@ use Rattle.io_rules.specs.declared.io_call.Direction.TheVariants.{Reading, Writi
 use Rattle.io_rules.specs.declared.io_call.IoCall.{IoCall}
 use Rattle.io_rules.specs.declared.io_call.IoCall.TheVariants as Call
 use Rattle.io_rules.specs.declared.status.TheConstants.{OPTION_BYTES, SS_EOF, SS_OPT, SS_READY}
-use Rattle.touch_laws.proofs.Keeps.{free-desc, free-slot}
+use Rattle.file_laws.proofs.Keeps.{free-desc, free-slot}
 use Rattle.wake_laws.specs.Touches.{NamesCause, cause_on}
 use Rattle.wake_laws.proofs.Looked.{IsPathFor, any-set, no-image, opens}
 

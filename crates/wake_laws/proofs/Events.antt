@@ -53,14 +53,14 @@ use Rattle.call_laws.proofs.Codes.{attempts-code}
 use Rattle.call_laws.proofs.ForkedChildren.{NamesChild}
 use Rattle.call_laws.proofs.OthersKept.{free-is}
 use Rattle.call_laws.proofs.OthersLeft.{attempt-leaves as others-leave}
-use Rattle.touch_laws.specs.Attempt.{Attempt, OnDevice, TouchesNone, WaitsOnRecord, made_in}
-use Rattle.touch_laws.specs.Devices.{IsDevice, device_call, number_in}
-use Rattle.touch_laws.specs.Touch.{LeavesFiles, PathsMove}
-use Rattle.touch_laws.proofs.Claimed.{records-come}
-use Rattle.touch_laws.proofs.Codes.{code-there}
-use Rattle.touch_laws.proofs.Keeps.{file-slot, stays}
-use Rattle.touch_laws.proofs.Loads.{chain-leaves, fork-leaves, load-leaves}
-use Rattle.touch_laws.proofs.OfAttempts.{comes-of}
+use Rattle.file_laws.specs.Attempt.{Attempt, OnDevice, TouchesNone, WaitsOnRecord, made_in}
+use Rattle.file_laws.specs.Devices.{IsDevice, device_call, number_in}
+use Rattle.file_laws.specs.Touch.{LeavesFiles, PathsMove}
+use Rattle.file_laws.proofs.Claimed.{records-come}
+use Rattle.file_laws.proofs.Codes.{code-there}
+use Rattle.file_laws.proofs.Keeps.{file-slot, stays}
+use Rattle.file_laws.proofs.Loads.{chain-leaves, fork-leaves, load-leaves}
+use Rattle.file_laws.proofs.OfAttempts.{comes-of}
 use Rattle.event_rules.specs.Event.{after_instruction, next_instruction}
 use Rattle.event_rules.specs.declared.ends.EventEnd.{EventEnd}
 use Rattle.machine_model.specs.Event.{Acts, Event, before_delivery, files_after_delivery, files_after_instruction}
@@ -100,7 +100,7 @@ waits-device io locks q cause none is =
     by_cause None is = absurd (none-some cause is)
     by_cause (Some found) is = is
 
-waits-so : (io : Io) (locks : Locks) (q : ℕ) (cause : Cause) → request_of locks q ≡ None → io_waits_for io q ≡ Some cause → wait_cause io locks q ≡ Some cause
+pub waits-so : (io : Io) (locks : Locks) (q : ℕ) (cause : Cause) → request_of locks q ≡ None → io_waits_for io q ≡ Some cause → wait_cause io locks q ≡ Some cause
 waits-so io locks q cause none is =
     ap (λ (place : Option Request). option_map (λ (wait : Waiting). wait.cause) (option_map_or (λ (request : Request). Some (request_wait request)) place
     (option_map (λ (cause : Cause). let wait : Waiting = record { cause = cause; until = None } in wait) (io_waits_for io q)))) none
@@ -440,13 +440,13 @@ module _ (s t : State) (end : EventEnd) (p q : ℕ) (cause : Cause) (it : IsRunL
           (path-desc t.files.io q (path_number keeps.call (regs_at s.inner q)) open_stays.now open_stays.is)
 
   -- it waits for a record
-  record-same : (request : Request) → request_of s.files.records.locks q ≡ Some request → cause ≡ cause_of request.lock.file → files_may_go t.files s.inner.tick q ≡ files_may_go s.files s.inner.tick q
-  record-same request is on =
-      ap (λ (b : Bool). b || lock_may_go t.files.records.locks s.inner.tick q) (request-idle t.files.io q (call_of request) then_kept request.lock.file then_asked.on)
-      ∙ ap (request_may_go t.files.records.locks s.inner.tick) (requests ∙ is)
-      ∙ ap (λ (b : Bool). not b || is_late s.inner.tick request) (conflicts-same request.lock s.files.records.locks t.files.records.locks (event-stays.locks request.lock.file on))
-      ∙ sym (ap (request_may_go s.files.records.locks s.inner.tick) is)
-      ∙ sym (ap (λ (b : Bool). b || lock_may_go s.files.records.locks s.inner.tick q) (request-idle s.files.io q
+  record-same : (tick : ℕ) (request : Request) → request_of s.files.records.locks q ≡ Some request → cause ≡ cause_of request.lock.file → files_may_go t.files tick q ≡ files_may_go s.files tick q
+  record-same tick request is on =
+      ap (λ (b : Bool). b || lock_may_go t.files.records.locks tick q) (request-idle t.files.io q (call_of request) then_kept request.lock.file then_asked.on)
+      ∙ ap (request_may_go t.files.records.locks tick) (requests ∙ is)
+      ∙ ap (λ (b : Bool). not b || is_late tick request) (conflicts-same request.lock s.files.records.locks t.files.records.locks (event-stays.locks request.lock.file on))
+      ∙ sym (ap (request_may_go s.files.records.locks tick) is)
+      ∙ sym (ap (λ (b : Bool). b || lock_may_go s.files.records.locks tick q) (request-idle s.files.io q
       (call_of request) (it.state.running.requested q request is).kept request.lock.file (it.on.asked q request is).on))
     where
       later : IsRunLocked t
@@ -458,13 +458,13 @@ module _ (s t : State) (end : EventEnd) (p q : ℕ) (cause : Cause) (it : IsRunL
       then_kept : kept_at t.files.io q ≡ Some (call_of request)
       then_kept = (later.state.running.requested q request (requests ∙ is)).kept
 
-  pub event-same : files_may_go t.files s.inner.tick q ≡ files_may_go s.files s.inner.tick q
-  event-same = by_request (request_of s.files.records.locks q) refl
+  pub event-same : (tick : ℕ) → files_may_go t.files tick q ≡ files_may_go s.files tick q
+  event-same tick = by_request (request_of s.files.records.locks q) refl
     where
-      by_request : (place : Option Request) → request_of s.files.records.locks q ≡ place → files_may_go t.files s.inner.tick q ≡ files_may_go s.files s.inner.tick q
+      by_request : (place : Option Request) → request_of s.files.records.locks q ≡ place → files_may_go t.files tick q ≡ files_may_go s.files tick q
       by_request None none =
-          ap (λ (place : Option Request). io_may_go t.files.io q || request_may_go t.files.records.locks s.inner.tick place) (requests ∙ none)
+          ap (λ (place : Option Request). io_may_go t.files.io q || request_may_go t.files.records.locks tick place) (requests ∙ none)
           ∙ ap (λ (b : Bool). b || false) (device-same (waits-device s.files.io s.files.records.locks q cause none waits))
-          ∙ sym (ap (λ (place : Option Request). io_may_go s.files.io q || request_may_go s.files.records.locks s.inner.tick place) none)
+          ∙ sym (ap (λ (place : Option Request). io_may_go s.files.io q || request_may_go s.files.records.locks tick place) none)
       by_request (Some request) is =
-          record-same request is (sym (waits-record s.files.io s.files.records.locks q cause request is waits))
+          record-same tick request is (sym (waits-record s.files.io s.files.records.locks q cause request is waits))

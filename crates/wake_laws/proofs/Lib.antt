@@ -1,3 +1,4 @@
+pub mod Causes
 pub mod DeviceSteps
 pub mod Ends
 pub mod Events
@@ -6,3 +7,4 @@ pub mod Locks
 pub mod Looked
 pub mod OpenRuns
 pub mod Ticks
+pub mod Waits

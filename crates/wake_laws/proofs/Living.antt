@@ -39,10 +39,10 @@ use Rattle.call_laws.proofs.OthersKept.{living-within, record-other}
 use Rattle.call_laws.proofs.OthersLeft.{attempt-leaves as others-leave}
 use Rattle.call_laws.proofs.PathsKept.{io-ended, left-begin, left-dup}
 use Rattle.call_laws.proofs.StepWalk.{StepGives, Walk, step-gives}
-use Rattle.touch_laws.specs.Attempt.{Attempt, OnDevice, TouchesNone, WaitsOnRecord, asker_in}
-use Rattle.touch_laws.specs.Touch.{PathsMove}
-use Rattle.touch_laws.proofs.Keeps.{stays}
-use Rattle.touch_laws.proofs.OfAttempts.{comes-of}
+use Rattle.file_laws.specs.Attempt.{Attempt, OnDevice, TouchesNone, WaitsOnRecord, asker_in}
+use Rattle.file_laws.specs.Touch.{PathsMove}
+use Rattle.file_laws.proofs.Keeps.{stays}
+use Rattle.file_laws.proofs.OfAttempts.{comes-of}
 use Rattle.lock_laws.proofs.Descs.{close-paths, closes-ended, closes-if, interrupted-paths}
 use Rattle.os9_base.specs.declared.errors.TheConstants.{E_UNKSVC}
 use Rattle.proc_rules.specs.declared.record.Life.TheVariants.{Running, Waiting}
@@ -55,7 +55,7 @@ use Rattle.io_rules.specs.Step.{IoEnd, answers, fails, keeps}
 use Rattle.io_rules.specs.Waiting.{interrupted_count}
 use Rattle.file_rules.specs.Attempts.{io_effect}
 use Rattle.time_rules.specs.Attempts.{time_step}
-use Rattle.touch_laws.proofs.Loads.{chain-leaves, fork-leaves, load-leaves}
+use Rattle.file_laws.proofs.Loads.{chain-leaves, fork-leaves, load-leaves}
 use Rattle.event_rules.specs.Console.{terminals_emptied}
 use Rattle.event_rules.specs.Event.{after_instruction, delivery_end, next_instruction}
 use Rattle.event_rules.specs.Start.{first_start, only_process}

@@ -24,10 +24,10 @@ use Rattle.file_rules.specs.Locking.{lock_ends}
 use Rattle.file_rules.specs.Processes.{files_ended}
 use Rattle.file_rules.specs.Read.{lock_by}
 use Rattle.file_laws.specs.Kinds.{AreKinds}
-use Rattle.touch_laws.specs.Claims.{Made, Names}
-use Rattle.touch_laws.specs.Devices.{number_in}
-use Rattle.touch_laws.specs.Recorded.{IsGranted, RecordsCome, path_in, settled}
-use Rattle.touch_laws.proofs.Keeps.{file-slot}
+use Rattle.file_laws.specs.Claims.{Made, Names}
+use Rattle.file_laws.specs.Devices.{number_in}
+use Rattle.file_laws.specs.Recorded.{IsGranted, RecordsCome, path_in, settled}
+use Rattle.file_laws.proofs.Keeps.{file-slot}
 use Rattle.claim_laws.specs.Contents.{IsCovered, IsPathOn}
 use Rattle.lock_laws.proofs.Descs.{Goes, closes-ended}
 use Rattle.lock_laws.proofs.Held.{AreHeldOn}
@@ -168,10 +168,10 @@ module _ (m : Made) (kinds : AreKinds m.files) (covered : IsCovered m) (held_on 
   pub come-same : (now : Records) → RecordsCome m now → SameLocks place m.files.records.locks now.locks
   come-same now (RecordsCome.stay is) =
       locks-same place m.files.records.locks now.locks (ap (λ (records : Records). records.locks.held) is)
-  come-same now (RecordsCome.holds request kind bytes it fits is) = held-same request kind bytes it now is
-  come-same now (RecordsCome.writes request bytes it is) =
+  come-same now (RecordsCome.holds request kind bytes it taken is) = held-same request kind bytes it now is
+  come-same now (RecordsCome.writes request bytes it sent is) =
       taken-same it.requests.found it.requests.names now (ap (λ (records : Records). records.locks.held) is)
-  come-same now (RecordsCome.ends found names is) = freed-same found names now is
+  come-same now (RecordsCome.ends found names ends is) = freed-same found names now is
   come-same now (RecordsCome.waits request requests answer is) =
       locks-same place m.files.records.locks now.locks (ap (λ (records : Records). records.locks.held) is)
 

@@ -18,7 +18,7 @@ use Rattle.io_rules.specs.Waiting.{pid}
 use Rattle.file_rules.specs.Attempts.{asker_of}
 use Rattle.file_rules.specs.Locking.{files_may_go, wait_cause}
 use Rattle.file_rules.specs.declared.path_call.PathCall.{PathCall}
-use Rattle.touch_laws.specs.Devices.{number_in}
+use Rattle.file_laws.specs.Devices.{number_in}
 use Rattle.machine_model.specs.Services.{on_paths, on_processes, service_of}
 use Rattle.machine_model.specs.State.{State}
 
@@ -58,9 +58,13 @@ pub data Touches (s : State) (p : ℕ) (t : State) (cause : Cause) : Type 0 wher
   by_lock : (path : ℕ) (lock : Held) → HasEnded t p → lock_of s.files.records.locks path ≡ Some lock
       → lock.owner.0 ≡ p → cause ≡ Cause.Lock lock.file.drive lock.file.number → Touches s p t cause
 
+-- what a process waits for in a call on a path
+abbrev pub cause_of : State → ℕ → Option Cause
+cause_of s q = wait_cause s.files.io s.files.records.locks q
+
 -- a process waits for this in a call on a path
 abbrev pub WaitsFor : State → ℕ → Cause → Type 0
-WaitsFor s q cause = wait_cause s.files.io s.files.records.locks q ≡ Some cause
+WaitsFor s q cause = cause_of s q ≡ Some cause
 
 -- its call may go on in the present tick
 abbrev pub MayGo : State → ℕ → Type 0

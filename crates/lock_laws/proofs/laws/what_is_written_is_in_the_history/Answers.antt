@@ -1,4 +1,4 @@
-use Rattle.lock_laws.proofs.Histories.{event-gains, event-gains-own, event-gains-read}
+use Rattle.lock_laws.proofs.Histories.{event-gains, event-gains-own, event-gains-put, event-gains-read}
 use Rattle.lock_laws.proofs.Writes.{event-written}
 use Rattle.lock_laws.proofs.laws.what_is_written_is_in_the_history.Goals as goal
 
@@ -7,5 +7,6 @@ returns c = record {
   gains = event-gains;
   own = event-gains-own;
   read = event-gains-read;
+  put = event-gains-put;
   written = event-written;
 }

@@ -1,5 +1,0 @@
-use Rattle.touch_laws.proofs.OfAttempts.{comes-of}
-use Rattle.touch_laws.proofs.laws.attempts_are_on_a_device_or_touch_none.Goals as goal
-
-pub returns : goal.returns
-returns c = comes-of

@@ -1,5 +1,0 @@
-use Rattle.touch_laws.proofs.OfAttempts.{again-of, waits-of}
-use Rattle.touch_laws.proofs.laws.calls_that_wait_are_on_devices.Goals as goal
-
-pub returns : goal.returns
-returns c = record { waits = waits-of; again = again-of }

@@ -1,5 +1,0 @@
-use Rattle.touch_laws.proofs.Codes.{code-none, code-there}
-use Rattle.touch_laws.proofs.laws.codes_are_the_same_on_devices.Goals as goal
-
-pub returns : goal.returns
-returns c = record { coded = code-there; none = code-none }

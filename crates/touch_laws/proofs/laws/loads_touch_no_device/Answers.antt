@@ -1,5 +1,0 @@
-use Rattle.touch_laws.proofs.Loads.{chain-leaves, fork-leaves, load-leaves}
-use Rattle.touch_laws.proofs.laws.loads_touch_no_device.Goals as goal
-
-pub returns : goal.returns
-returns c = record { load = load-leaves; fork = fork-leaves; chain = chain-leaves }

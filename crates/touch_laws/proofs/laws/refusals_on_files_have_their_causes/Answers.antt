@@ -1,5 +1,0 @@
-use Rattle.touch_laws.proofs.CausedAttempts.{refusal-caused}
-use Rattle.touch_laws.proofs.laws.refusals_on_files_have_their_causes.Goals as goal
-
-pub returns : goal.returns
-returns c = λ it number refused. refusal-caused it.call it.inner it.files it.now it.process it.before it.after number it.result it.new it.attempted refused
