@@ -1,6 +1,6 @@
 //! Keys that arrive.
 
-ghost use Rattle.std.specs.Prelude.{◌≡◌, ◌-◌, ◌<◌, ◌≤◌, IsErr, IsOk, vec_len};
+ghost use Rattle.std.specs.Prelude.{◌≡◌, ◌-◌, ◌<◌, ◌≤◌, ◌||◌, false, None, Ok, IsErr, IsOk, vec_len};
 ghost use Rattle.os9_outer.specs.TerminalState.{terminal_states};
 ghost use Rattle.call_rules.specs.Inner.{Inner};
 ghost use Rattle.io_rules.specs.Arrivals.{after_key_signal, after_signal_to};
@@ -8,6 +8,7 @@ ghost use Rattle.key_arrivals.specs.Keys.{KeysArrive, KeysArriveAt, KeysArriveFr
 ghost use Rattle.proc_state.specs.Tie.{Represents};
 
 use device_table::devices::Devices;
+use io_model::path::Target;
 use io_state::state::IoState;
 use os9_base::call::OutOfMemory;
 use os9_base::registers::Pid;
@@ -20,7 +21,8 @@ const SUPERUSER: u16 = 0;
 /// The keys that are due at the tick of these processes arrive, at TERM, T1, T2 and T3 in this
 /// order (Level Two manual, SCF). After the poll of a terminal, the signal of its first key that
 /// sends one is sent to its last user. A driver that fails to give a key ends the poll of its
-/// terminal alone, and the key is not lost.
+/// terminal alone, and the key is not lost. The result is false only if nothing but the devices has
+/// changed: no key went into a type-ahead, and none sends a signal.
 ///
 /// # Errors
 ///
@@ -29,7 +31,7 @@ pub fn arrive_keys(
     s: &mut ProcState,
     io: &mut IoState,
     devices: &mut Devices,
-) -> Result<(), OutOfMemory>
+) -> Result<bool, OutOfMemory>
     requires { vec_len devices.old.terms ≤ 4 }
     ensures arrived { IsOk result → KeysArrive s.old io.old
         (terminal_states ⟦<dyn CharDriver as CharDriver>⟧ devices.old.terms.items) s.new io.new
@@ -37,6 +39,7 @@ pub fn arrive_keys(
     ensures broken { IsErr result → KeysBreak s.old io.old
         (terminal_states ⟦<dyn CharDriver as CharDriver>⟧ devices.old.terms.items) s.new io.new
         (terminal_states ⟦<dyn CharDriver as CharDriver>⟧ devices.new.terms.items) 0 }
+    ensures quiet { result ≡ Ok false → (s.new ≡ s.old) × (io.new ≡ io.old) }
     ensures tick { s.new.tick ≡ s.old.tick }
     ensures drives { devices.new.drives ≡ devices.old.drives }
     ensures count { vec_len devices.new.terms ≡ vec_len devices.old.terms }
@@ -50,7 +53,7 @@ fn arrive_from(
     io: &mut IoState,
     n: u8,
     devices: &mut Devices,
-) -> Result<(), OutOfMemory>
+) -> Result<bool, OutOfMemory>
     requires { vec_len devices.old.terms ≤ 4 }
     ensures arrived { IsOk result → KeysArriveFrom s.old io.old
         (terminal_states ⟦<dyn CharDriver as CharDriver>⟧ devices.old.terms.items) s.new io.new
@@ -59,17 +62,24 @@ fn arrive_from(
     ensures broken { IsErr result → KeysBreak s.old io.old
         (terminal_states ⟦<dyn CharDriver as CharDriver>⟧ devices.old.terms.items) s.new io.new
         (terminal_states ⟦<dyn CharDriver as CharDriver>⟧ devices.new.terms.items) n }
+    ensures quiet { result ≡ Ok false → (s.new ≡ s.old) × (io.new ≡ io.old) }
     ensures tick { s.new.tick ≡ s.old.tick }
     ensures drives { devices.new.drives ≡ devices.old.drives }
     ensures count { vec_len devices.new.terms ≡ vec_len devices.old.terms }
 {
     if n as usize >= devices.terms.len() {
-        return Ok(());
+        return Ok(false);
     }
-    match arrive_on(s, io, n, devices) {
-        Ok(()) => arrive_from(s, io, n + 1, devices),
-        Err(OutOfMemory) => Err(OutOfMemory),
-    }
+    let here = arrive_on(s, io, n, devices)?;
+    let later = arrive_from(s, io, n + 1, devices)?;
+    Ok(either(here, later))
+}
+
+/// Is one of them true?
+fn either(here: bool, later: bool) -> bool
+    ensures { result ≡ (here || later) }
+{
+    here || later
 }
 
 /// As `arrive_keys`, at one terminal.
@@ -78,7 +88,7 @@ fn arrive_on(
     io: &mut IoState,
     n: u8,
     devices: &mut Devices,
-) -> Result<(), OutOfMemory>
+) -> Result<bool, OutOfMemory>
     requires terminal { n < 4 }
     requires there { n < vec_len devices.old.terms }
     ensures arrived { IsOk result → KeysArriveAt s.old io.old
@@ -87,22 +97,34 @@ fn arrive_on(
     ensures broken { IsErr result → KeysBreakAt s.old io.old
         (terminal_states ⟦<dyn CharDriver as CharDriver>⟧ devices.old.terms.items) s.new io.new
         (terminal_states ⟦<dyn CharDriver as CharDriver>⟧ devices.new.terms.items) n }
+    ensures quiet { result ≡ Ok false → (s.new ≡ s.old) × (io.new ≡ io.old) }
     ensures tick { s.new.tick ≡ s.old.tick }
     ensures drives { devices.new.drives ≡ devices.old.drives }
     ensures count { vec_len devices.new.terms ≡ vec_len devices.old.terms }
 {
+    let before = io.ready_count(Target::Term(n));
     let answer = io.arrive(n, s.tick, devices);
     if !answer.memory {
         return Err(OutOfMemory);
     }
     send_to_user(s, io.last_user(n), answer.signal);
-    Ok(())
+    let now = io.ready_count(Target::Term(n));
+    Ok(has_changed(answer.signal, before, now))
+}
+
+/// Has a poll of a terminal changed more than its device, by its signal and by the number of keys
+/// in the type-ahead before it and after it?
+fn has_changed(signal: Option<u8>, before: u16, now: u16) -> bool
+    ensures { result ≡ false → (signal ≡ None) × (now ≡ before) }
+{
+    signal.is_some() || now != before
 }
 
 /// Sends the signal of a terminal to its last user, if it has both.
 fn send_to_user(s: &mut ProcState, user: Option<Pid>, signal: Option<u8>)
     ensures sent { (m : Inner) → Represents s.old m
         → Represents s.new (after_key_signal m user signal) }
+    ensures unsent { signal ≡ None → s.new ≡ s.old }
     ensures tick { s.new.tick ≡ s.old.tick }
 {
     match (user, signal) {

@@ -13,14 +13,15 @@ use Rattle.event_rules.specs.declared.ends.EventEnd.{EventEnd}
 use Rattle.event_rules.specs.Event.{cost_of}
 use Rattle.machine_model.specs.Event.{Acts, Event, cost}
 use Rattle.machine_model.specs.State.{State}
-use Rattle.wait_laws.specs.Running.{IsRunning}
+use Rattle.wake_laws.specs.Living.{IsRunOpen}
 use Rattle.os9_kernel.specs.declared.act.Act.{Act}
 use Rattle.os9_kernel.specs.declared.kernel.Kernel.{Kernel}
 use Rattle.os9_kernel.specs.Next.{DoesNext, act_in_machine, next_of}
 use Rattle.os9_kernel.specs.Outside.{Outside}
 use Rattle.os9_kernel.specs.Slice.{Instructions, last, more}
-use Rattle.os9_kernel.specs.Tie.{Represents, IsGoing}
-use Rattle.wait_laws.proofs.Events.{event-running}
+use Rattle.os9_kernel.specs.Tie.{Represents, IsGoing, IsKnown, IsLooked}
+use Rattle.wake_laws.proofs.OpenRuns.{event-open}
+use Rattle.os9_kernel.proofs.Looking.{looks_again, never-looked}
 use Rattle.os9_kernel.proofs.Represented.{act-tied}
 
 -- the process that was chosen does this next
@@ -30,10 +31,10 @@ does-next kernel p act chosen process (q, is, lives) next =
     record { chosen = chosen; process = process; lives = subst (λ (r : Pid). IsLiving kernel.processes.table r.0) same lives; next = next }
 
 -- instructions lead from a state of a run to one
-pub instructions-running : {count : ℕ} {s t : State} {end : EventEnd} → Instructions s count end t → IsRunning s → IsRunning t
-instructions-running (last {s = s} {t = t} {end = end} one event) running = event-running s t end event running
-instructions-running (more {s = s} {m = m} one event rest) running =
-    instructions-running rest (event-running s m EventEnd.Ran event running)
+pub instructions-open : {count : ℕ} {s t : State} {end : EventEnd} → Instructions s count end t → IsRunOpen s → IsRunOpen t
+instructions-open (last {s = s} {t = t} {end = end} one event) it = event-open s t end event it
+instructions-open (more {s = s} {m = m} one event rest) it =
+    instructions-open rest (event-open s m EventEnd.Ran event it)
 
 module _ (old : Kernel) (p : Pid) (act : Act) (next : DoesNext old p act) (before : Outside) (s : State) (tied : Represents old before s) where
   pub chosen-is : s.chosen ≡ Some p.0
@@ -56,12 +57,12 @@ module _ (old : Kernel) (p : Pid) (act : Act) (next : DoesNext old p act) (befor
   cost-is = rw (chosen-is, acts-so) refl
 
   -- the kernel then, with this clock and these terminals
-  pub represents-then : (new : Kernel) (after : Outside) (inner : Inner) (files : Files) (clock : Clock)
+  pub represents-then : (new : Kernel) → IsLooked new → IsKnown new → (after : Outside) (inner : Inner) (files : Files) (clock : Clock)
       (terms : List TerminalState) → new.chosen ≡ old.chosen → RepresentsProcesses new.processes inner
       → StandsFor new.files after.drives files → clock ≡ new.clock → terms ≡ after.terms
-      → IsRunning (record s { inner = inner; files = files; clock = clock; terms = terms }) → Represents new after
+      → IsRunOpen (record s { inner = inner; files = files; clock = clock; terms = terms }) → Represents new after
       (record s { inner = inner; files = files; clock = clock; terms = terms })
-  represents-then new after inner files clock terms same there stands clock_is terms_are running = record {
+  represents-then new looked known after inner files clock terms same there stands clock_is terms_are open_then = record {
     inner = there;
     files = stands;
     is =
@@ -72,30 +73,34 @@ module _ (old : Kernel) (p : Pid) (act : Act) (next : DoesNext old p act) (befor
           chosen = (chosen-is ∙ sym (ap (option_map (λ (p : Pid). p.0)) (same ∙ next.chosen))) i;
           terms = terms_are i;
         };
-    running = running;
+    run = open_then;
+    looked = looked;
+    known = known;
   }
 
   pub event-then : (new : Kernel) (after : Outside) (end : EventEnd) (inner : Inner) (files : Files) (clock : Clock)
       (terms : List TerminalState) → new.chosen ≡ old.chosen → RepresentsProcesses new.processes inner
-      → StandsFor new.files after.drives files → clock ≡ new.clock → terms ≡ after.terms → Acts (act_in_machine act) s
-      p.0 end (record s { inner = inner; files = files; clock = clock; terms = terms }) → (t : State) × Event s end t
-      × Represents new after t
-  event-then new after end inner files clock terms same there stands clock_is terms_are acts =
+      → StandsFor new.files after.drives files → clock ≡ new.clock → terms ≡ after.terms
+      → (Event s end (record s { inner = inner; files = files; clock = clock; terms = terms }) → IsKnown new)
+      → Acts (act_in_machine act) s p.0 end (record s { inner = inner; files = files; clock = clock; terms = terms })
+      → (t : State) × Event s end t
+      × Represents (looks_again new) after t
+  event-then new after end inner files clock terms same there stands clock_is terms_are known acts =
       let t : State = record s { inner = inner; files = files; clock = clock; terms = terms } in
       let event : Event s end t = (p.0, chosen-is, lives-there, subst (λ (a : MachineAct). Acts a s p.0 end t) (sym acts-so) acts) in
-      (t, event, represents-then new after inner files clock terms same there stands clock_is terms_are (event-running s t end event tied.running))
+      (t, event, represents-then (looks_again new) (never-looked new) (known event) after inner files clock terms same there stands clock_is terms_are (event-open s t end event tied.run))
 
   -- where the clock and the devices are as they were
-  pub represents-here : (new : Kernel) (inner : Inner) (files : Files) → new.chosen ≡ old.chosen
+  pub represents-here : (new : Kernel) → IsLooked new → IsKnown new → (inner : Inner) (files : Files) → new.chosen ≡ old.chosen
       → new.clock ≡ old.clock → RepresentsProcesses new.processes inner → StandsFor new.files before.drives files
-      → IsRunning (record s { inner = inner; files = files }) → Represents new before
+      → IsRunOpen (record s { inner = inner; files = files }) → Represents new before
       (record s { inner = inner; files = files })
-  represents-here new inner files same clock there stands running =
-      represents-then new before inner files s.clock s.terms same there stands (clock-is ∙ sym clock) terms-are running
+  represents-here new looked known inner files same clock there stands open_then =
+      represents-then new looked known before inner files s.clock s.terms same there stands (clock-is ∙ sym clock) terms-are open_then
 
   pub event-here : (new : Kernel) (end : EventEnd) (inner : Inner) (files : Files) → new.chosen ≡ old.chosen
       → new.clock ≡ old.clock → RepresentsProcesses new.processes inner → StandsFor new.files before.drives files
-      → Acts (act_in_machine act) s p.0 end (record s { inner = inner; files = files }) → (t : State) × Event s end t
-      × Represents new before t
-  event-here new end inner files same clock there stands acts =
-      event-then new before end inner files s.clock s.terms same there stands (clock-is ∙ sym clock) terms-are acts
+      → IsKnown new → Acts (act_in_machine act) s p.0 end (record s { inner = inner; files = files }) → (t : State) × Event s end t
+      × Represents (looks_again new) before t
+  event-here new end inner files same clock there stands known acts =
+      event-then new before end inner files s.clock s.terms same there stands (clock-is ∙ sym clock) terms-are (λ event. known) acts

@@ -16,8 +16,8 @@ use Rattle.io_dispatch.proofs.RunningCalls.{may-attempt}
 use Rattle.call_laws.proofs.Codes.{attempts-code}
 use Rattle.proc_state.specs.Tie.{Represents}
 use Rattle.proc_state.specs.declared.state.ProcState.{ProcState}
-use Rattle.touch_laws.proofs.Codes.{code-there}
-use Rattle.touch_laws.specs.Devices.{device_call}
+use Rattle.file_laws.proofs.Codes.{code-there}
+use Rattle.file_laws.specs.Devices.{device_call}
 use Rattle.file_dispatch.specs.Attempts.{MayAttempt, MayAttemptAs}
 use Rattle.file_rules.specs.Codes.{path_call_of}
 use Rattle.file_rules.specs.declared.path_call.PathCall.{PathCall}
@@ -75,4 +75,5 @@ pub may-attempt-here : (old : Kernel) (p : Pid) (code : ℕ) → DoesNext old p 
     → MayAttempt call old.processes old.files p.0 (length before.terms)
 may-attempt-here old p code next before s tied call is_call =
     subst (λ (terms : List TerminalState). MayAttempt call old.processes old.files p.0 (length terms)) (terms-are old p (Attempt code) next before s tied)
-    (may-attempt-call s p.0 code call tied.running (acts-so old p (Attempt code) next before s tied) is_call old.processes old.files next.process.1 tied.inner tied.files.io tied.files.records)
+    (may-attempt-call s p.0 code call tied.run.locked.state.running (acts-so old p (Attempt code) next before s tied)
+    is_call old.processes old.files next.process.1 tied.inner tied.files.io tied.files.records)

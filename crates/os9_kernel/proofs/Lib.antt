@@ -2,7 +2,6 @@ mod Acting
 mod Asking
 mod Calling
 pub mod Changing
-mod Choosing
 mod Columns
 mod Counting
 mod Delivering
@@ -10,6 +9,8 @@ mod Ending
 mod Executing
 pub mod Holding
 mod Loading
+mod Looking
+mod Marking
 mod PathCalls
 mod Pending
 pub mod Represented

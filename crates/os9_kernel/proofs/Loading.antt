@@ -31,7 +31,7 @@ use Rattle.file_rules.specs.Load.{GoesOnLoaded, Loaded, LoadAttempts, links_firs
 use Rattle.file_rules.specs.Processes.{files_started}
 use Rattle.file_rules.specs.ProgramFile.{ProgramFile}
 use Rattle.file_state.specs.Attempt.{Standing}
-use Rattle.touch_laws.proofs.Loads.{fork-leaves}
+use Rattle.file_laws.proofs.Loads.{fork-leaves}
 use Rattle.machine_model.specs.Services.{Serves, files_after_fork, service_of, with_files}
 use Rattle.machine_model.specs.State.{State}
 use Rattle.wait_laws.proofs.Loads.{Child, chain-over, fork-over, load-over}

@@ -7,7 +7,7 @@ use Rattle.os9_outer.specs.TerminalState.{TerminalState}
 use Rattle.proc_rules.specs.declared.record.Record.{Record}
 use Rattle.proc_rules.specs.Records.{IsLiving}
 use Rattle.proc_calls.specs.Telling.{LivesOn}
-use Rattle.call_rules.specs.Attempts.{after_attempt}
+use Rattle.call_rules.specs.Attempts.{after_attempt, attempt_end}
 use Rattle.call_rules.specs.CallResult.{CallResult}
 use Rattle.call_rules.specs.Inner.{Inner}
 use Rattle.io_rules.specs.Attempts.{result_by, result_of}
@@ -32,17 +32,17 @@ use Rattle.os9_kernel.specs.Tie.{Represents}
 
 -- paths and directories are on what is there
 pub is-sound : (old : Kernel) (before : Outside) (s : State) → Represents old before s → IsSound old.files before.drives
-is-sound old before s tied = record { files = s.files; stands = tied.files; kinds = tied.running.kinds }
+is-sound old before s tied = record { files = s.files; stands = tied.files; kinds = tied.run.locked.state.running.kinds }
 
 -- the clock was set to a civil time, and not after this tick
 pub is-clock : (old : Kernel) (before : Outside) (s : State) → Represents old before s → IsClock old.clock old.processes.tick
 is-clock old before s tied =
     subst (λ (clock : Clock). IsClock clock old.processes.tick) (ap (λ (s : State). s.clock) tied.is)
-    (subst (λ (tick : ℕ). IsClock s.clock tick) (ap (λ (m : Inner). m.tick) tied.inner.is) tied.running.clock)
+    (subst (λ (tick : ℕ). IsClock s.clock tick) (ap (λ (m : Inner). m.tick) tied.inner.is) tied.run.locked.state.running.clock)
 
 -- it shows a time
 pub some-time : (old : Kernel) (before : Outside) (s : State) → Represents old before s → (now : TimePacket) × IsNow s.clock s.inner.tick now
-some-time old before s tied = later-packet s.clock.from (seconds_since s.clock s.inner.tick) tied.running.clock.civil
+some-time old before s tied = later-packet s.clock.from (seconds_since s.clock s.inner.tick) tied.run.locked.state.running.clock.civil
 
 -- and that one is the machine's
 pub now-here : (old : Kernel) (before : Outside) (s : State) → Represents old before s → (now : TimePacket) → IsNow old.clock old.processes.tick now → IsNow s.clock s.inner.tick now
@@ -98,3 +98,25 @@ pub attempt-tick : (call : PathCall) (m : Inner) (files : Files) (now : TimePack
     → (after_attempt m p result).tick ≡ m.tick
 attempt-tick call m files now p result new before after it =
     ap (λ (result : CallResult). (after_attempt m p result).tick) it.result_is ∙ effect-tick m p (io_effect it.effect)
+
+-- it does not end its process, and memory is there
+effect-ends : (m : Inner) (p : ℕ) (effect : IoEffect) (end : CallEnd) → end ≡ attempt_end (result_of m p effect) → (end ≢ Ended) × (end ≢ NoMemory)
+effect-ends m p effect = by_end effect.end
+  where
+    by_end : (left : IoEnd) (end : CallEnd) → end ≡ attempt_end (result_by left m p effect) → (end ≢ Ended) × (end ≢ NoMemory)
+    by_end (answers regs) end is = (λ out. cc, λ out. cc)
+    by_end (fails number) end is = (λ out. cc, λ out. cc)
+    by_end (keeps kept) end is = (λ out. cc, λ out. cc)
+
+-- so its process lives then
+pub path-lives : (end : CallEnd) (call : PathCall) (m : Inner) (files : Files) (now : TimePacket) (p : ℕ) (result : CallResult)
+    (new : Files) (before after : List TerminalState) → FileAttempts call m files now p result new before after
+    → end ≡ attempt_end result → (records : List (Option Record)) → LivesOn end records p → IsLiving records p
+path-lives end call m files now p result new before after it is records = by end (effect-ends m p (io_effect it.effect) end (is ∙ ap attempt_end it.result_is))
+  where
+    by : (end : CallEnd) → (end ≢ Ended) × (end ≢ NoMemory) → LivesOn end records p → IsLiving records p
+    by Done other lives = lives
+    by (Error number) other lives = lives
+    by Wait other lives = lives
+    by Ended other lives = absurd (other.0 refl)
+    by NoMemory other lives = absurd (other.1 refl)

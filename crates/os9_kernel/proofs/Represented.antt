@@ -12,7 +12,7 @@ use Rattle.proc_state.specs.declared.state.ProcState.{ProcState}
 use Rattle.proc_state.specs.Tie.{Represents}
 use Rattle.event_rules.specs.Console.{terminals_emptied}
 use Rattle.machine_model.specs.State.{State}
-use Rattle.wait_laws.proofs.RunningLaws.{emptied-running}
+use Rattle.wake_laws.proofs.OpenRuns.{emptied-open}
 use Rattle.os9_kernel.specs.declared.kernel.Kernel.{Kernel}
 use Rattle.os9_kernel.specs.Next.{next_of}
 use Rattle.os9_kernel.specs.Outside.{Outside}
@@ -56,10 +56,12 @@ represents-emptied kernel devices s tied = record {
   inner = tied.inner;
   files = tied.files;
   is = λ i. record (tied.is i) { terms = terminals_emptied (tied.is i).terms };
-  running = emptied-running s tied.running;
+  run = emptied-open s tied.run;
+  looked = tied.looked;
+  known = tied.known;
 }
 
 -- the instructions that were counted are nothing of the state
 pub represents-counted : (kernel : Kernel) (executed : ℕ) (devices : Outside) (s : State) → RepresentsState kernel devices s → RepresentsState (record kernel { executed = executed }) devices s
 represents-counted kernel executed devices s tied =
-    record { inner = tied.inner; files = tied.files; is = tied.is; running = tied.running }
+    record { inner = tied.inner; files = tied.files; is = tied.is; run = tied.run; looked = tied.looked; known = tied.known }

@@ -6,7 +6,7 @@ use Rattle.lock_model.specs.Records.{Records, with_waiting}
 use Rattle.file_rules.specs.Files.{Files, no_directories, with_directories_of, with_io, with_records}
 use Rattle.file_rules.specs.Locking.{files_interrupted}
 use Rattle.file_rules.specs.Processes.{files_ended, without_locks_of}
-use Rattle.touch_laws.proofs.Requests.{forgets-again}
+use Rattle.file_laws.proofs.Requests.{forgets-again}
 use Rattle.os9_kernel.proofs.Ending.{ended-interrupted}
 
 -- the end of a process whose call was broken off is its end

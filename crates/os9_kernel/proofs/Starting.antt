@@ -17,7 +17,7 @@ use Rattle.os9_kernel.specs.declared.kernel.Kernel.{Kernel}
 use Rattle.os9_kernel.specs.declared.new.Config.{Config}
 use Rattle.os9_kernel.specs.Outside.{Outside}
 use Rattle.os9_kernel.specs.Starting.{IsStarted, boot_of}
-use Rattle.wait_laws.proofs.RunningLaws.{start-running}
+use Rattle.wake_laws.proofs.OpenRuns.{start-open}
 
 -- the processes are those of a machine that starts
 abbrev pub ProcessesStart : List ℕ → ℕ → ProcState → Type 0
@@ -25,9 +25,9 @@ ProcessesStart file blocks processes = (m : Inner) × StartsProcesses file block
 
 pub kernel-starts : (config : Config) (file : List ℕ) (images : List (List ℕ)) (after : Outside) (kernel : Kernel)
     → ProcessesStart file config.blocks kernel.processes → StartedOn images kernel.files after.drives
-    → kernel.clock ≡ first_clock config.time → kernel.chosen ≡ None → is_time_packet config.time ≡ true
+    → kernel.clock ≡ first_clock config.time → kernel.chosen ≡ None → kernel.looked_until ≡ 0 → kernel.known.until ≡ 0 → is_time_packet config.time ≡ true
     → 0 < length after.terms → length after.terms ≤ 4 → IsStarted config file images after kernel
-kernel-starts config file images after kernel processes on clock none civil some few =
+kernel-starts config file images after kernel processes on clock none again none_known civil some few =
     let (was, begins, there) = processes in
     let m : Inner = only_process begins.memory (first_start begins.number begins.entry) in
     let s : State = record { inner = m; files = on.was; clock = first_clock config.time; chosen = None; terms = after.terms } in
@@ -56,7 +56,9 @@ kernel-starts config file images after kernel processes on clock none civil some
           chosen = option_map (λ (p : Pid). p.0) (sym none i);
           terms = after.terms;
         };
-        running = start-running (boot_of config file images after) s starts some few civil;
+        run = start-open (boot_of config file images after) s starts some few civil;
+        looked = λ tick from below. absurd (omega (arith, again, below));
+        known = λ tick p cause from below. absurd (omega (arith, none_known, below));
       },
     )
 

@@ -1,5 +1,5 @@
 -- A tick of the kernel is one of the machine.
-use Rattle.std.proofs.Common.{◌≡◌, ℕ, ◌+◌, List, refl, sym, ap, subst, arith}
+use Rattle.std.proofs.Common.{◌≡◌, ℕ, ◌+◌, Bool, List, refl, sym, ap, subst, arith}
 use Rattle.os9_outer.specs.TerminalState.{TerminalState}
 use Rattle.call_rules.specs.Inner.{Inner}
 use Rattle.io_rules.specs.Arrivals.{Arrivals, ArrivesFrom, Desk}
@@ -12,12 +12,16 @@ use Rattle.file_rules.specs.Files.{with_io}
 use Rattle.file_state.proofs.StateLemmas.{stands-with_io}
 use Rattle.file_state.specs.Tie.{StandsFor}
 use Rattle.file_state.specs.declared.state.FileState.{FileState}
+use Rattle.process_choice.specs.Active.{AreActiveAt}
 use Rattle.machine_model.specs.Run.{BreaksTick, Tick, desk_of}
 use Rattle.machine_model.specs.State.{State}
 use Rattle.os9_kernel.specs.declared.kernel.Kernel.{Kernel}
 use Rattle.os9_kernel.specs.Outside.{Outside}
-use Rattle.os9_kernel.specs.Tie.{Represents, ticks}
-use Rattle.wait_laws.proofs.RunningLaws.{tick-running}
+use Rattle.os9_kernel.specs.Tie.{IsKnown, IsLooked, Represents, ticks}
+use Rattle.os9_kernel.specs.declared.marks.Known.{Known}
+use Rattle.os9_kernel.proofs.Looking.{looked-next}
+use Rattle.os9_kernel.proofs.Marking.{known-later}
+use Rattle.wake_laws.proofs.OpenRuns.{tick-open}
 
 -- the kernel's files with this input and output
 abbrev pub with_keys : FileState → Io → FileState
@@ -41,19 +45,22 @@ module _ (old : Kernel) (before : Outside) (s : State) (tied : Represents old be
   desk-is = λ i. record { inner = raised; io = sym tied.files.io i; terms = terms-are i }
 
   -- the kernel then, with these processes and this input and output
-  abbrev then : ProcState → Io → Kernel
-  then processes io = record {
+  abbrev pub then : ProcState → Io → ℕ → Known → Kernel
+  then processes io until known = record {
     processes = processes;
     files = with_keys old.files io;
     clock = old.clock;
     chosen = old.chosen;
     executed = old.executed;
+    looked_until = until;
+    known = known;
   }
 
-  pub tick-then : (processes : ProcState) (io : Io) (after : Outside) (next : Inner) → after.drives ≡ before.drives
+  pub tick-then : (processes : ProcState) (io : Io) (until : ℕ) (known : Known) → IsLooked (then processes io until known)
+      → IsKnown (then processes io until known) → (after : Outside) (next : Inner) → after.drives ≡ before.drives
       → Arrivals (ticks old + 1) (desk raised old.files.io before.terms) (desk next io after.terms)
-      → RepresentsProcesses processes next → (t : State) × Tick s t × Represents (then processes io) after t
-  tick-then processes io after next drives arrives there =
+      → RepresentsProcesses processes next → (t : State) × Tick s t × Represents (then processes io until known) after t
+  tick-then processes io until known looked is_known after next drives arrives there =
       let here : Desk = desk next io after.terms in
       let arrivals : Arrivals (s.inner.tick + 1) (desk_of s) here = subst (λ n. Arrivals n (desk_of s) here) tick-is (subst (λ (from : Desk). Arrivals (ticks old + 1) from here) desk-is arrives) in
       let t : State = record s { inner = next; files = with_io s.files io; terms = after.terms } in
@@ -71,9 +78,23 @@ module _ (old : Kernel) (before : Outside) (s : State) (tied : Represents old be
             chosen = (tied.is i).chosen;
             terms = after.terms;
           };
-          running = tick-running s t ticked tied.running;
+          run = tick-open s t ticked tied.run;
+          looked = looked;
+          known = is_known;
         },
       )
+
+  -- without keys what is known is known at the next tick
+  module _ (processes : ProcState) (io : Io) (one : processes.tick ≡ ticks old + 1) (same_io : io ≡ old.files.io) where
+    pub looked-after : (between : ProcState) → processes ≡ between
+        → ((may : ℕ → Bool) (tick : ℕ) → AreActiveAt may tick old.processes → AreActiveAt may tick between)
+        → IsLooked (then processes io old.looked_until old.known)
+    looked-after between is same =
+        looked-next old (then processes io old.looked_until old.known) refl (ap (with_keys old.files) same_io) one
+        (λ may tick active. subst (λ (state : ProcState). AreActiveAt may tick state) (sym is) (same may tick active)) tied.looked
+
+    pub known-after-tick : IsKnown (then processes io old.looked_until old.known)
+    known-after-tick = known-later old (then processes io old.looked_until old.known) refl same_io refl (omega (arith, one)) tied.known
 
   pub tick-breaks : (polled : ℕ) (between : Desk) (now : Io) (after : List TerminalState)
       → ArrivesFrom (ticks old + 1) 0 polled (desk raised old.files.io before.terms) between

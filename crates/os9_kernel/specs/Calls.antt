@@ -46,8 +46,8 @@ pub record HasEvent (old new : Kernel) (before after : Outside) (end : EventEnd)
     pub calls : CallsWithin old before after
     pub images : KeepsUnasked old before after
 
--- Memory is out in a slice of `n` instructions: its tick is broken off, or the event after its first ones. The drives
--- hold the volumes of that state.
+-- Memory is out in a slice of `n` instructions: its tick is broken off, and the drives hold the volumes of the state,
+-- or the event after its first ones is broken off.
 abbrev pub StopsSlice : ℕ → State → Outside → Type 0
 StopsSlice n s after =
     (BreaksTick s after.terms × HoldsVolumes s after.drives)

@@ -5,6 +5,8 @@ pub mod Changes
 pub mod DriverCalls
 pub mod Ends
 pub mod Loads
+pub mod Looks
+pub mod Marks
 pub mod Next
 pub mod Outside
 pub mod Paths

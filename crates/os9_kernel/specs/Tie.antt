@@ -1,18 +1,38 @@
 -- The relation of the running kernel to the abstract machine.
-use Rattle.std.specs.Prelude.{◌≡◌, ℕ, ◌+◌, ◌*◌, is_some, Bool, true, false, Option, Some, None, option_map, slice_index_or}
+use Rattle.std.specs.Prelude.{◌≡◌, ◌<◌, ◌≤◌, ℕ, ◌+◌, ◌*◌, is_some, Bool, true, false, Option, Some, None, option_map, slice_index_or}
 use Rattle.os9_base.specs.declared.registers.Pid.{Pid}
 use Rattle.proc_rules.specs.Records.{IsLiving, record_at}
 use Rattle.call_rules.specs.Inner.{no_own}
+use Rattle.call_rules.specs.IoReady.{has_io}
+use Rattle.os9_sched.specs.declared.member.Cause.{Cause}
+use Rattle.file_rules.specs.Locking.{wait_cause}
 use Rattle.proc_state.specs.declared.state.ProcState.{ProcState}
 use Rattle.proc_state.specs.Tie.{Represents as RepresentsProcesses}
 use Rattle.file_state.specs.Tie.{StandsFor}
 use Rattle.machine_model.specs.State.{State}
-use Rattle.wait_laws.specs.Running.{IsRunning}
+use Rattle.wake_laws.specs.Living.{IsRunOpen}
+use Rattle.process_choice.specs.Active.{AreActiveAt}
+use Rattle.os9_kernel.specs.Looks.{may_go_in}
+use Rattle.os9_kernel.specs.Marks.{Concerns}
 use Rattle.os9_kernel.specs.Outside.{Outside}
 use Rattle.os9_kernel.specs.declared.kernel.Kernel.{Kernel}
 
+-- In each tick before the one that the kernel keeps, exactly the Ready processes are active, if nothing but the tick
+-- changes until then.
+abbrev pub IsLooked : Kernel → Type 0
+IsLooked kernel = (tick : ℕ) → kernel.processes.tick ≤ tick → tick < kernel.looked_until
+    → AreActiveAt (may_go_in kernel.files tick) tick kernel.processes
+
+-- In each tick before another one that the kernel keeps, it is known of each waiting call on a path whether it may go
+-- on, if nothing but the tick changes until then. Of those whom the marks concern nothing is known.
+abbrev pub IsKnown : Kernel → Type 0
+IsKnown kernel =
+    (tick p : ℕ) (cause : Cause) → kernel.processes.tick ≤ tick → tick < kernel.known.until → p < 33
+    → wait_cause kernel.files.io kernel.files.records.locks p ≡ Some cause → ¬ Concerns kernel.known.marks p cause
+    → has_io kernel.known.ready p ≡ may_go_in kernel.files tick p
+
 -- A kernel and its devices represent a state: its processes and its files are those of the machine, everything else is
--- equal, and it is a state of a run.
+-- equal, it is a state of a run, and what the kernel knows of those who are Ready is so.
 pub record Represents (kernel : Kernel) (devices : Outside) (s : State) : Type 0 where
   pub inner : RepresentsProcesses kernel.processes s.inner
   pub files : StandsFor kernel.files devices.drives s.files
@@ -24,7 +44,9 @@ pub record Represents (kernel : Kernel) (devices : Outside) (s : State) : Type 0
         chosen = option_map (λ (p : Pid). p.0) kernel.chosen;
         terms = devices.terms;
       }
-  pub running : IsRunning s
+  pub run : IsRunOpen s
+  pub looked : IsLooked kernel
+  pub known : IsKnown kernel
 
 -- a kernel with these devices represents a state
 abbrev pub Stands : Kernel → Outside → Type 0

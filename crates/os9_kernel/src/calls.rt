@@ -12,10 +12,11 @@ ghost use Rattle.os9_kernel.specs.Next.{DoesNext};
 ghost use Rattle.os9_kernel.specs.Outside.{Outside};
 ghost use Rattle.os9_kernel.specs.Paths.{files_then};
 ghost use Rattle.os9_kernel.specs.Services.{IsPlain};
-ghost use Rattle.os9_kernel.specs.Tie.{HasState, executed, pending};
+ghost use Rattle.os9_kernel.specs.Tie.{HasState, IsKnown, executed, pending};
 
 use crate::act::Act;
 use crate::kernel::Kernel;
+use crate::marks::Marks;
 use call_rules::proc_call::ProcCall;
 use event_rules::ends::EventEnd;
 use os9_base::call::CallEnd;
@@ -35,6 +36,7 @@ impl Kernel {
     {
         let end = call_dispatch::attempt(&mut self.processes, p, call);
         self.follow(p, end);
+        self.looked_until = 0;
         event_end(end)
     }
 
@@ -46,12 +48,16 @@ impl Kernel {
             → StandsFor self.old.files views files
             → StandsFor self.new.files views (files_then end files p.0) }
         ensures processes { self.new.processes ≡ self.old.processes }
+        ensures known { IsKnown self.old → IsKnown self.new }
         ensures clock { self.new.clock ≡ self.old.clock }
         ensures chosen { self.new.chosen ≡ self.old.chosen }
         ensures executed { executed self.new ≡ executed self.old }
     {
         match end {
-            CallEnd::Ended => self.files.end(p),
+            CallEnd::Ended => {
+                self.files.end(p);
+                self.known.marks = Marks::Everyone;
+            }
             CallEnd::Done | CallEnd::Error(_) | CallEnd::Wait | CallEnd::NoMemory => {}
         }
     }
@@ -65,6 +71,7 @@ impl Kernel {
         ensures executed { executed self.new ≡ executed self.old }
     {
         self.processes.refuse(p, E_UNKSVC);
+        self.looked_until = 0;
         EventEnd::Ran
     }
 }

@@ -8,6 +8,7 @@ ghost use Rattle.os9_kernel.specs.Tie.{Stands, executed, pending};
 
 use crate::act::Act;
 use crate::kernel::Kernel;
+use crate::marks::Marks;
 use crate::service::{Service, service_by_code};
 use crate::turn::Turn;
 use cpu6809::Stop;
@@ -17,6 +18,7 @@ use os9_base::call::CallEnd;
 use os9_base::registers::Pid;
 use os9_outer::drive::BlockDriver;
 use os9_outer::terminal::CharDriver;
+use process_choice::regs::set_regs;
 
 impl Kernel {
     /// An attempt of the call of the chosen process, with this code.
@@ -53,6 +55,8 @@ impl Kernel {
         ensures executed { executed self.new ≡ executed self.old }
     {
         self.break_off(p);
+        self.looked_until = 0;
+        self.known.marks = Marks::Everyone;
         match self.processes.deliver(p) {
             CallEnd::Ended => {
                 self.files.end(p);
@@ -91,7 +95,7 @@ impl Kernel {
     {
         let mut regs = self.processes.regs(p);
         let ran = self.processes.memory.run(p, &mut regs, most);
-        self.processes.set_regs(p, regs);
+        set_regs(&mut self.processes, p, regs);
         match ran.stop {
             Stop::Next => Turn {
                 count: ran.followed,
@@ -99,6 +103,7 @@ impl Kernel {
             },
             Stop::Call(code) => {
                 self.begin_call(p, code);
+                self.looked_until = 0;
                 Turn {
                     count: ran.followed + 1,
                     end: EventEnd::Ran,
@@ -106,6 +111,8 @@ impl Kernel {
             }
             Stop::Abort(status) => {
                 self.end_process(p, status);
+                self.looked_until = 0;
+                self.known.marks = Marks::Everyone;
                 Turn {
                     count: ran.followed + 1,
                     end: EventEnd::Ended,

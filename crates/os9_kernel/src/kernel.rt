@@ -1,13 +1,16 @@
 ghost use Rattle.std.specs.Prelude.{◌≡◌, ◌<◌, ◌+◌, ◌^◌, IfSome, option_map, vec_len};
 ghost use Rattle.event_rules.specs.State.{living_count};
+ghost use Rattle.file_rules.specs.Locking.{files_may_go};
 ghost use Rattle.machine_model.specs.Event.{cost};
 ghost use Rattle.machine_model.specs.State.{State};
 ghost use Rattle.machine_model.specs.Run.{Choose};
 ghost use Rattle.os9_kernel.specs.Calls.{HasEvent, HasSlice, HasTick};
 ghost use Rattle.os9_kernel.specs.Outside.{OnDevices, Outside, outside};
 ghost use Rattle.os9_kernel.specs.Tie.{Represents, Stands, IsGoing, executed, ticks};
+ghost use Rattle.process_choice.specs.Active.{AreActiveAt};
 
 use crate::act::Act;
+use crate::marks::{Known, Marks};
 use device_table::devices::Devices;
 use event_rules::ends::{EventEnd, SliceEnd};
 use file_state::state::FileState;
@@ -18,6 +21,7 @@ use os9_base::registers::Pid;
 use os9_outer::drive::BlockDriver;
 use os9_outer::terminal::CharDriver;
 use proc_state::state::ProcState;
+use process_choice::choice::dispatch;
 use time_rules::clock::Clock;
 
 /// The kernel and the processes that it runs.
@@ -31,6 +35,11 @@ pub struct Kernel {
     pub(crate) chosen: Option<Pid>,
     /// The instructions that it has executed since it was chosen.
     pub(crate) executed: u32,
+    /// The tick before which exactly the Ready processes are active, unless something else than
+    /// the tick changes; 0 to look at each of them again.
+    pub(crate) looked_until: u32,
+    /// Whose waiting calls on paths may go on, as far as it is known.
+    pub(crate) known: Known,
 }
 
 impl Kernel {
@@ -70,20 +79,31 @@ impl Kernel {
         ensures drives { vec_len devices.new.drives ≡ vec_len devices.old.drives }
     {
         self.processes.tick += 1;
-        arrive_keys(&mut self.processes, &mut self.files.io, devices)
+        match arrive_keys(&mut self.processes, &mut self.files.io, devices) {
+            Ok(true) => {
+                self.looked_until = 0;
+                self.known.marks = Marks::Everyone;
+                Ok(())
+            }
+            Ok(false) => Ok(()),
+            Err(OutOfMemory) => Err(OutOfMemory),
+        }
     }
 
-    /// Chooses a Ready process; None if and only if no process is Ready.
+    /// Chooses a Ready process; None if and only if no process is Ready. No wake is lost: exactly
+    /// the Ready processes are active. They are looked at again only if that may have changed.
     pub fn choose(&mut self) -> Option<Pid>
         ensures step { (devices : Outside) (s : State) → Represents self.old devices s
             → (t : State) × Choose s t × Represents self.new devices t
             × (option_map (λ p. p.0) result ≡ t.chosen) }
+        ensures active { (devices : Outside) (s : State) → Represents self.old devices s
+            → AreActiveAt (files_may_go s.files s.inner.tick) s.inner.tick self.new.processes }
         ensures going { IfSome result (λ p. IsGoing self.new) }
         ensures count { ticks self.new ≡ ticks self.old }
         ensures executed { executed self.new ≡ 0 }
     {
-        let ready = self.files.ready_set(self.processes.tick);
-        self.chosen = self.processes.choose(&ready);
+        self.look();
+        self.chosen = dispatch(&mut self.processes);
         self.executed = 0;
         self.chosen
     }
@@ -92,7 +112,8 @@ impl Kernel {
     /// delivery of a pending signal, a further attempt, or an instruction. The process goes on if
     /// the result is `Ran`. Each drive is called at most as often as that attempt may call it, and
     /// never in another event; an image changes only if the attempt asks for that. After `NoMemory`
-    /// the kernel is not used any more, and the drives hold the volumes of the state before.
+    /// the kernel is not used any more. The drives hold the volumes of the state before, or those
+    /// after the attempt if memory was out for its entry in the history.
     pub fn event(&mut self, devices: &mut Devices) -> EventEnd
         requires going { IsGoing self.old }
         requires stands { Stands self.old
@@ -118,7 +139,7 @@ impl Kernel {
     /// A slice: the tick rises and the keys that are due arrive, a Ready process is chosen, and it
     /// has its events until it has executed `n` instructions, waits or has ended. The result is
     /// `Idle` if and only if no process is Ready. After `NoMemory` the kernel is not used any more,
-    /// and the drives hold the volumes of the state before the event that found no memory.
+    /// and the drives hold what the tick or the event that found no memory left.
     pub fn slice(&mut self, n: u32, devices: &mut Devices) -> SliceEnd
         requires tick { ticks self.old < LAST_TICK }
         requires stands { Stands self.old

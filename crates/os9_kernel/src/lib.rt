@@ -11,6 +11,8 @@ mod calls;
 mod event;
 mod kernel;
 mod load;
+mod look;
+mod marks;
 mod new;
 mod path_call;
 mod process;

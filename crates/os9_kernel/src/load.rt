@@ -19,6 +19,7 @@ ghost use Rattle.os9_kernel.specs.Tie.{Stands, executed, pending};
 use crate::act::Act;
 use crate::calls::event_end;
 use crate::kernel::Kernel;
+use crate::marks::Marks;
 use crate::service::LoadCall;
 use device_table::devices::Devices;
 use event_rules::ends::EventEnd;
@@ -55,6 +56,8 @@ impl Kernel {
         let end = self.try_load(p, call, devices);
         self.begin(p, call, end);
         self.tell_end(p, end);
+        self.looked_until = 0;
+        self.known.marks = Marks::Everyone;
         event_end(end)
     }
 

@@ -8,6 +8,8 @@ ghost use Rattle.os9_kernel.specs.Outside.{OnDevices};
 ghost use Rattle.os9_kernel.specs.Starting.{KernelStarts, WhereRefused};
 
 use crate::kernel::Kernel;
+use crate::marks::{Known, Marks};
+use call_rules::io_ready::IoReady;
 use device_table::devices::Devices;
 use event_rules::ends::BootFault;
 use file_start::fault::StartFault;
@@ -86,6 +88,12 @@ impl Kernel {
                         clock,
                         chosen: None,
                         executed: 0,
+                        looked_until: 0,
+                        known: Known {
+                            ready: IoReady::none(),
+                            until: 0,
+                            marks: Marks::Everyone,
+                        },
                     })
                 }
             },

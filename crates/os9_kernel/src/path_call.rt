@@ -9,12 +9,20 @@ ghost use Rattle.call_rules.specs.Inner.{Inner};
 ghost use Rattle.file_dispatch.specs.Dates.{sets_date as sets_date_lem};
 ghost use Rattle.file_state.specs.Attempt.{records_settled};
 ghost use Rattle.machine_model.specs.Services.{on_paths, service_of};
+ghost use Rattle.file_rules.specs.Attempts.{asker_of};
+ghost use Rattle.file_rules.specs.Files.{Asker};
+ghost use Rattle.io_model.specs.Path.{ArePaths};
+ghost use Rattle.os9_base.specs.declared.registers.TimePacket.{TimePacket as TimePacketModel};
 ghost use Rattle.os9_kernel.specs.Calls.{HasEvent};
 ghost use Rattle.os9_kernel.specs.Causes.{awaited};
+ghost use Rattle.os9_kernel.specs.Marks.{named_cause};
 ghost use Rattle.os9_kernel.specs.Next.{DoesNext};
 ghost use Rattle.os9_kernel.specs.Outside.{OnDevices, outside};
 ghost use Rattle.os9_kernel.specs.Tie.{Stands, executed, pending};
+ghost use Rattle.proc_rules.specs.Records.{IsLiving};
 ghost use Rattle.time_rules.specs.Clock.{IsClock, IsNow};
+ghost use Rattle.file_laws.specs.Devices.{number_in as number_in_lem};
+ghost use Rattle.wake_laws.specs.Touches.{cause_on as cause_on_lem};
 
 use crate::act::Act;
 use crate::calls::event_end;
@@ -23,8 +31,10 @@ use device_table::devices::Devices;
 use event_rules::ends::EventEnd;
 use file_dispatch::calls::{attempt, sets_date};
 use file_rules::path_call::PathCall;
+use io_model::path::Target;
+use io_rules::modes::STANDARD_ERROR;
 use os9_base::call::CallEnd;
-use os9_base::registers::{Pid, TimePacket};
+use os9_base::registers::{Pid, Regs, TimePacket};
 use os9_outer::drive::BlockDriver;
 use os9_outer::terminal::CharDriver;
 use os9_sched::{Cause, Wait};
@@ -60,11 +70,28 @@ impl Kernel {
         ensures terminals { vec_len devices.new.terms ≡ vec_len devices.old.terms }
         ensures drives { vec_len devices.new.drives ≡ vec_len devices.old.drives }
     {
+        let cause = self.cause_named(p, call);
         let time = self.time_for(call);
         let end = attempt(&mut self.processes, &mut self.files, p, call, time, devices);
         forget_request(&mut self.files.records, p, end);
         self.tell_end(p, end);
+        self.looked_until = 0;
+        self.known.marks = self.known.marks.add(p, cause);
         event_end(end)
+    }
+
+    /// What calls wait for on the path that a call of a process names by its number.
+    fn cause_named(&self, p: Pid, call: PathCall) -> Option<Cause>
+        requires { IsLiving self.now.processes.table p.0 }
+        ensures is { (m : Inner) (now : TimePacketModel) → Represents self.now.processes m
+            → result ≡ named_cause self.now.files.io p.0 (number_in_lem call (asker_of m p.0 now)) }
+        ensures paths { ArePaths self.now.files.io.paths }
+    {
+        // Each path that a number names is there.
+        prove!(self.files.io.kept(p).is_none() || self.files.io.kept(p).is_some());
+        let number = number_in(call, self.processes.regs(p));
+        let (_, desc) = self.files.io.open_path(p, number)?;
+        cause_on(desc.target)
     }
 
     /// The time for a call that sets a date. For any other call, any time is right.
@@ -91,6 +118,7 @@ impl Kernel {
         ensures waits { end ≡ CallEnd.Wait → IfSome (awaited self.old.files p.0)
             (λ wait. WaitsFor self.old.processes self.new.processes p.0 wait) }
         ensures files { self.new.files ≡ self.old.files }
+        ensures known { self.new.known ≡ self.old.known }
         ensures clock { self.new.clock ≡ self.old.clock }
         ensures chosen { self.new.chosen ≡ self.old.chosen }
         ensures executed { executed self.new ≡ executed self.old }
@@ -108,5 +136,28 @@ fn forget_request(records: &mut Records, p: Pid, end: CallEnd)
     match end {
         CallEnd::Wait => {}
         CallEnd::Done | CallEnd::Error(_) | CallEnd::Ended | CallEnd::NoMemory => records.cancel(p),
+    }
+}
+
+/// The number of a path that a call takes.
+fn number_in(call: PathCall, regs: Regs) -> u8
+    ensures { (asker : Asker) → asker.caller.regs ≡ regs → number_in_lem call asker ≡ result }
+{
+    match call {
+        PathCall::PErr => STANDARD_ERROR,
+        _ => regs.a,
+    }
+}
+
+/// What calls wait for on this: a key of a terminal, bytes or room of a pipe, or a record of a
+/// file.
+fn cause_on(target: Target) -> Option<Cause>
+    ensures { result ≡ cause_on_lem target }
+{
+    match target {
+        Target::File(drive, number) => Some(Cause::Lock(drive, number)),
+        Target::Folder(_, _) => None,
+        Target::Term(terminal) => Some(Cause::Term(terminal)),
+        Target::Pipe(pipe) => Some(Cause::Pipe(pipe)),
     }
 }

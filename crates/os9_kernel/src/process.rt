@@ -29,6 +29,7 @@ impl Kernel {
         ensures records { self.new.processes.table ≡ self.old.processes.table }
         ensures count { self.new.processes.tick ≡ self.old.processes.tick }
         ensures executed { executed self.new ≡ executed self.old }
+        ensures known { self.new.known ≡ self.old.known }
         ensures files { self.new.files ≡ self.old.files }
         ensures clock { self.new.clock ≡ self.old.clock }
     {

@@ -27,6 +27,7 @@ impl Kernel {
     {
         let end = attempt(&mut self.processes, &mut self.clock, p, call);
         self.tell_end(p, end);
+        self.looked_until = 0;
         event_end(end)
     }
 }

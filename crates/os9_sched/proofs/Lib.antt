@@ -1,2 +1,3 @@
+mod OnePass
 pub mod ScheduleLaws
 pub mod TurnLists

@@ -1,4 +1,5 @@
 pub mod Dispatch
+pub mod Elder
 pub mod Members
 pub mod Schedule
 pub mod Waits

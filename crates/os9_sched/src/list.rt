@@ -1,6 +1,7 @@
-ghost use Rattle.std.specs.Prelude.{◌≡◌, ◌==◌, ◌&&◌, None, IfOk, IfSome, IfNone, option_map, map, length, replicate};
+ghost use Rattle.std.specs.Prelude.{◌≡◌, ◌==◌, Some, None, IfOk, IfSome, IfNone, option_map, map, length, replicate};
 ghost use Rattle.std.specs.List.{find};
 ghost use Rattle.proc_rules.specs.Turns.{age_in as age_in_lem, ready_turns, greatest_age as greatest_age_lem, eldest as eldest_lem, aged};
+ghost use Rattle.os9_sched.specs.Elder.{elder as elder_lem};
 ghost use Rattle.os9_sched.specs.Waits.{woken_at as woken_at_lem};
 ghost use Rattle.os9_sched.specs.Members.{IsMember, is_active_in as is_active_in_lem, priority_in as priority_in_lem, IsNextWaiting, NobodyWaits};
 
@@ -54,31 +55,33 @@ pub fn eldest(order: &[Turn], members: &[Option<Member>]) -> Option<Pid>
     ensures eldest { result ≡ eldest_lem (ready_turns (is_active_in_lem members.now) order.now) }
     ensures member { IfSome result (λ p. IsMember members.now p.0) }
 {
-    first_of_age(order, members, greatest_age(order, members))
-}
-
-/// The first active process of this age.
-fn first_of_age(order: &[Turn], members: &[Option<Member>], age: u8) -> Option<Pid>
-    ensures member { IfSome result (λ p. IsMember members.now p.0) }
-    ensures first { result
-        ≡ option_map (λ t. t.process) (find (λ t. is_active_in_lem members.now t.process.0
-        && (t.age == age)) order.now) }
-{
-    let turn = order.iter().find(|turn| is_active_in(members, turn.process) && turn.age == age)?;
+    let turn = eldest_turn(order, members)?;
     Some(turn.process)
 }
 
-/// The greatest age of an active process, if there is one.
-fn greatest_age(order: &[Turn], members: &[Option<Member>]) -> u8
-    ensures { result ≡ greatest_age_lem (ready_turns (is_active_in_lem members.now) order.now) }
+/// The turn of this process.
+fn eldest_turn(order: &[Turn], members: &[Option<Member>]) -> Option<Turn>
+    ensures eldest { let turns = ready_turns (is_active_in_lem members.now) order.now in
+        result ≡ find (λ t. t.age == greatest_age_lem turns) turns }
+    ensures member { IfSome result (λ t. IsMember members.now t.process.0) }
 {
-    let mut most = 0;
+    let mut eldest = None;
     for turn in order {
         if is_active_in(members, turn.process) {
-            most = most.max(turn.age);
+            eldest = Some(elder(eldest, *turn));
         }
     }
-    most
+    eldest
+}
+
+/// The elder of two turns, if there are two; of equals the first one.
+fn elder(first: Option<Turn>, second: Turn) -> Turn
+    ensures { Some result ≡ elder_lem first second }
+{
+    match first {
+        Some(turn) if second.age <= turn.age => turn,
+        _ => second,
+    }
 }
 
 /// The ages after a choice of another process: an active process grows older by 1 up to 255, and a
@@ -88,11 +91,19 @@ pub fn age(order: &mut [Turn], members: &[Option<Member>])
         ≡ map (aged (is_active_in_lem members.now) (priority_in_lem members.now)) order.old }
 {
     for turn in order.iter_mut() {
-        turn.age = if is_active_in(members, turn.process) {
-            turn.age.saturating_add(1)
-        } else {
-            priority_in(members, turn.process)
-        };
+        turn.age = age_after(*turn, members);
+    }
+}
+
+/// The age of a turn after a choice of another process.
+fn age_after(turn: Turn, members: &[Option<Member>]) -> u8
+    ensures { result
+        ≡ (aged (is_active_in_lem members.now) (priority_in_lem members.now) turn).age }
+{
+    match members.get(turn.process.0 as usize) {
+        Some(Some(member)) if is_active(member.standing) => turn.age.saturating_add(1),
+        Some(Some(resting)) => resting.priority,
+        _ => 0,
     }
 }
 

@@ -1,5 +1,4 @@
 mod Children
-mod Choosing
 mod Delivering
 pub mod Entered
 pub mod First

@@ -3,7 +3,6 @@
 #![tactic(auto)]
 
 mod bytes;
-mod choice;
 mod columns;
 mod delivery;
 mod ends;

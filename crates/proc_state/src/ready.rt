@@ -9,7 +9,7 @@ ghost use Rattle.call_rules.specs.Ready.{is_ready, may_go_on as may_go_on_lem};
 ghost use Rattle.call_rules.specs.Send.{is_call as is_call_lem};
 ghost use Rattle.call_rules.specs.Sleep.{may_wake as may_wake_lem};
 ghost use Rattle.proc_model.specs.Memory.{first_memory};
-ghost use Rattle.proc_state.specs.Ready.{ready_in};
+ghost use Rattle.proc_state.specs.Ready.{ready_at};
 ghost use Rattle.proc_state.specs.Tie.{Represents, inner_of};
 
 use crate::state::ProcState;
@@ -26,7 +26,7 @@ impl ProcState {
     /// for a child, its sleep or its call on input and output end?
     pub fn ready(&self, p: Pid, io: &IoReady) -> bool
         requires { p.0 < 33 }
-        ensures here { result ≡ ready_in (has_io io.now) self.now p.0 }
+        ensures here { result ≡ ready_at (has_io io.now) self.now.tick self.now p.0 }
         ensures tied { (m : Inner) → Represents self.now m
             → result ≡ is_ready (has_io io.now) m p.0 }
     {

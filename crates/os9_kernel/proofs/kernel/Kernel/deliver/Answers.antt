@@ -25,6 +25,7 @@ use Rattle.os9_kernel.proofs.Columns.{living-within}
 use Rattle.os9_kernel.proofs.Changing.{keeps-drives}
 use Rattle.os9_kernel.proofs.Counting.{leaves-drives}
 use Rattle.os9_kernel.proofs.Delivering.{broken-own, broken-record, broken-tick, call-is, delivered-quiet, delivery-tick, done-so, ends-so, files-ended-so, files-goes-so, goes-so, signal-is}
+use Rattle.os9_kernel.proofs.Marking.{forgets, never-known}
 use Rattle.os9_kernel.proofs.Pending.{delivery-pending, nothing-pending, pending-is}
 use Rattle.os9_kernel.proofs.Represented.{some-machine, tick-kept}
 use Rattle.os9_kernel.proofs.Standing.{ended-so}
@@ -67,7 +68,7 @@ pub returns-in-Ended-clause-event : goal.returns-in-Ended-clause-event
 returns-in-Ended-clause-event c devices =
     let here = (goal.at.returns-in-Ended-clause-event c).After-deliver in
     let old = c.args.self.now in
-    let new = record c.break_off.new.self { processes = c.deliver.new.self; files = c.end.new.self } in
+    let new = forgets (record c.break_off.new.self { processes = c.deliver.new.self; files = c.end.new.self }) in
     let p = c.args.p in
     let act = Delivery c.args.signal in
     let next = c.requires.next in record {
@@ -82,7 +83,7 @@ returns-in-Ended-clause-event c devices =
           (c.end.ensures devices.drives (files_interrupted s.files p.0) (c.break_off.ensures.files devices.drives s.files tied.files)) in
           event-here old p act next devices s tied new _ (after_delivery m p.0 d) left c.break_off.ensures.chosen
           c.break_off.ensures.clock (c.deliver.ensures.tied m c.args.signal (tied_found here s.inner tied.inner)
-          (signal_found here s.inner tied.inner)) stands (
+          (signal_found here s.inner tied.inner)) stands (never-known new) (
             ends-so d c.deliver.result end c.in-Ended.is ∙ ap (λ (m : Inner). delivery_end
                 (delivered m p.0 c.args.signal)) before,
             (λ i. record s {
@@ -103,7 +104,7 @@ pub returns-in_default : goal.returns-in_default
 returns-in_default c =
     let here = (goal.at.returns-in_default c).After-deliver in
     let old = c.args.self.now in
-    let new = record c.break_off.new.self { processes = c.deliver.new.self } in
+    let new = forgets (record c.break_off.new.self { processes = c.deliver.new.self }) in
     let p = c.args.p in
     let act = Delivery c.args.signal in
     let next = c.requires.next in
@@ -123,7 +124,7 @@ returns-in_default c =
             (c.break_off.ensures.files devices.drives s.files tied.files) in
             event-here old p act next devices s tied new _ (after_delivery m p.0 d) left c.break_off.ensures.chosen
             c.break_off.ensures.clock (c.deliver.ensures.tied m c.args.signal (tied_found here s.inner tied.inner)
-            (signal_found here s.inner tied.inner)) stands (
+            (signal_found here s.inner tied.inner)) stands (never-known new) (
               goes-so d c.deliver.result end c.in_default.not-Ended ∙ ap (λ (m : Inner). delivery_end
                   (delivered m p.0 c.args.signal)) before,
               (λ i. record s {

@@ -1,4 +1,4 @@
-use Rattle.std.proofs.Common.{◌≡◌, ◌≤◌, ◌<◌, ◌+◌, ◌-◌, ◌*◌, ℕ, Option, Some, List, inr, refl, sym, ◌∙◌, subst, arith}
+use Rattle.std.proofs.Common.{◌≡◌, ◌≤◌, ◌<◌, ◌+◌, ◌-◌, ◌*◌, ℕ, Option, Some, List, inr, refl, sym, ap, ◌∙◌, subst, arith}
 use Rattle.os9_base.specs.declared.registers.Regs.{Regs}
 use Rattle.cpu_model.specs.declared.stop.Stop.{Stop}
 use Rattle.cpu_model.specs.declared.stop.Stop.TheVariants.{Next, Call, Abort}
@@ -16,9 +16,11 @@ use Rattle.file_state.specs.declared.state.FileState.{FileState}
 use Rattle.os9_kernel.specs.declared.kernel.Kernel.{Kernel}
 use Rattle.os9_kernel.specs.Tie.{pending, pending_of}
 use Rattle.os9_kernel.specs.declared.act.Act.TheVariants.{Instruction}
-use Rattle.os9_kernel.proofs.Acting.{acts-so, chosen-is, lives-there, instructions-running, represents-here}
+use Rattle.os9_kernel.proofs.Acting.{acts-so, chosen-is, lives-there, instructions-open, represents-here}
 use Rattle.os9_kernel.proofs.Changing.{keeps-drives}
 use Rattle.os9_kernel.proofs.Columns.{inner_at}
+use Rattle.os9_kernel.proofs.Looking.{looked-still, looks_again, never-looked}
+use Rattle.os9_kernel.proofs.Marking.{forgets, known-still, never-known}
 use Rattle.os9_kernel.proofs.Pending.{at_most-three, pending-is}
 use Rattle.os9_kernel.proofs.Represented.{some-machine, tick-kept}
 use Rattle.event_rules.proofs.Ticks.{ended-tick}
@@ -45,14 +47,14 @@ left c stop is other = let (m, tied) = some-machine c.args.self.now.processes in
 
 -- the registers then are set in the memory then
 regs_set : (c : After-set_regs) → (m : Inner) (tied : RepresentsProcesses c.args.self.now.processes m)
-    (t : MemoryState) → RepresentsMemory c.run-ran.new.self t → RepresentsProcesses c.set_regs.new.self
+    (t : MemoryState) → RepresentsMemory c.run-ran.new.self t → RepresentsProcesses c.set_regs.new.s
     (inner_at m c.args.p.0 t c.run-ran.new.regs)
 regs_set c m tied t there =
     c.set_regs.ensures.tied (with_memory m t) (record { memory = there; is = λ i. with_memory (tied.is i) t })
 
 -- the tick then
-ticks_set : (c : After-set_regs) → c.set_regs.new.self.tick ≡ c.args.self.now.processes.tick
-ticks_set c = tick-kept _ c.set_regs.new.self (λ (m : Inner). with_regs_of m c.args.p.0 c.run-ran.new.regs) c.set_regs.ensures.tied (λ m. refl)
+ticks_set : (c : After-set_regs) → c.set_regs.new.s.tick ≡ c.args.self.now.processes.tick
+ticks_set c = tick-kept _ c.set_regs.new.s (λ (m : Inner). with_regs_of m c.args.p.0 c.run-ran.new.regs) c.set_regs.ensures.tied (λ m. refl)
 
 -- instructions were executed, so less is left
 lowers : (c : After-set_regs) → (new : Kernel) (count : ℕ) → new.chosen ≡ c.args.self.now.chosen → 1 ≤ count
@@ -85,14 +87,16 @@ returns-in-Next-clause-turn c devices =
           c.run-ran.new.regs t c.requires.some runs c.in-Next.is in (
             record s { inner = inner_at s.inner p.0 t c.run-ran.new.regs },
             inr done,
-            represents-here old p Instruction next devices s tied (record old { processes = c.set_regs.new.self }) _
+            represents-here old p Instruction next devices s tied (record old { processes = c.set_regs.new.s })
+                (looked-still old (record old { processes = c.set_regs.new.s }) refl refl (ticks_set here) c.set_regs.ensures.active tied.looked)
+                (known-still old (record old { processes = c.set_regs.new.s }) refl refl refl (ticks_set here) tied.known) _
                 s.files refl refl (regs_set here s.inner tied.inner t there) tied.files
-                (instructions-running done tied.running),
+                (instructions-open done tied.run),
           );
       memory = λ is. cc;
       going = λ _. (p, next.chosen, c.set_regs.ensures.lives);
       few = omega (arith, whole);
-      progress = λ _. lowers here (record old { processes = c.set_regs.new.self }) c.run-ran.result.followed refl (omega (arith, whole)) (omega (arith, whole));
+      progress = λ _. lowers here (record old { processes = c.set_regs.new.s }) c.run-ran.result.followed refl (omega (arith, whole)) (omega (arith, whole));
       count = λ _. ticks_set here;
       images = keeps-drives old devices devices refl;
     }
@@ -111,11 +115,13 @@ returns-in-Call-clause-turn c devices =
           c.run-ran.new.regs t c.requires.some runs c.in-Call.code c.in-Call.is in (
             record s { inner = with_own (inner_at s.inner p.0 t c.run-ran.new.regs) p.0 (record (own_at s.inner p.0) { call = Some c.in-Call.code }) },
             inr done,
-            represents-here old p Instruction next devices s tied c.begin_call.new.self _ s.files
+            represents-here old p Instruction next devices s tied (looks_again c.begin_call.new.self) (never-looked c.begin_call.new.self)
+                (known-still old (looks_again c.begin_call.new.self) c.begin_call.ensures.known (ap (λ (files : FileState). files.io) c.begin_call.ensures.files)
+                (ap (λ (files : FileState). files.records) c.begin_call.ensures.files) (c.begin_call.ensures.count ∙ ticks_set here) tied.known) _ s.files
                 c.begin_call.ensures.chosen c.begin_call.ensures.clock (c.begin_call.ensures.tied _
                 (regs_set here s.inner tied.inner t there))
                 (subst (λ (files : FileState). StandsFor files devices.drives s.files)
-                (sym c.begin_call.ensures.files) tied.files) (instructions-running done tied.running),
+                (sym c.begin_call.ensures.files) tied.files) (instructions-open done tied.run),
           );
       memory = λ is. cc;
       going = λ _. (p, c.begin_call.ensures.chosen ∙ next.chosen, subst (λ (records : List (Option Record)). IsLiving records p.0) (sym c.begin_call.ensures.records) c.set_regs.ensures.lives);
@@ -139,17 +145,19 @@ returns-in-Abort-clause-turn c devices =
           c.run-ran.new.regs t c.requires.some runs c.in-Abort.status c.in-Abort.is in (
             record s { inner = ended (inner_at s.inner p.0 t c.run-ran.new.regs) p.0 c.in-Abort.status; files = files_ended s.files p.0 },
             inr done,
-            represents-here old p Instruction next devices s tied c.end_process.new.self _ (files_ended s.files p.0)
+            represents-here old p Instruction next devices s tied (looks_again (forgets c.end_process.new.self))
+                (never-looked (forgets c.end_process.new.self)) (never-known c.end_process.new.self) _
+                (files_ended s.files p.0)
                 c.end_process.ensures.chosen c.end_process.ensures.clock (c.end_process.ensures.tied _
                 (regs_set here s.inner tied.inner t there)) (c.end_process.ensures.files devices.drives s.files
-                tied.files) (instructions-running done tied.running),
+                tied.files) (instructions-open done tied.run),
           );
       memory = λ is. cc;
       going = λ is. cc;
       few = omega (arith, some);
       progress = λ is. cc;
       count =
-          λ _. tick-kept c.set_regs.new.self c.end_process.new.self.processes (λ (m : Inner). ended m p.0 c.in-Abort.status) c.end_process.ensures.tied (λ m. ended-tick m p.0 c.in-Abort.status)
+          λ _. tick-kept c.set_regs.new.s c.end_process.new.self.processes (λ (m : Inner). ended m p.0 c.in-Abort.status) c.end_process.ensures.tied (λ m. ended-tick m p.0 c.in-Abort.status)
           ∙ ticks_set here;
       images = keeps-drives old devices devices refl;
     }

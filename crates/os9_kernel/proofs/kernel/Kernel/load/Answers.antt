@@ -34,6 +34,7 @@ use Rattle.os9_kernel.proofs.PathCalls.{is-sound, some-time}
 use Rattle.os9_kernel.proofs.Pending.{attempt-lowers}
 use Rattle.os9_kernel.proofs.Represented.{no-call, places-there}
 use Rattle.os9_kernel.proofs.Waiting.{code-held, waits-so}
+use Rattle.os9_kernel.proofs.Marking.{forgets, never-known}
 use Rattle.os9_kernel.proofs.kernel.Kernel.load.Goals as goal
 
 pub try_load-end-requires-clause-sound : goal.try_load-end-requires-clause-sound
@@ -51,9 +52,9 @@ begin-requires-clause-begins g c is done =
     let after : Standing = standing (λ table. (g.dyn-1.0.entry table).1) new.processes new.files c.try_load-end.new.devices.drives.items in
     let (s, tied) = c.requires.stands in
     let (time, is_time) = some-time old _ s tied in
-    let it = c.try_load-end.ensures.call time s.inner s.files tied.inner tied.files tied.running.kinds in (
+    let it = c.try_load-end.ensures.call time s.inner s.files tied.inner tied.files tied.run.locked.state.running.kinds in (
       subst (λ (end : CallEnd). LivesOn end new.processes.table p) done c.try_load-end.ensures.lives,
-      child-begins c.args.call s.inner s.files time terms p before after tied.running.kept (places-there old.processes s.inner tied.inner)
+      child-begins c.args.call s.inner s.files time terms p before after tied.run.locked.state.running.kept (places-there old.processes s.inner tied.inner)
           (lives-there old c.args.p (Attempt c.args.code) c.requires.next _ s tied) is (subst (λ (end : CallEnd). LoadsSo c.args.call s.inner s.files time terms p end before after) done it),
     )
 
@@ -76,14 +77,14 @@ returns-clause-event g c =
     let long : vec_len terms ≡ length before.terms = terms.ok.0 ∙ sym (simp length-map) in
     let (s0, tied0) = c.requires.stands in
     let (time0, is_time0) = some-time old before s0 tied0 in
-    let first = c.try_load-end.ensures.call time0 s0.inner s0.files tied0.inner tied0.files tied0.running.kinds in
+    let first = c.try_load-end.ensures.call time0 s0.inner s0.files tied0.inner tied0.files tied0.run.locked.state.running.kinds in
     let told0 : Comes s0.inner p.0 first.result end c.begin.new.self.processes = subst (λ (processes : ProcState).
     Comes s0.inner p.0 first.result end processes) (sym c.begin.ensures.processes) first.comes in
     let (there0, same0) = c.tell_end.ensures.told s0.inner first.result told0 in
     let over = sym (c.event_end.ensures ∙ ap event_end_of same0) in record {
       step = λ _ s tied.
           let (time, is_time) = some-time old before s tied in
-          let it = c.try_load-end.ensures.call time s.inner s.files tied.inner tied.files tied.running.kinds in
+          let it = c.try_load-end.ensures.call time s.inner s.files tied.inner tied.files tied.run.locked.state.running.kinds in
           let told : Comes s.inner p.0 it.result end c.begin.new.self.processes = subst (λ (processes : ProcState).
           Comes s.inner p.0 it.result end processes) (sym c.begin.ensures.processes) it.comes in
           let (there, same) = c.tell_end.ensures.told s.inner it.result told in
@@ -96,11 +97,12 @@ returns-clause-event g c =
           let attempt : AttemptsLoad c.args.call s.inner (asker_of s.inner p.0 time) s.files (length s.terms) p.0
           it.result it.left = subst (λ (n : ℕ). AttemptsLoad c.args.call s.inner (asker_of s.inner p.0 time)
           s.files n p.0 it.result it.left) (long ∙ sym (ap (λ terms. length terms) terms_here)) it.attempted in
-          event-then old p act next before s tied new after _ (after_attempt s.inner p.0 it.result) left s.clock
+          event-then old p act next before s tied (forgets new) after _ (after_attempt s.inner p.0 it.result) left s.clock
           s.terms (c.tell_end.ensures.chosen ∙ c.begin.ensures.chosen ∙ c.try_load-end.ensures.chosen) there
           stands
           (clock-is old p act next before s tied ∙ sym (c.tell_end.ensures.clock ∙ c.begin.ensures.clock ∙ c.try_load-end.ensures.clock))
-          (terms_here ∙ ap (λ terms. terminal_states (λ table. (g.dyn-2.0.entry table).1) terms.items) (sym c.try_load-end.ensures.terms_kept)) (
+          (terms_here ∙ ap (λ terms. terminal_states (λ table. (g.dyn-2.0.entry table).1) terms.items) (sym c.try_load-end.ensures.terms_kept))
+          (λ event. never-known new) (
             it.result,
             with_files s left,
             (
@@ -143,7 +145,7 @@ returns-clause-event g c =
           attempt-within old p c.args.code next before s tied service c.requires.serves now after
           (subst (λ (n : ℕ). CalledAtMost (service_calls service s.inner p.0 now s.files n) before.drives
           after.drives) long (c.try_load-end.ensures.call now s.inner s.files tied.inner tied.files
-          tied.running.kinds).calls);
+          tied.run.locked.state.running.kinds).calls);
       images = keeps-media old before after first.media_kept;
     }
 
@@ -155,7 +157,7 @@ returns-clause-progress g c ran =
     let end = c.try_load-end.result in
     let (s, tied) = c.requires.stands in
     let (time, is_time) = some-time old _ s tied in
-    let it = c.try_load-end.ensures.call time s.inner s.files tied.inner tied.files tied.running.kinds in
+    let it = c.try_load-end.ensures.call time s.inner s.files tied.inner tied.files tied.run.locked.state.running.kinds in
     let told : Comes s.inner p.0 it.result end c.begin.new.self.processes = subst (λ (processes : ProcState). Comes s.inner p.0 it.result end processes) (sym c.begin.ensures.processes) it.comes in
     let (there, same) = c.tell_end.ensures.told s.inner it.result told in
     let (t, regs, is) = goes-on it.result (sym (c.event_end.ensures ∙ ap event_end_of same) ∙ ran) s.inner p.0 in
@@ -174,5 +176,5 @@ returns-clause-drives g c =
     let now = c.try_load-end.new.devices.drives in
     let view = boxed_drive_view (λ table. (g.dyn-1.0.entry table).1) in
     now.ok.0 ∙ sym (length-map now.items view)
-    ∙ (c.try_load-end.ensures.call time s.inner s.files tied.inner tied.files tied.running.kinds).calls.as_many
+    ∙ (c.try_load-end.ensures.call time s.inner s.files tied.inner tied.files tied.run.locked.state.running.kinds).calls.as_many
     ∙ length-map was.items view ∙ sym was.ok.0

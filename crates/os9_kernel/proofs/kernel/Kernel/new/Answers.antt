@@ -6,6 +6,7 @@ use Rattle.file_start.specs.Start.{StartsDrives}
 use Rattle.file_start.specs.declared.fault.StartFault.{StartFault}
 use Rattle.file_state.specs.declared.state.FileState.{FileState}
 use Rattle.os9_kernel.specs.declared.kernel.Kernel.{Kernel}
+use Rattle.os9_kernel.specs.declared.marks.Marks.TheVariants.{Everyone}
 use Rattle.os9_kernel.specs.Outside.{Outside, outside}
 use Rattle.os9_kernel.proofs.Starting.{kernel-starts, starts-fault, starts-memory, starts-ok, starts-same}
 use Rattle.os9_kernel.proofs.kernel.Kernel.new.Goals as goal
@@ -55,11 +56,21 @@ returns-clause-starts g c =
     let terms = c.start_files.new.devices.terms in
     let long : length after.terms ≡ vec_len terms = simp length-map (sym terms.ok.0) in
     let kept : vec_len terms ≡ vec_len c.args.devices.now.terms = ap (λ terms. vec_len terms) c.start_files.ensures.terms_kept in
-    let kernel : Kernel = record { processes = c.in-Ok.processes; files = c.in-Ok-start_files.files; clock = record { from = c.args.config.time; since = 0 }; chosen = None; executed = 0 } in
+    let kernel : Kernel = record {
+      processes = c.in-Ok.processes;
+      files = c.in-Ok-start_files.files;
+      clock = record
+          { from = c.args.config.time; since = 0 };
+      chosen = None;
+      executed = 0;
+      looked_until = 0;
+      known = record
+          { ready = c.none.result; until = 0; marks = Everyone };
+    } in
     record {
       stands = λ images have.
           kernel-starts c.args.config c.args.boot.now images after kernel c.in-Ok.ensures.start
-          (c.in-Ok-start_files.ensures.started images have) refl refl c.requires.time
+          (c.in-Ok-start_files.ensures.started images have) refl refl refl refl c.requires.time
           (omega (arith, long, kept, c.requires.terminals.0)) (omega (arith, long, kept, c.requires.terminals.1));
       accepted = search rules;
       refused = tt;

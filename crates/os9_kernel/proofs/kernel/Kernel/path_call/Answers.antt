@@ -12,8 +12,11 @@ use Rattle.call_rules.specs.Inner.{Inner, no_own}
 use Rattle.call_rules.specs.declared.proc_call.ProcCall.{ProcCall}
 use Rattle.file_rules.specs.Memory.{LacksEntry, LacksMemory}
 use Rattle.file_dispatch.specs.Attempts.{MayAttempt}
-use Rattle.file_drives.specs.Drives.{boxed_drive_view, drive_views}
-use Rattle.file_rules.specs.Attempts.{FileAttempts, io_effect}
+use Rattle.file_drives.specs.Drives.{boxed_drive_view}
+use Rattle.file_rules.specs.Attempts.{FileAttempts, asker_of, io_effect}
+use Rattle.io_model.specs.Path.{ArePaths}
+use Rattle.io_rules.specs.Io.{Io}
+use Rattle.file_laws.specs.Devices.{number_in}
 use Rattle.file_state.specs.Tie.{StandsFor}
 use Rattle.file_state.specs.declared.state.FileState.{FileState}
 use Rattle.io_rules.specs.Attempts.{result_of}
@@ -22,21 +25,27 @@ use Rattle.file_rules.specs.Locking.{call_wait}
 use Rattle.file_state.specs.Attempt.{settled}
 use Rattle.event_rules.specs.declared.ends.EventEnd.{EventEnd}
 use Rattle.proc_rules.specs.declared.record.Record.{Record}
-use Rattle.proc_rules.specs.Records.{is_waiting, record_at}
+use Rattle.proc_rules.specs.Records.{IsLiving, is_waiting, record_at}
 use Rattle.proc_state.specs.Tie.{Comes, Represents as RepresentsProcesses}
 use Rattle.machine_model.specs.Services.{Serves, Service, on_paths}
-use Rattle.machine_model.specs.State.{Rest}
+use Rattle.machine_model.specs.Event.{Event}
+use Rattle.machine_model.specs.State.{Rest, State}
 use Rattle.os9_kernel.specs.declared.act.Act.TheVariants.{Attempt}
 use Rattle.os9_kernel.specs.Causes.{wait_by}
 use Rattle.os9_kernel.specs.Ends.{event_end_of}
+use Rattle.os9_kernel.specs.Marks.{Concerns, named_cause}
 use Rattle.os9_kernel.specs.Outside.{Outside, outside}
+use Rattle.os9_kernel.specs.Tie.{IsKnown}
+use Rattle.os9_kernel.specs.declared.kernel.Kernel.{Kernel}
+use Rattle.os9_kernel.specs.declared.marks.Known.{Known}
 use Rattle.os9_kernel.proofs.Acting.{acts-so, chosen-is, clock-is, event-then, lives-there, terms-are}
 use Rattle.os9_kernel.proofs.Asking.{may-attempt-here}
 use Rattle.os9_kernel.proofs.Calling.{end-tied, goes-on, lives-so}
 use Rattle.os9_kernel.proofs.Changing.{keeps-attempt, keeps-drives}
 use Rattle.os9_kernel.proofs.Counting.{attempt-within-at, leaves-drives}
 use Rattle.os9_kernel.proofs.Holding.{holds-mounted, holds-still}
-use Rattle.os9_kernel.proofs.PathCalls.{attempt-tick, cases-memory, is-clock, is-sound, lives-on, now-here, time-for, time-shown, wants-so}
+use Rattle.os9_kernel.proofs.PathCalls.{attempt-tick, cases-memory, is-clock, is-sound, lives-on, now-here, path-lives, time-for, time-shown, wants-so}
+use Rattle.os9_kernel.proofs.Marking.{known-after}
 use Rattle.os9_kernel.proofs.Pending.{attempt-lowers}
 use Rattle.os9_kernel.proofs.Represented.{no-call}
 use Rattle.os9_kernel.proofs.Serving.{path-served}
@@ -82,18 +91,36 @@ returns-clause-event g c =
     c.tell_end.ensures.files ∙ ap (λ (records : Records). let files : FileState = record c.attempt-end.new.files { records = records } in files) c.forget_request.ensures in
     let (s0, tied0) = c.requires.stands in
     let (time, is_time) = time-shown old before s0 tied0 in
-    let fits = time-for old.clock old.processes.tick c.args.call made time c.time_for-time.ensures is_time in record {
+    let fits = time-for old.clock old.processes.tick c.args.call made time c.time_for-time.ensures is_time in
+    let marked : Kernel → Kernel = (λ kernel. record kernel { known = record kernel.known { marks = c.add-self.result } }) in record {
       step = λ ran s tied.
-          let it = ((c.attempt-end.ensures.call time fits s.inner s.files tied.inner tied.files tied.running.kinds).attempted (other ran)).attempts in
+          let it = ((c.attempt-end.ensures.call time fits s.inner s.files tied.inner tied.files tied.run.locked.state.running.kinds).attempted (other ran)).attempts in
           let (there, same) = c.tell_end.ensures.told s.inner it.result it.comes in
           let attempt : FileAttempts c.args.call s.inner s.files time p.0 it.result it.left s.terms after.terms =
           subst (λ (terms : List TerminalState). FileAttempts c.args.call s.inner s.files time p.0 it.result
           it.left terms after.terms) (sym (terms-are old p act next before s tied)) it.attempt in
           let stands : StandsFor new.files after.drives it.left = subst (λ (files : FileState). StandsFor files after.drives it.left) (sym settled_is) it.stands in
           let rest : Rest = record { files = it.left; clock = s.clock; terms = after.terms } in
-          event-then old p act next before s tied new after _ (after_attempt s.inner p.0 it.result) it.left s.clock
+          let t : State = record s { inner = after_attempt s.inner p.0 it.result; files = it.left; terms = after.terms } in
+          let ticks_kept = sym (ap (λ (m : Inner). m.tick) there.is)
+          ∙ attempt-tick c.args.call s.inner s.files time p.0 it.result it.left s.terms after.terms attempt
+          ∙ ap (λ (m : Inner). m.tick) tied.inner.is in
+          let lives : IsLiving t.inner.records p.0 = subst (λ (m : Inner). IsLiving m.records p.0) (sym there.is)
+          (path-lives c.attempt-end.result c.args.call s.inner s.files time p.0 it.result it.left s.terms after.terms attempt same new.processes.table c.tell_end.ensures.lives) in
+          let known-then : Event s c.event_end.result t → IsKnown (marked new) = (λ event.
+          known-after s t c.event_end.result p.0 c.args.code c.args.call tied.run event (chosen-is old p act next before s tied)
+          (acts-so old p act next before s tied) c.requires.serves lives old (marked new) tied.files.io tied.files.records stands.io stands.records
+          (subst (λ (io : Io). ArePaths io.paths) (sym tied.files.io) c.cause_named-cause.ensures.paths)
+          (ap (λ (known : Known). known.ready) c.tell_end.ensures.known) (ap (λ (known : Known). known.until) c.tell_end.ensures.known) ticks_kept
+          (λ q cause concerned. c.add-self.ensures.kept q cause (subst (λ (known : Known). Concerns known.marks q cause) (sym c.tell_end.ensures.known) concerned))
+          c.add-self.ensures.own
+          (λ q cause now named. c.add-self.ensures.waiters q cause (c.cause_named-cause.ensures.is s.inner now tied.inner
+          ∙ ap (λ (io : Io). named_cause io p.0 (number_in c.args.call (asker_of s.inner p.0 now))) (sym tied.files.io) ∙ named))
+          tied.known) in
+          event-then old p act next before s tied (marked new) after _ (after_attempt s.inner p.0 it.result) it.left s.clock
           after.terms c.tell_end.ensures.chosen there stands (clock-is old p act next before s tied ∙ sym
-          c.tell_end.ensures.clock) refl (
+          c.tell_end.ensures.clock) refl
+          (λ event. known-then event) (
             it.result,
             rest,
             (time, now-here old before s tied time is_time, subst (λ (service : Service). Serves service s time p.0 it.result rest) (sym c.requires.serves) (attempt, refl)),
@@ -112,7 +139,7 @@ returns-clause-event g c =
             now = time;
             is_now = now-here old before s tied time is_time;
             lacks =
-                elim ((c.attempt-end.ensures.call time fits s.inner s.files tied.inner tied.files tied.running.kinds).memory is) [
+                elim ((c.attempt-end.ensures.call time fits s.inner s.files tied.inner tied.files tied.run.locked.state.running.kinds).memory is) [
                   | inl byte ↦
                       inl (record {
                         lacks = subst (λ (terms : List TerminalState). LacksMemory c.args.call s.inner s.files time p.0 terms after.terms) (sym (terms-are old p act next before s tied)) byte.lacks;
@@ -131,7 +158,7 @@ returns-clause-event g c =
           let waiting = waits-so c.attempt-end.result (sym c.event_end.ensures ∙ is) in
           let now = c.attempt-end.new.s in
           let it = ((c.attempt-end.ensures.call time fits s0.inner s0.files tied0.inner tied0.files
-          tied0.running.kinds).attempted (λ out. let no : Wait ≡ NoMemory = sym waiting ∙ out in cc)).attempts in
+          tied0.run.locked.state.running.kinds).attempted (λ out. let no : Wait ≡ NoMemory = sym waiting ∙ out in cc)).attempts in
           let effect = io_effect it.attempt.effect in
           let came : Comes s0.inner p.0 (result_of s0.inner p.0 effect) Wait now = subst
           (λ (result : CallResult). Comes s0.inner p.0 result Wait now) it.attempt.result_is
@@ -158,7 +185,7 @@ returns-clause-event g c =
           };
       going = λ ran. (p, c.tell_end.ensures.chosen ∙ next.chosen, lives-so c.attempt-end.result new.processes.table p.0 (sym c.event_end.ensures ∙ ran) c.tell_end.ensures.lives);
       count = λ ran.
-          let it = ((c.attempt-end.ensures.call time fits s0.inner s0.files tied0.inner tied0.files tied0.running.kinds).attempted (other ran)).attempts in
+          let it = ((c.attempt-end.ensures.call time fits s0.inner s0.files tied0.inner tied0.files tied0.run.locked.state.running.kinds).attempted (other ran)).attempts in
           let (there, same) = c.tell_end.ensures.told s0.inner it.result it.comes in
           sym (ap (λ (m : Inner). m.tick) there.is)
           ∙ attempt-tick c.args.call s0.inner s0.files time p.0 it.result it.left before.terms after.terms it.attempt
@@ -166,7 +193,7 @@ returns-clause-event g c =
       calls = λ s now tied is.
           elim (cases-memory c.attempt-end.result) [
             | inl out ↦
-                elim ((c.attempt-end.ensures.call time fits s.inner s.files tied.inner tied.files tied.running.kinds).memory out) [
+                elim ((c.attempt-end.ensures.call time fits s.inner s.files tied.inner tied.files tied.run.locked.state.running.kinds).memory out) [
                   | inl byte ↦ leaves-drives old before after byte.views s now tied is
                   | inr entry ↦
                       attempt-within-at old p c.args.code next before s tied (on_paths c.args.call) c.requires.serves time now after (now-here old before s tied time is_time) is entry.calls
@@ -175,12 +202,12 @@ returns-clause-event g c =
                 attempt-within-at old p c.args.code next before s tied (on_paths c.args.call) c.requires.serves time
                 now after (now-here old before s tied time is_time) is
                 ((c.attempt-end.ensures.call time fits s.inner s.files tied.inner tied.files
-                tied.running.kinds).attempted there).calls
+                tied.run.locked.state.running.kinds).attempted there).calls
           ];
       images = λ s drive tied unasked.
           elim (cases-memory c.attempt-end.result) [
             | inl out ↦
-                elim ((c.attempt-end.ensures.call time fits s.inner s.files tied.inner tied.files tied.running.kinds).memory out) [
+                elim ((c.attempt-end.ensures.call time fits s.inner s.files tied.inner tied.files tied.run.locked.state.running.kinds).memory out) [
                   | inl byte ↦ keeps-drives old before after byte.views s drive tied unasked
                   | inr entry ↦
                       keeps-attempt old p c.args.code next before s tied c.args.call c.requires.serves time
@@ -191,7 +218,7 @@ returns-clause-event g c =
                 keeps-attempt old p c.args.code next before s tied c.args.call c.requires.serves time
                 (now-here old before s tied time is_time) c.attempt-end.result after drive
                 ((c.attempt-end.ensures.call time fits s.inner s.files tied.inner tied.files
-                tied.running.kinds).attempted there).drives unasked
+                tied.run.locked.state.running.kinds).attempted there).drives unasked
           ];
     }
 
@@ -204,7 +231,7 @@ returns-clause-progress g c ran =
     let (time, is_time) = time-shown old _ s tied in
     let fits = time-for old.clock old.processes.tick c.args.call c.time_for-time.result time c.time_for-time.ensures is_time in
     let other : c.attempt-end.result ≢ NoMemory = (λ out. let no : EventEnd.Ran ≡ EventEnd.NoMemory = sym ran ∙ c.event_end.ensures ∙ ap event_end_of out in cc) in
-    let it = ((c.attempt-end.ensures.call time fits s.inner s.files tied.inner tied.files tied.running.kinds).attempted other).attempts in
+    let it = ((c.attempt-end.ensures.call time fits s.inner s.files tied.inner tied.files tied.run.locked.state.running.kinds).attempted other).attempts in
     let (there, same) = c.tell_end.ensures.told s.inner it.result it.comes in
     let (t, regs, is) = goes-on it.result (sym (c.event_end.ensures ∙ ap event_end_of same) ∙ ran) s.inner p.0 in
     let none = no-call new.processes t p.0 regs c.requires.next.process.1 (subst (λ (m : Inner). RepresentsProcesses new.processes m) is there) in
@@ -220,7 +247,7 @@ returns-clause-drives g c =
     let view = boxed_drive_view (λ table. (g.dyn-1.0.entry table).1) in
     elim (cases-memory c.attempt-end.result) [
       | inl out ↦
-          elim ((c.attempt-end.ensures.call time fits s.inner s.files tied.inner tied.files tied.running.kinds).memory out) [
+          elim ((c.attempt-end.ensures.call time fits s.inner s.files tied.inner tied.files tied.run.locked.state.running.kinds).memory out) [
             | inl byte ↦
                 now.ok.0 ∙ sym (length-map now.items view) ∙ ap length byte.views ∙ length-map was.items view ∙ sym was.ok.0
             | inr entry ↦
@@ -228,6 +255,6 @@ returns-clause-drives g c =
           ]
       | inr other ↦
           now.ok.0 ∙ sym (length-map now.items view)
-          ∙ ((c.attempt-end.ensures.call time fits s.inner s.files tied.inner tied.files tied.running.kinds).attempted other).calls.as_many
+          ∙ ((c.attempt-end.ensures.call time fits s.inner s.files tied.inner tied.files tied.run.locked.state.running.kinds).attempted other).calls.as_many
           ∙ length-map was.items view ∙ sym was.ok.0
     ]

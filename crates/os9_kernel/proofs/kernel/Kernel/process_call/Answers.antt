@@ -17,11 +17,14 @@ use Rattle.machine_model.specs.Services.{Serves, Service, files_after_call, with
 use Rattle.os9_kernel.specs.declared.act.Act.TheVariants.{Attempt}
 use Rattle.os9_kernel.specs.Causes.{wait_by}
 use Rattle.os9_kernel.specs.Ends.{event_end_of}
+use Rattle.machine_model.specs.State.{State}
 use Rattle.os9_kernel.specs.Paths.{files_then}
+use Rattle.os9_kernel.specs.Tie.{IsKnown, Represents}
 use Rattle.os9_kernel.proofs.Acting.{event-here}
 use Rattle.os9_kernel.proofs.Calling.{end-tied, files-tied, goes-on, lives-so, never-wants}
 use Rattle.os9_kernel.proofs.Changing.{keeps-drives}
 use Rattle.os9_kernel.proofs.Counting.{leaves-drives}
+use Rattle.os9_kernel.proofs.Marking.{known-still}
 use Rattle.os9_kernel.proofs.PathCalls.{some-time}
 use Rattle.os9_kernel.proofs.Pending.{attempt-lowers}
 use Rattle.os9_kernel.proofs.Represented.{some-machine, tick-kept, no-call}
@@ -35,7 +38,11 @@ returns-clause-event c devices =
     let new = c.follow.new.self in
     let p = c.args.p in
     let act = Attempt c.args.code in
-    let next = c.requires.next in record {
+    let next = c.requires.next in
+    let ticks_kept = tick-kept old.processes c.attempt-end.new.s (λ (m : Inner). after_attempt m p.0 (attempted c.args.call m p.0))
+    (λ m there. (c.attempt-end.ensures.call m there).0) (λ m. attempt-tick m p.0 c.args.call) in
+    let known_then : (s : State) → Represents old devices s → IsKnown new =
+    (λ s tied. c.follow.ensures.known (known-still old (record old { processes = c.attempt-end.new.s }) refl refl refl ticks_kept tied.known)) in record {
       step = λ _ s tied.
           let (there, ends) = c.attempt-end.ensures.call s.inner tied.inner in
           let (time, is_time) = some-time old devices s tied in
@@ -47,7 +54,7 @@ returns-clause-event c devices =
           let stands : StandsFor new.files devices.drives left = subst (λ (files : Files). StandsFor new.files
           devices.drives files) (ap (λ (end : CallEnd). files_then end s.files p.0) ends ∙ files-tied s.files p.0
           result) (c.follow.ensures.files devices.drives s.files tied.files) in
-          event-here old p act next devices s tied new _ (after_attempt s.inner p.0 result) left c.follow.ensures.chosen c.follow.ensures.clock now stands (
+          event-here old p act next devices s tied new _ (after_attempt s.inner p.0 result) left c.follow.ensures.chosen c.follow.ensures.clock now stands (known_then s tied) (
             result,
             with_files s left,
             (
@@ -90,9 +97,7 @@ returns-clause-event c devices =
                 (rests-so (waits_for c.args.call (slice_index_or c.attempt-end.new.s.own.items p.0 no_own))
                 old.processes c.attempt-end.new.s p.0 next.lives fresh (c.attempt-end.ensures.waits waiting)));
           };
-      count = λ _. ap (λ (processes : ProcState). processes.tick) c.follow.ensures.processes ∙ tick-kept old.processes
-          c.attempt-end.new.s (λ (m : Inner). after_attempt m p.0 (attempted c.args.call m p.0))
-          (λ m there. (c.attempt-end.ensures.call m there).0) (λ m. attempt-tick m p.0 c.args.call);
+      count = λ _. ap (λ (processes : ProcState). processes.tick) c.follow.ensures.processes ∙ ticks_kept;
       calls = leaves-drives old devices devices refl;
       images = keeps-drives old devices devices refl;
     }

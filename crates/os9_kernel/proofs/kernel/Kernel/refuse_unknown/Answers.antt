@@ -9,6 +9,7 @@ use Rattle.os9_kernel.specs.declared.act.Act.TheVariants.{Attempt}
 use Rattle.os9_kernel.proofs.Acting.{event-here}
 use Rattle.os9_kernel.proofs.Changing.{keeps-drives}
 use Rattle.os9_kernel.proofs.Counting.{leaves-drives}
+use Rattle.os9_kernel.proofs.Marking.{known-still}
 use Rattle.os9_kernel.proofs.PathCalls.{some-time}
 use Rattle.os9_kernel.proofs.Pending.{attempt-lowers}
 use Rattle.os9_kernel.proofs.Represented.{some-machine, tick-kept, no-call}
@@ -20,15 +21,17 @@ returns-clause-event c devices =
     let new = record old { processes = c.refuse.new.self } in
     let p = c.args.p in
     let act = Attempt c.args.code in
-    let next = c.requires.next in record {
+    let next = c.requires.next in
+    let ticks_kept = tick-kept old.processes c.refuse.new.self (λ (m : Inner). goes_on m p.0 (refused_regs (regs_at m p.0) E_UNKSVC)) c.refuse.ensures.tied (λ m. refl) in record {
       step = λ _ s tied.
           let (now, is_now) = some-time old devices s tied in
           event-here old p act next devices s tied new _ (after_attempt s.inner p.0 (refused E_UNKSVC)) s.files refl refl (c.refuse.ensures.tied s.inner tied.inner) tied.files
+          (known-still old new refl refl refl ticks_kept tied.known)
           (refused E_UNKSVC, rest_of s, (now, is_now, subst (λ (service : Service). Serves service s now p.0 (refused E_UNKSVC) (rest_of s)) (sym c.requires.serves) (refl, refl)), refl, refl);
       memory = λ is. cc;
       waits = λ is. cc;
       going = λ _. (p, next.chosen, c.refuse.ensures.lives);
-      count = λ _. tick-kept old.processes c.refuse.new.self (λ (m : Inner). goes_on m p.0 (refused_regs (regs_at m p.0) E_UNKSVC)) c.refuse.ensures.tied (λ m. refl);
+      count = λ _. ticks_kept;
       calls = leaves-drives old devices devices refl;
       images = keeps-drives old devices devices refl;
     }

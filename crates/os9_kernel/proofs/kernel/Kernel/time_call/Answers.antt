@@ -15,6 +15,7 @@ use Rattle.os9_kernel.proofs.Acting.{clock-is, event-then, terms-are}
 use Rattle.os9_kernel.proofs.Calling.{end-tied, goes-on, lives-so, never-wants}
 use Rattle.os9_kernel.proofs.Changing.{keeps-drives}
 use Rattle.os9_kernel.proofs.Counting.{leaves-drives}
+use Rattle.os9_kernel.proofs.Marking.{known-still}
 use Rattle.os9_kernel.proofs.PathCalls.{is-clock, lives-on}
 use Rattle.os9_kernel.proofs.Pending.{attempt-lowers}
 use Rattle.os9_kernel.proofs.Represented.{no-call}
@@ -41,7 +42,9 @@ returns-clause-event c devices =
     let (devices0, (s0, tied0)) = c.requires.stands in
     let first = c.attempt-end.ensures.call s0.inner tied0.inner in
     let (there0, same0) = c.tell_end.ensures.told s0.inner first.attempts.result first.attempts.comes in
-    let ended = sym (c.event_end.ensures ∙ ap event_end_of same0) in record {
+    let ended = sym (c.event_end.ensures ∙ ap event_end_of same0) in
+    let ticks_kept = sym (ap (λ (m : Inner). m.tick) there0.is) ∙ time-tick s0.inner p.0 c.args.call old.clock first.now
+    first.attempts.result clock first.attempts.attempt ∙ ap (λ (m : Inner). m.tick) tied0.inner.is in record {
       step = λ _ s tied.
           let it = c.attempt-end.ensures.call s.inner tied.inner in
           let result = it.attempts.result in
@@ -55,7 +58,10 @@ returns-clause-event c devices =
           let rest : Rest = record (rest_of s) { clock = clock } in
           event-then old p act next devices s tied new devices _ (after_attempt s.inner p.0 result) s.files clock
           s.terms c.tell_end.ensures.chosen there stands (sym c.tell_end.ensures.clock)
-          (terms-are old p act next devices s tied) (
+          (terms-are old p act next devices s tied)
+          (λ event. known-still old new c.tell_end.ensures.known (ap (λ (files : FileState). files.io)
+          c.tell_end.ensures.files) (ap (λ (files : FileState). files.records) c.tell_end.ensures.files)
+          ticks_kept tied.known) (
             result,
             rest,
             (
@@ -71,8 +77,7 @@ returns-clause-event c devices =
       memory = λ out. absurd (never-wants first.attempts.result (ended ∙ out));
       waits = λ is. absurd (time-answers s0.inner p.0 c.args.call old.clock first.now first.attempts.result clock first.attempts.attempt (ended ∙ is));
       going = λ ran. (p, c.tell_end.ensures.chosen ∙ next.chosen, lives-so c.attempt-end.result new.processes.table p.0 (sym c.event_end.ensures ∙ ran) c.tell_end.ensures.lives);
-      count = λ _. sym (ap (λ (m : Inner). m.tick) there0.is) ∙ time-tick s0.inner p.0 c.args.call old.clock first.now
-          first.attempts.result clock first.attempts.attempt ∙ ap (λ (m : Inner). m.tick) tied0.inner.is;
+      count = λ _. ticks_kept;
       calls = leaves-drives old devices devices refl;
       images = keeps-drives old devices devices refl;
     }

@@ -13,9 +13,9 @@ use Rattle.call_rules.specs.Choice.{choice_of, turn_priority}
 use Rattle.call_rules.specs.Inner.{Inner}
 use Rattle.call_rules.specs.Ready.{is_ready}
 use Rattle.proc_state.specs.Sound.{AreTurns}
-use Rattle.proc_state.specs.Ready.{AreActive}
 use Rattle.proc_state.specs.Tie.{Represents}
 use Rattle.proc_state.specs.declared.state.ProcState.{ProcState}
+use Rattle.process_choice.specs.Active.{AreActiveAt}
 
 -- the priority in the scheduler is that of the record, and 0 where no process lives
 priority_of : (records : List (Option Record)) (schedule : Schedule) → AreTurns records schedule → (p : ℕ)
@@ -30,12 +30,12 @@ priority_of records schedule turns p = by_life (is_living records p) refl
     by_life true is = turns.priorities p is
     by_life false is = no_priority (member_of schedule.members p) (turns.members p ∙ is)
 
-module _ (io : ℕ → Bool) (state : ProcState) (active : AreActive io state) (m : Inner) (tied : Represents state m) where
+module _ (io : ℕ → Bool) (state : ProcState) (m : Inner) (active : AreActiveAt io m.tick state) (tied : Represents state m) where
   order_is : state.sched.order ≡ m.order
   order_is = λ i. (sym tied.is i).order
 
   ready : (p : ℕ) → is_active_in state.sched.members p ≡ is_ready io m p
-  ready p = active p ∙ sym (ap (λ (s : Inner). is_ready io s p) tied.is)
+  ready p = active p ∙ sym (ap (λ (s : Inner). is_ready io (record s { tick = m.tick }) p) tied.is)
 
   priority : (p : ℕ) → priority_in state.sched.members p ≡ turn_priority m p
   priority p = priority_of state.table state.sched state.turns p ∙ sym (ap (λ (s : Inner). turn_priority s p) tied.is)

@@ -1,0 +1,57 @@
+use Rattle.std.proofs.Common.{◌≡◌, ◌≤◌, ◌<◌, ◌∙◌, ℕ, refl, sym, ap, subst, arith}
+use Rattle.std.specs.Prelude.{option_and_then}
+use Rattle.os9_sched.specs.declared.member.Wait.{Wait}
+use Rattle.call_rules.specs.Inner.{Inner}
+use Rattle.call_rules.specs.IoReady.{has_io}
+use Rattle.process_choice.specs.Active.{AreActiveAt}
+use Rattle.os9_kernel.specs.Causes.{awaited}
+use Rattle.os9_kernel.specs.Looks.{EndsNotBefore, may_go_in}
+use Rattle.os9_kernel.specs.Tie.{ticks}
+use Rattle.os9_kernel.proofs.Looking.{active-now, active-there, active-until, ends-sooner, known-until}
+use Rattle.os9_kernel.proofs.Represented.{tick-kept}
+use Rattle.os9_kernel.proofs.kernel.Kernel.look.Goals as goal
+
+pub returns-then-tick-self-clause-active : goal.returns-then-tick-self-clause-active
+returns-then-tick-self-clause-active c devices s there =
+    let old = c.args.self.now in
+    active-there old devices s there old.processes (there.looked (ticks old) (omega arith) c.if-tick-self.true)
+
+pub returns-clause-represents : goal.returns-clause-represents
+returns-clause-represents c devices s there =
+    let old = c.args.self.now in
+    let settled = c.settle.new.s in
+    let known = c.asked-self.result in
+    let until = c.min-self.result in
+    let kept = tick-kept old.processes settled (λ (m : Inner). m) c.settle.ensures.tied (λ m. refl) in
+    let goes : (p : ℕ) → p < 33 → has_io known.ready p ≡ may_go_in old.files settled.tick p =
+    (λ p few. c.asked-self.ensures.may_go there.known p few ∙ ap (λ (tick : ℕ). may_go_in old.files tick p) (sym kept)) in
+    let early : until ≤ known.until = omega (arith, c.min-self.ensures) in
+    let sooner : until ≤ c.next_sleep.result = omega (arith, c.min-self.ensures) in record {
+      inner = c.settle.ensures.tied s.inner there.inner;
+      files = there.files;
+      is = there.is;
+      run = there.run;
+      looked = active-until old.files settled (has_io known.ready) c.settle.ensures.active goes
+          until (omega (arith, early, c.asked-self.ensures.fits))
+          (λ p few. ends-sooner settled.tick c.next_sleep.result until _ sooner (c.next_sleep.ensures.sleeps p few))
+          (λ p few. subst (λ (tick : ℕ). EndsNotBefore tick until (option_and_then (λ (wait : Wait). wait.until) (awaited old.files p))) (sym kept)
+          (ends-sooner (ticks old) known.until until _ early (c.asked-self.ensures.waits p few)));
+      known = λ tick p cause from below few waits clear. known-until old.files settled known goes c.asked-self.ensures.fits
+          (λ p few. subst (λ (tick : ℕ). EndsNotBefore tick known.until (option_and_then (λ (wait : Wait). wait.until)
+          (awaited old.files p))) (sym kept) (c.asked-self.ensures.waits p few)) tick p from below few;
+    }
+
+pub returns-clause-active : goal.returns-clause-active
+returns-clause-active c devices s there =
+    let old = c.args.self.now in
+    let settled = c.settle.new.s in
+    let known = c.asked-self.result in
+    let kept = tick-kept old.processes settled (λ (m : Inner). m) c.settle.ensures.tied (λ m. refl) in
+    let goes : (p : ℕ) → p < 33 → has_io known.ready p ≡ may_go_in old.files settled.tick p =
+    (λ p few. c.asked-self.ensures.may_go there.known p few ∙ ap (λ (tick : ℕ). may_go_in old.files tick p) (sym kept)) in
+    active-there old devices s there settled (subst (λ (tick : ℕ). AreActiveAt (may_go_in old.files tick) tick settled) kept
+    (active-now old.files settled (has_io known.ready) c.settle.ensures.active goes))
+
+pub returns-clause-count : goal.returns-clause-count
+returns-clause-count c =
+    tick-kept c.args.self.now.processes c.settle.new.s (λ (m : Inner). m) c.settle.ensures.tied (λ m. refl)
