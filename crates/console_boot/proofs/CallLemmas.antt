@@ -6,14 +6,16 @@ use Rattle.lock_model.specs.declared.history.Entry.{Entry}
 use Rattle.os9_outer.specs.Host.{Files, IfObserved}
 use Rattle.event_rules.specs.declared.ends.BootFault.{BootFault}
 use Rattle.event_rules.specs.declared.ends.BootFault.TheVariants.{OutOfMemory, BadModule as BadModuleFault, NoFirst as NoFirstFault, TooLarge as TooLargeFault}
+use Rattle.boot_run.specs.Loaded.{HasNoKeys}
 use Rattle.file_drives.specs.Drives.{drive_states}
 use Rattle.machine_model.specs.State.{State}
 use Rattle.os9_kernel.specs.Outside.{Outside}
 use Rattle.os9_words.specs.declared.command.RunWords.{RunWords}
 use Rattle.boot_images.specs.BootFile.{IsBootFile, IsFirstFault, IsVolume}
 use Rattle.boot_images.specs.Images.{WritesAll, WritesUpTo, images_of}
+use Rattle.boot_images.specs.Outcome.{EndsWithImages, with_images_in}
 use Rattle.boot_run.specs.Console.{IsObserved}
-use Rattle.boot_run.specs.Machine.{Setup}
+use Rattle.boot_run.specs.Machine.{IsUnrun, Setup}
 use Rattle.boot_run.specs.World.{World, HasNoFault}
 use Rattle.boot_run.specs.declared.machine.RunEnd.{RunEnd}
 use Rattle.boot_run.specs.declared.machine.RunEnd.TheVariants as Run
@@ -23,7 +25,7 @@ use Rattle.command_files.specs.Fails.{FailsAsTold}
 use Rattle.command_files.specs.Stops.{StopsAtRead}
 use Rattle.command_files.specs.declared.status.End.{End}
 use Rattle.command_files.specs.declared.status.End.TheVariants.{Ended, Living, CannotRead, CannotWrite, CannotWriteImage, NoMemory, BadImage, BadText, BadBounds, CannotWriteFile, Refused, BadSource, TerminalFailed}
-use Rattle.os9_boot.specs.Boots.{IfAllObserved, MachineComesTo}
+use Rattle.os9_boot.specs.Boots.{IfAllObserved, MachineComesTo, RunsUnwritten}
 use Rattle.os9_boot.specs.History.{Outputs, output_bytes, output_names, outputs_of}
 use Rattle.os9_boot.specs.Images.{LackBootFile, RefusesImages}
 use Rattle.os9_boot.specs.BootLeft.{LeavesDevices}
@@ -34,20 +36,22 @@ use Rattle.session_text.specs.Typed.{kept_keys, kept_slices}
 use Rattle.session_text.specs.declared.typed.Typed.{Typed}
 use Rattle.console_run.specs.Keyboard.{KeyboardState}
 use Rattle.console_run.specs.Lines.{KeepsLines}
-use Rattle.console_run.specs.Session.{AsksKeyboard, HasSession, IsPartTo, IsSessionTo, StopsFor, StopsSession}
+use Rattle.console_run.specs.Session.{AsksKeyboard, HasSession, IsPartTo, StopsFor, StopsSession}
 use Rattle.console_run.specs.TypedTurn.{TypedTurn}
+use Rattle.console_run.proofs.SessionLemmas.{runs-first}
 use Rattle.console_run.specs.declared.session.SessionEnd.TheVariants.{LineLost, OfRun}
 use Rattle.console_run.specs.declared.turns.Stop.{Stop}
-use Rattle.console_boot.specs.Call.{ConsoleCall, ConsoleComesTo, ConsoleMayEnd, EndsAsSession, EndsUnwritten, LeavesKeyboard, MachineIsSession, SetsUpSession, WasSession}
-use Rattle.console_boot.specs.Images.{LeavesSession, RunsConsole}
+use Rattle.console_boot.specs.Call.{ConsoleCall, ConsoleComesTo, ConsoleMayEnd, EndsAsSession, EndsUnwritten, EndsWithoutMemory, LeavesKeyboard, MachineIsSession, SetsUpSession, StopsUnwritten, WasSession}
+use Rattle.console_boot.specs.Images.{LeavesSession, RunsConsole, StopsMidway}
+use Rattle.console_boot.proofs.StopLemmas.{all-observed}
 
 -- ---- ends before a machine ran
 
 -- memory was out
 pub out-of-memory : (boot : RunWords) (typed : Typed) (from to : KeyboardState) (before after : World)
-    → KeepsLines typed from to → after ≡ before → ConsoleCall boot typed NoMemory from to before after
-out-of-memory boot typed from to before after lines same = record {
-  comes = by before.files;
+    → KeepsLines typed from to → to ≡ from → after ≡ before → ConsoleCall boot typed NoMemory from to before after
+out-of-memory boot typed from to before after lines kept same = record {
+  comes = inl (still-undone before after same, kept);
   may = tt;
   keyboard = tt;
   lines = lines;
@@ -55,16 +59,12 @@ out-of-memory boot typed from to before after lines same = record {
   host = kept-counts before after same;
   files = same-changes (output_names (outputs_of boot)) before.files after.files (λ i. (same i).files);
 }
-  where
-    by : (files : Option Files) → IfSome files (λ files. ConsoleComesTo files boot typed from to before after NoMemory)
-    by None = tt
-    by (Some files) = inl (still-undone before after same)
 
 -- an image could not be read, or memory was out
 pub console-stopped : (boot : RunWords) (typed : Typed) (keyboard : KeyboardState) (before after : World) (end : End)
     → KeepsLines typed keyboard keyboard → StopsAtRead (run_file_name boot) before after end → ConsoleCall boot typed end keyboard keyboard before after
 console-stopped boot typed keyboard before after (CannotRead input) lines (name, named, it) = record {
-  comes = by before.files;
+  comes = tt;
   may = tt;
   keyboard = refl;
   lines = lines;
@@ -72,11 +72,7 @@ console-stopped boot typed keyboard before after (CannotRead input) lines (name,
   host = (name, named, it.failed);
   files = it.files;
 }
-  where
-    by : (files : Option Files) → IfSome files (λ files. ConsoleComesTo files boot typed keyboard keyboard before after (CannotRead input))
-    by None = tt
-    by (Some files) = tt
-console-stopped boot typed keyboard before after NoMemory lines same = out-of-memory boot typed keyboard keyboard before after lines same
+console-stopped boot typed keyboard before after NoMemory lines same = out-of-memory boot typed keyboard keyboard before after lines refl same
 console-stopped boot typed keyboard before after end lines stops = absurd stops
 
 -- what follows of the images that were read
@@ -91,8 +87,8 @@ pub console-refused : (boot : RunWords) (typed : Typed) (keyboard : KeyboardStat
     (images : List (List ℕ)) → KeepsLines typed keyboard keyboard → after ≡ before → IfSome before.files (λ files. images ≡ images_of files boot.files)
     → RefusesImages images end → ConsoleCall boot typed end keyboard keyboard before after
 console-refused boot typed keyboard before after (BadImage number fault) images lines same has refused = record {
-  comes = of-files before.files boot images (λ files. ConsoleComesTo files boot typed keyboard keyboard before after
-      (BadImage number fault)) has (λ files is. subst (λ images. IsFirstFault images number fault) is refused);
+  comes = of-files before.files boot images (λ files. IsFirstFault (images_of files boot.files) number fault) has
+      (λ files is. subst (λ images. IsFirstFault images number fault) is refused);
   may = tt;
   keyboard = refl;
   lines = lines;
@@ -101,7 +97,7 @@ console-refused boot typed keyboard before after (BadImage number fault) images 
   files = λ i. (same i).files;
 }
 console-refused boot typed keyboard before after BadBounds images lines same has refused = record {
-  comes = of-files before.files boot images (λ files. ConsoleComesTo files boot typed keyboard keyboard before after BadBounds) has (λ files is. subst LackBootFile is refused);
+  comes = of-files before.files boot images (λ files. LackBootFile (images_of files boot.files)) has (λ files is. subst LackBootFile is refused);
   may = tt;
   keyboard = refl;
   lines = lines;
@@ -109,7 +105,7 @@ console-refused boot typed keyboard before after BadBounds images lines same has
   host = kept-counts before after same;
   files = λ i. (same i).files;
 }
-console-refused boot typed keyboard before after NoMemory images lines same has refused = out-of-memory boot typed keyboard keyboard before after lines same
+console-refused boot typed keyboard before after NoMemory images lines same has refused = out-of-memory boot typed keyboard keyboard before after lines refl same
 console-refused boot typed keyboard before after end images lines same has refused = absurd refused
 
 -- ---- a machine ran
@@ -128,6 +124,17 @@ may-end outputs before after (Refused number) of failed = absurd of
 may-end outputs before after (BadSource line error) of failed = absurd of
 may-end outputs before after (TerminalFailed n) of failed = absurd of
 may-end outputs before after end of failed = tt
+
+-- the machine of these words with a boot file and images, driven by what is kept of a session
+abbrev pub boot_setup : RunWords → List ℕ → List (List ℕ) → Typed → Setup
+boot_setup boot file images typed = record {
+  file = file;
+  blocks = boot.blocks;
+  time = boot.start;
+  images = images;
+  keys = kept_keys typed;
+  slices = kept_slices typed;
+}
 
 -- what was written behind it is not part of the session
 leaves-then : (setup : Setup) (images : List (List ℕ)) (history : List Entry) (typed : Typed) (before mid after : World)
@@ -156,13 +163,46 @@ stops-then setup images history typed lives stop from to before mid after out de
   stops = subst (λ (stream : Option (List ℕ)). StopsFor stop it.turns it.t from to before.out stream) (sym out) it.stops;
 }
 
-module _ (setup : Setup) (typed : Typed) (outputs : Outputs) (images : List (List ℕ)) (history : List Entry)
-    (from to : KeyboardState) (before mid after : World) (answer : End) (still : mid.files ≡ before.files) where
-  none-refused : (fault : BootFault) → after.files ≡ before.files → to ≡ from → WasSession setup outputs typed from to before after (boot_end fault)
-  none-refused OutOfMemory kept asks = λ told. inl (kept, inl asks)
-  none-refused (BadModuleFault at error) kept asks = tt
-  none-refused NoFirstFault kept asks = tt
-  none-refused TooLargeFault kept asks = tt
+-- by how it ended, and what came of the machine
+module _ (boot : RunWords) (typed : Typed) (setup : Setup) (from to : KeyboardState) (before after : World) (sets : SetsUpSession before.files boot typed setup) where
+  pub machine-is : (end : End) → MachineComesTo setup (outputs_of boot) before after end
+      → WasSession setup (outputs_of boot) typed from to before after end → MachineIsSession boot typed from to before after end
+  machine-is end comes was = record { setup = setup; sets = sets; comes = comes; session = was }
+
+  -- it was a session; where memory was out, what came of the machine is said beside it
+  abbrev WasSo : End → Type 0
+  WasSo NoMemory = EndsWithoutMemory boot typed from to before after
+  WasSo end = WasSession setup (outputs_of boot) typed from to before after end
+
+  console-comes : (end : End) → IsOfMachine end → EndsSo setup (outputs_of boot) before after end → WasSo end → ConsoleComesTo boot typed from to before after end
+  console-comes (CannotRead input) of comes was = tt
+  console-comes (BadText input line) of comes was = absurd of
+  console-comes (BadImage number fault) of comes was = absurd of
+  console-comes BadBounds of comes was = absurd of
+  console-comes NoMemory of comes was = was
+  console-comes end of comes was = machine-is end comes was
+
+module _ (boot : RunWords) (typed : Typed) (file : List ℕ) (old images : List (List ℕ)) (history : List Entry)
+    (from to : KeyboardState) (before mid after : World) (answer : End)
+    (sets : SetsUpSession before.files boot typed (boot_setup boot file old typed)) (still : mid.files ≡ before.files) where
+  abbrev setup : Setup
+  setup = boot_setup boot file old typed
+
+  abbrev outputs : Outputs
+  outputs = outputs_of boot
+
+  abbrev Was : End → Type 0
+  Was end = WasSo boot typed setup from to before after sets end
+
+  none-refused : (fault : BootFault) → after ≡ before → to ≡ from → Was (boot_end fault)
+  none-refused OutOfMemory same asks = inl (still-undone before after same, asks)
+  none-refused (BadModuleFault at error) same asks = tt
+  none-refused NoFirstFault same asks = tt
+  none-refused TooLargeFault same asks = tt
+
+  written-from : (names bytes : List (List ℕ)) (number : ℕ) → IfObserved (WritesUpTo number names bytes) mid.files
+      after.files → IfObserved (WritesUpTo number names bytes) before.files after.files
+  written-from names bytes number wrote = subst (λ files. IfObserved (WritesUpTo number names bytes) files after.files) still wrote
 
   -- it ran to its end, and its images were written
   ends-as : (lives : Bool) → (All IsObserved before.devices.terms → StopsSession (LeavesSession setup images history typed
@@ -186,48 +226,101 @@ module _ (setup : Setup) (typed : Typed) (outputs : Outputs) (images : List (Lis
     images = images;
     history = history;
     session = stops-then setup images history typed lives Stop.Over from to before mid after out devices (it told);
-    files = subst (λ files. IfObserved (WritesUpTo number (output_names outputs) (output_bytes outputs images history)) files after.files) still wrote;
+    files = written-from (output_names outputs) (output_bytes outputs images history) number wrote;
   }
 
-  was-part : (number : ℕ) → IfAllObserved before (EndsUnwritten setup outputs typed number from to before after) → WasSession setup outputs typed from to before after (end_unwritten outputs number)
+  ran-part : (lives : Bool) (begun : ℕ) → (All IsObserved before.devices.terms → EndsWithImages setup lives begun images
+      history before mid) → after.out ≡ mid.out → after.devices ≡ mid.devices → (number : ℕ)
+      → IfObserved (WritesUpTo number (output_names outputs) (output_bytes outputs images history)) mid.files after.files
+      → All IsObserved before.devices.terms → RunsUnwritten setup outputs number before after
+  ran-part lives begun ran out devices number wrote told =
+      let it : EndsWithImages setup lives begun images history before mid = ran told in
+      record {
+        t = it.t;
+        written = it.written;
+        images = images;
+        outcome = record {
+          s = it.outcome.s;
+          starts = it.outcome.starts;
+          states = it.outcome.states;
+          run = it.outcome.run;
+          terminals = ap (λ (devices : Outside). devices.terms) devices ∙ it.outcome.terminals;
+          drives = ap (λ (devices : Outside). drive_states devices.drives) devices ∙ it.outcome.drives;
+          volumes = it.outcome.volumes;
+          unchanged = it.outcome.unchanged;
+        };
+        output = out ∙ it.output;
+        files = subst (λ (history : List Entry). IfObserved (WritesUpTo number (output_names outputs) (output_bytes outputs images history)) before.files after.files) it.recorded
+            (written-from (output_names outputs) (output_bytes outputs images history) number wrote);
+      }
+
+  was-part : (number : ℕ) → IfAllObserved before (EndsUnwritten setup outputs typed number from to before after) → Was (end_unwritten outputs number)
   was-part number part = by (number == length outputs.images) refl
     where
-      by : (last : Bool) → (number == length outputs.images) ≡ last → WasSession setup outputs typed from to before after (if last then CannotWriteFile else CannotWriteImage number)
+      by : (last : Bool) → (number == length outputs.images) ≡ last → Was (if last then CannotWriteFile else CannotWriteImage number)
       by true is = λ told.
           subst (λ number. EndsUnwritten setup outputs typed number from to before after) (eqb-true number (length outputs.images) is) (part told)
       by false is = part
 
   was-written : (end : End) → (after.out ≡ mid.out → after.devices ≡ mid.devices
       → IfObserved (WritesAll (output_names outputs) (output_bytes outputs images history)) mid.files after.files
-      → WasSession setup outputs typed from to before after end)
+      → Was end)
       → (after.out ≡ mid.out → after.devices ≡ mid.devices → (number : ℕ)
       → IfObserved (WritesUpTo number (output_names outputs) (output_bytes outputs images history)) mid.files after.files
-      → IfAllObserved before (EndsUnwritten setup outputs typed number from to before after))
-      → WritesBack outputs (output_bytes outputs images history) end answer mid after → WasSession setup outputs typed from to before after answer
+      → IfAllObserved before (EndsUnwritten setup outputs typed number from to before after × RunsUnwritten setup outputs number before after))
+      → WritesBack outputs (output_bytes outputs images history) end answer mid after → Was answer
   was-written end was part wrote = by wrote.files
     where
       by : ((answer ≡ end) × HasNoFault mid after × IfObserved (WritesAll (output_names outputs) (output_bytes outputs images history)) mid.files after.files) ⊎
-          ((number : ℕ) × StopsAt outputs (output_bytes outputs images history) number answer mid after) → WasSession setup outputs typed from to before
-          after answer
-      by (inl (is, kept, all)) = subst (WasSession setup outputs typed from to before after) (sym is) (was wrote.out_kept wrote.devices_kept all)
-      by (inr (number, (written, inl (is, failed)))) = subst (WasSession setup outputs typed from to before after) (sym is) (was-part number (part wrote.out_kept wrote.devices_kept number written))
+          ((number : ℕ) × StopsAt outputs (output_bytes outputs images history) number answer mid after) → Was answer
+      by (inl (is, kept, all)) = subst Was (sym is) (was wrote.out_kept wrote.devices_kept all)
+      by (inr (number, (written, inl (is, failed)))) =
+          subst Was (sym is) (was-part number (λ told. (part wrote.out_kept wrote.devices_kept number written told).0))
       by (inr (number, (written, inr (is, kept)))) =
-          subst (WasSession setup outputs typed from to before after) (sym is) (λ told. inr (number, part wrote.out_kept wrote.devices_kept number written told))
+          subst Was (sym is)
+          (inr (inl (machine-is boot typed setup from to before after sets NoMemory
+          (λ told. inr (number, (part wrote.out_kept wrote.devices_kept number written told).1))
+          (λ told. inr (number, (part wrote.out_kept wrote.devices_kept number written told).0)))))
 
-  was-session : (end : RunEnd) → (All IsObserved before.devices.terms → IsSessionTo (LeavesSession setup images history typed
-      before mid) (OfRun end) from to before mid) → AsksKeyboard (OfRun end) from to
-      → (All IsObserved before.devices.terms → IsPartTo setup typed (OfRun end) from to before) → EndsBoot outputs (output_bytes outputs images history)
-      end answer mid after → WasSession setup outputs typed from to before after answer
-  was-session (Run.Ended begun) it asks part ends = was-written Ended (λ out devices wrote. ends-as false it out
-      devices wrote) (λ out devices number wrote. ends-part false it out devices number wrote) ends
-  was-session (Run.Living begun) it asks part ends = was-written Living (λ out devices wrote. ends-as true it out
-      devices wrote) (λ out devices number wrote. ends-part true it out devices number wrote) ends
-  was-session (Run.Refused fault) it asks part (is, same) =
-      subst (WasSession setup outputs typed from to before after) (sym is) (none-refused fault (ap (λ (world : World). world.files) same ∙ still) asks)
-  was-session (Run.DriveFailed drive number) it asks part (is, same) = subst (WasSession setup outputs typed from to before after) (sym is) tt
-  was-session Run.OutputFailed it asks part (is, same) = subst (WasSession setup outputs typed from to before after) (sym is) part
-  was-session Run.NoMemory it asks part (is, same) =
-      subst (WasSession setup outputs typed from to before after) (sym is) (λ told. inl (ap (λ (world : World). world.files) same ∙ still, part told))
+  -- it stopped before its end
+  stops-unwritten : after ≡ mid → StopsMidway setup typed images from to before mid → StopsUnwritten setup typed from to before after
+  stops-unwritten same it = record {
+    images = images;
+    within = subst (λ (world : World). StopsMidway setup typed images from to before world) (sym same) it;
+    files = ap (λ (world : World). world.files) same ∙ still;
+  }
+
+  was-memory : All HasNoKeys before.devices.terms → (All IsObserved before.devices.terms → IsPartTo (IsUnrun before mid)
+      (StopsMidway setup typed images from to before mid) (OfRun Run.NoMemory) from to) → after ≡ mid → Was NoMemory
+  was-memory none part same = elim (all-observed before.devices.terms) [
+    | inl told ↦ by (part told)
+    | inr other ↦ inr (inl (machine-is boot typed setup from to before after sets NoMemory (λ told. absurd (other told)) (λ told. absurd (other told))))
+  ]
+    where
+      by : (IsUnrun before mid × (to ≡ from)) ⊎ StopsMidway setup typed images from to before mid → Was NoMemory
+      by (inl (unrun, kept)) =
+          inl (record { unrun = subst (λ (world : World). IsUnrun before world) (sym same) unrun; files = ap (λ (world : World). world.files) same ∙ still }, kept)
+      by (inr it) =
+          let stops : StopsUnwritten setup typed from to before after = stops-unwritten same it in
+          inr (inl (machine-is boot typed setup from to before after sets NoMemory
+          (λ told. inl (record {
+            first = record { images = stops.images; first = runs-first setup typed from to before (with_images_in stops.images after) none stops.within };
+            files = stops.files;
+          })) (λ told. inl stops)))
+
+  was-session : All HasNoKeys before.devices.terms → (end : RunEnd)
+      → RunsConsole setup typed images history (OfRun end) from to before mid
+      → EndsBoot outputs (output_bytes outputs images history) end answer mid after → Was answer
+  was-session none (Run.Ended begun) ran ends =
+      was-written Ended (λ out devices wrote. ends-as false ran.session out devices wrote)
+      (λ out devices number wrote told. (ends-part false ran.session out devices number wrote told, ran-part false begun ran.machine.gives out devices number wrote told)) ends
+  was-session none (Run.Living begun) ran ends =
+      was-written Living (λ out devices wrote. ends-as true ran.session out devices wrote)
+      (λ out devices number wrote told. (ends-part true ran.session out devices number wrote told, ran-part true begun ran.machine.gives out devices number wrote told)) ends
+  was-session none (Run.Refused fault) ran (is, same) = subst Was (sym is) (none-refused fault (same ∙ ran.machine.unrun) ran.keyboard)
+  was-session none (Run.DriveFailed drive number) ran (is, same) = subst Was (sym is) tt
+  was-session none Run.OutputFailed ran (is, same) = subst Was (sym is) (λ told. stops-unwritten same (ran.stopped told))
+  was-session none Run.NoMemory ran (is, same) = subst Was (sym is) (was-memory none ran.stopped same)
 
 -- ---- the keyboard
 
@@ -262,42 +355,16 @@ module _ (outputs : Outputs) (bytes : List (List ℕ)) (from to : KeyboardState)
   keyboard-left Run.OutputFailed kept (is, same) = subst (λ end. LeavesKeyboard end from to) (sym is) tt
   keyboard-left Run.NoMemory kept (is, same) = subst (λ end. LeavesKeyboard end from to) (sym is) tt
 
--- by how it ended
-module _ (files : Files) (boot : RunWords) (typed : Typed) (setup : Setup) (from to : KeyboardState) (before after : World) (sets : SetsUpSession files boot typed setup) where
-  machine-is : (end : End) → MachineComesTo setup (outputs_of boot) before after end
-      → WasSession setup (outputs_of boot) typed from to before after end → MachineIsSession files boot typed from to before after end
-  machine-is end comes was = record { setup = setup; sets = sets; comes = comes; session = was }
-
-  console-comes : (end : End) → IsOfMachine end → EndsSo setup (outputs_of boot) before after end
-      → WasSession setup (outputs_of boot) typed from to before after end → ConsoleComesTo files boot typed from to before
-      after end
-  console-comes (CannotRead input) of comes was = tt
-  console-comes (BadText input line) of comes was = absurd of
-  console-comes (BadImage number fault) of comes was = absurd of
-  console-comes BadBounds of comes was = absurd of
-  console-comes NoMemory of (inl undone) was = inl undone
-  console-comes NoMemory of (inr comes) was = inr (inl (machine-is NoMemory comes was))
-  console-comes end of comes was = machine-is end comes was
-
--- the machine of these words with a boot file and images, driven by what is kept of a session
-abbrev pub boot_setup : RunWords → List ℕ → List (List ℕ) → Typed → Setup
-boot_setup boot file images typed = record {
-  file = file;
-  blocks = boot.blocks;
-  time = boot.start;
-  images = images;
-  keys = kept_keys typed;
-  slices = kept_slices typed;
-}
-
-sets-up : (files : Files) (boot : RunWords) (typed : Typed) (file : List ℕ) (images : List (List ℕ))
-    → All IsVolume images → IsBootFile images file → images ≡ images_of files boot.files → SetsUpSession files boot
-    typed (boot_setup boot file images typed)
-sets-up files boot typed file images volumes whole is = record {
+sets-up : (told : Option Files) (boot : RunWords) (typed : Typed) (file : List ℕ) (images : List (List ℕ))
+    → length images ≡ length boot.files → All IsVolume images → IsBootFile images file
+    → IfSome told (λ files. images ≡ images_of files boot.files) → SetsUpSession told boot typed (boot_setup boot file
+    images typed)
+sets-up told boot typed file images many volumes whole is = record {
   keys = refl;
   slices = refl;
   blocks = refl;
   time = refl;
+  as_many = many;
   images = is;
   volumes = volumes;
   file = whole;
@@ -307,18 +374,16 @@ sets-up files boot typed file images volumes whole is = record {
 pub console-ended : (boot : RunWords) (typed : Typed) (file : List ℕ) (images new : List (List ℕ))
     (history : List Entry) (from to : KeyboardState) (before mid after : World) (end : RunEnd) (answer : End) → length images ≡ length
     boot.files → All IsVolume images
-    → IsBootFile images file → IfSome before.files (λ files. images ≡ images_of files boot.files)
+    → IsBootFile images file → All HasNoKeys before.devices.terms → IfSome before.files (λ files. images ≡ images_of files boot.files)
     → RunsConsole (boot_setup boot file images typed) typed new history (OfRun end) from to before mid
     → EndsBoot (outputs_of boot) (output_bytes (outputs_of boot) new history) end answer mid after → ConsoleCall boot typed answer from to before after
-console-ended boot typed file images new history from to before mid after end answer many volumes whole has ran ends =
+console-ended boot typed file images new history from to before mid after end answer many volumes whole none has ran ends =
     let setup : Setup = boot_setup boot file images typed in
+    let sets : SetsUpSession before.files boot typed setup = sets-up before.files boot typed file images many volumes whole has in
     let it = machine-ends setup (outputs_of boot) new history before mid after end answer ran.machine ends in
-    let was : WasSession setup (outputs_of boot) typed from to before after answer =
-    was-session setup typed (outputs_of boot) new history from to before mid after answer ran.machine.files_kept end ran.session ran.keyboard ran.stopped ends in
+    let was = was-session boot typed file images new history from to before mid after answer sets ran.machine.files_kept none end ran ends in
     record {
-      comes = of-files before.files boot images (λ files. ConsoleComesTo files boot typed from to before after answer)
-          has (λ files is. console-comes files boot typed setup from to before after (sets-up files boot typed file
-          images volumes whole is) answer it.kind it.comes was);
+      comes = console-comes boot typed setup from to before after sets answer it.kind it.comes was;
       may = may-end (outputs_of boot) before after answer it.kind it.host;
       keyboard = keyboard-left (outputs_of boot) (output_bytes (outputs_of boot) new history) from to mid after answer end ran.keyboard ends;
       lines = ran.lines;
@@ -329,24 +394,21 @@ console-ended boot typed file images new history from to before mid after end an
 
 -- or it came to a line for which memory was out
 pub console-lost : (boot : RunWords) (typed : Typed) (file : List ℕ) (images new : List (List ℕ))
-    (history : List Entry) (from to : KeyboardState) (before after : World) → All IsVolume images
+    (history : List Entry) (from to : KeyboardState) (before after : World) → length images ≡ length boot.files → All IsVolume images
     → IsBootFile images file
     → IfSome before.files (λ files. images ≡ images_of files boot.files) → (end : RunEnd)
     → RunsConsole (boot_setup boot file images typed) typed new history (LineLost end) from to before after
     → ConsoleCall boot typed NoMemory from to before after
-console-lost boot typed file images new history from to before after volumes whole has end ran =
-    let setup : Setup = boot_setup boot file images typed in
-    record {
-      comes = of-files before.files boot images (λ files. ConsoleComesTo files boot typed from to before after NoMemory) has
-          (λ files is. inr (inr (record {
-            setup = setup;
-            sets = sets-up files boot typed file images volumes whole is;
-            session = λ told. record { images = new; history = history; session = ran.session told; files = ran.machine.files_kept };
-          })));
-      may = tt;
-      keyboard = tt;
-      lines = ran.lines;
-      devices = tt;
-      host = ran.machine.no_fault ran.at_line;
-      files = same-changes (output_names (outputs_of boot)) before.files after.files ran.machine.files_kept;
-    }
+console-lost boot typed file images new history from to before after many volumes whole has end ran = record {
+  comes = inr (inr (record {
+    setup = boot_setup boot file images typed;
+    sets = sets-up before.files boot typed file images many volumes whole has;
+    session = λ told. record { images = new; history = history; session = ran.session told; files = ran.machine.files_kept };
+  }));
+  may = tt;
+  keyboard = tt;
+  lines = ran.lines;
+  devices = tt;
+  host = ran.machine.no_fault ran.at_line;
+  files = same-changes (output_names (outputs_of boot)) before.files after.files ran.machine.files_kept;
+}

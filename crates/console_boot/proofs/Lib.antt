@@ -3,5 +3,6 @@ pub mod NoteLemmas
 pub mod RecordLemmas
 pub mod RoomLemmas
 pub mod SessionLemmas
+pub mod StopLemmas
 pub mod TopLemmas
 pub mod WordLemmas

@@ -2,7 +2,7 @@
 use Rattle.std.proofs.Common.{◌≤◌, ℕ, ◌&&◌, Bool, true, false, Option, Some, None, List, length, is_some, refl, ◌≡◌, if◌then◌else◌, arith}
 use Rattle.std.specs.Prelude.{codes}
 use Rattle.std.specs.Option.{option_and_then, option_map_or}
-use Rattle.key_loading.specs.Loaded.{AreUnloaded}
+use Rattle.boot_run.specs.Loaded.{AreUnloaded}
 use Rattle.option_reader.specs.Given.{Given, value_of, words_give}
 use Rattle.os9_words.specs.declared.command.Command.{Command}
 use Rattle.os9_words.specs.declared.command.Command.TheVariants.{Run, Boot, Check, Stress, Vol, Asm, Debug}

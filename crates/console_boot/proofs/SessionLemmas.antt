@@ -1,11 +1,11 @@
 -- A session with images in the drives.
-use Rattle.std.proofs.Common.{◌≡◌, Bool, true, false, List, ℕ, Some, length, slice_get, sym, subst, ap, ◌∙◌, inl, inr}
+use Rattle.std.proofs.Common.{◌≡◌, ◌≤◌, Bool, true, false, List, ℕ, Some, length, slice_get, sym, subst, ap, ◌∙◌, All, inl, inr, arith}
 use Rattle.lock_model.specs.declared.history.Entry.{Entry}
 use Rattle.rbf_model.specs.Volume.{Vol}
 use Rattle.os9_outer.specs.TerminalState.{TerminalState}
-use Rattle.key_loading.specs.Loaded.{loaded}
-use Rattle.file_rules.specs.Files.{DriveState}
-use Rattle.file_drives.specs.Drives.{drive_states}
+use Rattle.boot_run.specs.Loaded.{loaded}
+use Rattle.file_rules.specs.Files.{DriveState, NoneFailed}
+use Rattle.file_drives.specs.Drives.{drive_states, media_of}
 use Rattle.file_drives.proofs.DriveLemmas.{media-there}
 use Rattle.machine_model.specs.Start.{Starts}
 use Rattle.machine_model.specs.State.{State}
@@ -14,12 +14,12 @@ use Rattle.image_laws.proofs.Images.{written-back}
 use Rattle.image_laws.proofs.Runs.{run-keeps-ends}
 use Rattle.image_laws.proofs.Starts.{start-has-images}
 use Rattle.os9_kernel.specs.Outside.{Outside}
-use Rattle.boot_run.specs.Machine.{Setup, StartsLoaded, boot_of}
+use Rattle.boot_run.specs.Machine.{IsUnrun, Setup, StartsLoaded, boot_of}
 use Rattle.boot_run.specs.World.{World}
 use Rattle.boot_run.specs.declared.machine.RunEnd.TheVariants.{Ended, Living, NoMemory, OutputFailed}
-use Rattle.boot_images.specs.Drives.{TakesImages, holding}
+use Rattle.boot_images.specs.Drives.{IsEmpty, TakesImages, holding}
 use Rattle.boot_images.specs.Outcome.{IsImageOf}
-use Rattle.boot_images.proofs.DriveLemmas.{counts-holding, counts-without}
+use Rattle.boot_images.proofs.DriveLemmas.{counts-holding, counts-without, media-without}
 use Rattle.session_text.specs.Typed.{kept_keys, kept_slices}
 use Rattle.session_text.specs.declared.typed.Typed.{Typed}
 use Rattle.console_run.specs.Kept.{load_of}
@@ -29,7 +29,8 @@ use Rattle.console_run.specs.TypedTurn.{TypedTurn}
 use Rattle.console_run.specs.declared.session.SessionEnd.{SessionEnd}
 use Rattle.console_run.specs.declared.session.SessionEnd.TheVariants.{LineLost, OfRun}
 use Rattle.console_run.specs.declared.turns.Stop.{Stop}
-use Rattle.console_boot.specs.Images.{LeavesSession}
+use Rattle.console_boot.specs.Images.{LeavesSession, StopsMidway}
+use Rattle.console_boot.proofs.StopLemmas.{part-again}
 
 -- the devices as they are before a call, with the images in the drives, and at the end
 module _ (setup : Setup) (typed : Typed) (before ran : World) (inside left : Outside) (new : List (List ℕ))
@@ -90,13 +91,31 @@ module _ (setup : Setup) (typed : Typed) (before ran : World) (inside left : Out
   session-between (OfRun end) from to it = tt
   session-between (LineLost end) from to it = stopped true Stop.LineLost from to it
 
-  within : (from to : KeyboardState) → StopsWithin setup typed from to held → StopsWithin setup typed from to before
-  within from to it = record { s = it.s; starts = starts-before it.s it.starts; part = it.part }
+  module _ (enough : length setup.images ≤ length before.devices.drives)
+      (many : length ran.devices.drives ≡ length before.devices.drives) (empty : All IsEmpty before.devices.drives) where
+    within : (from to : KeyboardState) → StopsWithin setup typed from to held ran → StopsMidway setup typed new from to before after
+    within from to it = record {
+      s = it.s;
+      starts = starts-before it.s it.starts;
+      part = part-again (boot_of (untyped setup) held) it.s it.starts ran new left as_many
+          (omega (arith, as_many, enough, many)) taken terms_left typed from to before inside it.part;
+    }
 
-  pub part-between : (end : SessionEnd) (from to : KeyboardState) → IsPartTo setup typed end from to held
-      → IsPartTo setup typed end from to before
-  part-between (OfRun OutputFailed) from to it = within from to it
-  part-between (OfRun NoMemory) from to (inl kept) = inl kept
-  part-between (OfRun NoMemory) from to (inr it) = inr (within from to it)
-  part-between (OfRun end) from to it = tt
-  part-between (LineLost end) from to it = tt
+    unrun : IsUnrun held ran → IsUnrun before after
+    unrun it = record {
+      out = it.out;
+      terminals = terms_left ∙ it.terminals ∙ terms_put;
+      none_failed = subst (λ (states : List DriveState). NoneFailed states (drive_states left.drives))
+          (ap drive_states put ∙ counts-holding setup.images before.devices.drives)
+          (subst (NoneFailed (drive_states inside.drives)) (sym (ap drive_states taken.left ∙ counts-without ran.devices.drives)) it.none_failed);
+      media_kept = ap media_of taken.left ∙ media-without before.devices.drives ran.devices.drives empty many;
+    }
+
+    pub part-between : (end : SessionEnd) (from to : KeyboardState)
+        → IsPartTo (IsUnrun held ran) (StopsWithin setup typed from to held ran) end from to
+        → IsPartTo (IsUnrun before after) (StopsMidway setup typed new from to before after) end from to
+    part-between (OfRun OutputFailed) from to it = within from to it
+    part-between (OfRun NoMemory) from to (inl (none, kept)) = inl (unrun none, kept)
+    part-between (OfRun NoMemory) from to (inr it) = inr (within from to it)
+    part-between (OfRun end) from to it = tt
+    part-between (LineLost end) from to it = tt

@@ -82,7 +82,7 @@ module _ (words : List (List ℕ)) (from to : KeyboardState) (before after : Wor
             typed = typed;
             end = NoMemory;
             mid = after;
-            call = out-of-memory read.boot typed from to before after lines same;
+            call = out-of-memory read.boot typed from to before after lines kept same;
             recording = Unasked;
             recorded = record { unasked = λ none. (refl, refl); asked = λ never. absurd (false≢true never); out = refl; devices = refl };
             status_is = refl;

@@ -1,5 +1,5 @@
 -- What comes of a boot of disks at whose machine a person types (this project's own).
-use Rattle.std.specs.Prelude.{◌≡◌, ◌⊎◌, ℕ, ⊤, Bool, true, false, List, IfSome, length, All}
+use Rattle.std.specs.Prelude.{◌≡◌, ◌⊎◌, ℕ, ⊤, Bool, true, false, Option, List, IfSome, length, All}
 use Rattle.os9_outer.specs.Host.{Files, IfObserved}
 use Rattle.os9_words.specs.declared.command.RunWords.{RunWords}
 use Rattle.lock_model.specs.declared.history.Entry.{Entry}
@@ -14,22 +14,24 @@ use Rattle.command_files.specs.declared.status.End.TheVariants.{Ended, Living, C
 use Rattle.session_text.specs.Typed.{kept_keys, kept_slices}
 use Rattle.console_run.specs.Keyboard.{KeyboardState}
 use Rattle.console_run.specs.Lines.{KeepsLines}
-use Rattle.console_run.specs.Session.{StopsSession, StopsWithin}
+use Rattle.console_run.specs.Session.{StopsSession}
 use Rattle.session_text.specs.declared.typed.Typed.{Typed}
 use Rattle.console_run.specs.declared.turns.Stop.TheVariants.{LineLost, Over}
-use Rattle.console_boot.specs.Images.{LeavesSession}
+use Rattle.console_boot.specs.Images.{LeavesSession, StopsMidway}
 use Rattle.os9_boot.specs.Boots.{IfAllObserved, IsUndone, MachineComesTo}
 use Rattle.os9_boot.specs.History.{Outputs, output_bytes, output_names, outputs_of}
 use Rattle.os9_boot.specs.Images.{LackBootFile}
 use Rattle.os9_boot.specs.BootLeft.{BootLeavesFiles, BootMayEnd, LeavesDevices}
 
--- The machine is that of the words, with the images of their files, and what is kept of its session drives it.
-pub record SetsUpSession (files : Files) (boot : RunWords) (typed : Typed) (setup : Setup) : Type 0 where
+-- The machine is that of the words, with images that represent volumes, and what is kept of its session drives it. If
+-- the files are observed, the images are those of the files that the words name.
+pub record SetsUpSession (told : Option Files) (boot : RunWords) (typed : Typed) (setup : Setup) : Type 0 where
   pub keys : setup.keys ≡ kept_keys typed
   pub slices : setup.slices ≡ kept_slices typed
   pub blocks : setup.blocks ≡ boot.blocks
   pub time : setup.time ≡ boot.start
-  pub images : setup.images ≡ images_of files boot.files
+  pub as_many : length setup.images ≡ length boot.files
+  pub images : IfSome told (λ files. setup.images ≡ images_of files boot.files)
   pub volumes : All IsVolume setup.images
   pub file : IsBootFile setup.images setup.file
 
@@ -53,6 +55,14 @@ pub record EndsUnwritten (setup : Setup) (outputs : Outputs) (typed : Typed) (nu
   pub files : IfObserved (WritesUpTo number (output_names outputs) (output_bytes outputs images history))
       before.files after.files
 
+-- A session stopped within a slice or as the bytes of one were put out, with these images in the drives, and no file is
+-- written.
+pub record StopsUnwritten (setup : Setup) (typed : Typed) (from to : KeyboardState) (before after : World) : Type 0
+  where
+    pub images : List (List ℕ)
+    pub within : StopsMidway setup typed images from to before after
+    pub files : after.files ≡ before.files
+
 -- A session came to keys for which memory was out, and no image is written.
 pub record LosesLine (setup : Setup) (typed : Typed) (from to : KeyboardState) (before after : World) : Type 0 where
   pub images : List (List ℕ)
@@ -62,7 +72,7 @@ pub record LosesLine (setup : Setup) (typed : Typed) (from to : KeyboardState) (
 
 -- A machine that came to its end came there as a session, if the bytes of all terminals are observed. An image is
 -- written then alone, also if memory was out. If the output failed, or memory was out before, it stopped within a
--- session, or the keyboard was not asked.
+-- session.
 abbrev pub WasSession : Setup → Outputs → Typed → KeyboardState → KeyboardState → World → World → End → Type 0
 WasSession setup outputs typed from to before after Ended =
     IfAllObserved before (EndsAsSession setup outputs typed false from to before after)
@@ -73,46 +83,51 @@ WasSession setup outputs typed from to before after (CannotWriteImage number) =
 WasSession setup outputs typed from to before after CannotWriteFile =
     IfAllObserved before (EndsUnwritten setup outputs typed (length outputs.images) from to before after)
 WasSession setup outputs typed from to before after CannotWrite =
-    IfAllObserved before (StopsWithin setup typed from to before)
+    IfAllObserved before (StopsUnwritten setup typed from to before after)
 WasSession setup outputs typed from to before after NoMemory =
-    IfAllObserved before (((after.files ≡ before.files) × ((to ≡ from) ⊎ StopsWithin setup typed from to before))
+    IfAllObserved before (StopsUnwritten setup typed from to before after
     ⊎ ((number : ℕ) × EndsUnwritten setup outputs typed number from to before after))
 WasSession setup outputs typed from to before after end = ⊤
 
 -- a machine is set up so, and what comes of it is what comes of a boot whose machine has the keys and slices that are
 -- kept
-pub record MachineIsSession (files : Files) (boot : RunWords) (typed : Typed) (from to : KeyboardState)
-    (before after : World) (end : End) : Type 0 where
+pub record MachineIsSession (boot : RunWords) (typed : Typed) (from to : KeyboardState) (before after : World)
+    (end : End) : Type 0 where
   pub setup : Setup
-  pub sets : SetsUpSession files boot typed setup
+  pub sets : SetsUpSession before.files boot typed setup
   pub comes : MachineComesTo setup (outputs_of boot) before after end
   pub session : WasSession setup (outputs_of boot) typed from to before after end
 
 -- or it came to keys for which memory was out
-pub record MachineLosesLine (files : Files) (boot : RunWords) (typed : Typed) (from to : KeyboardState)
-    (before after : World) : Type 0 where
-  pub setup : Setup
-  pub sets : SetsUpSession files boot typed setup
-  pub session : IfAllObserved before (LosesLine setup typed from to before after)
+pub record MachineLosesLine (boot : RunWords) (typed : Typed) (from to : KeyboardState) (before after : World) : Type 0
+  where
+    pub setup : Setup
+    pub sets : SetsUpSession before.files boot typed setup
+    pub session : IfAllObserved before (LosesLine setup typed from to before after)
+
+-- memory was out before the keyboard was asked, and nothing was done; or it was out for a session
+abbrev pub EndsWithoutMemory : RunWords → Typed → KeyboardState → KeyboardState → World → World → Type 0
+EndsWithoutMemory boot typed from to before after =
+    (IsUndone before after × (to ≡ from))
+    ⊎ (MachineIsSession boot typed from to before after NoMemory
+    ⊎ MachineLosesLine boot typed from to before after)
 
 -- by how it ended
-abbrev pub ConsoleComesTo : Files → RunWords → Typed → KeyboardState → KeyboardState → World → World → End → Type 0
-ConsoleComesTo files boot typed from to before after (CannotRead input) = ⊤
-ConsoleComesTo files boot typed from to before after (BadImage number fault) =
-    IsFirstFault (images_of files boot.files) number fault
-ConsoleComesTo files boot typed from to before after BadBounds = LackBootFile (images_of files boot.files)
-ConsoleComesTo files boot typed from to before after NoMemory =
-    IsUndone before after
-    ⊎ (MachineIsSession files boot typed from to before after NoMemory
-    ⊎ MachineLosesLine files boot typed from to before after)
-ConsoleComesTo files boot typed from to before after end = MachineIsSession files boot typed from to before after end
+abbrev pub ConsoleComesTo : RunWords → Typed → KeyboardState → KeyboardState → World → World → End → Type 0
+ConsoleComesTo boot typed from to before after (CannotRead input) = ⊤
+ConsoleComesTo boot typed from to before after (BadImage number fault) =
+    IfSome before.files (λ files. IsFirstFault (images_of files boot.files) number fault)
+ConsoleComesTo boot typed from to before after BadBounds =
+    IfSome before.files (λ files. LackBootFile (images_of files boot.files))
+ConsoleComesTo boot typed from to before after NoMemory = EndsWithoutMemory boot typed from to before after
+ConsoleComesTo boot typed from to before after end = MachineIsSession boot typed from to before after end
 
 -- it reads no text, and else ends as a boot may
 abbrev pub ConsoleMayEnd : Outputs → End → Type 0
 ConsoleMayEnd outputs (BadText input line) = ⊥
 ConsoleMayEnd outputs end = BootMayEnd outputs end
 
--- the keyboard is not asked if no machine was started
+-- the keyboard is not asked if no machine was started, as `EndsWithoutMemory` says if memory was out
 abbrev pub LeavesKeyboard : End → KeyboardState → KeyboardState → Type 0
 LeavesKeyboard Ended from to = ⊤
 LeavesKeyboard Living from to = ⊤
@@ -126,7 +141,7 @@ LeavesKeyboard end from to = to ≡ from
 -- gave, at every end.
 pub record ConsoleCall (boot : RunWords) (typed : Typed) (end : End) (from to : KeyboardState) (before after : World)
     : Type 0 where
-  pub comes : IfSome before.files (λ files. ConsoleComesTo files boot typed from to before after end)
+  pub comes : ConsoleComesTo boot typed from to before after end
   pub may : ConsoleMayEnd (outputs_of boot) end
   pub keyboard : LeavesKeyboard end from to
   pub lines : KeepsLines typed from to

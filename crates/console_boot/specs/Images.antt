@@ -3,14 +3,14 @@ use Rattle.std.specs.Prelude.{◌≡◌, ℕ, List, All}
 use Rattle.lock_model.specs.declared.history.Entry.{Entry}
 use Rattle.file_drives.specs.Drives.{drive_states}
 use Rattle.machine_model.specs.State.{State}
-use Rattle.boot_images.specs.Outcome.{AreImagesOf, RunsImages, setup_of}
+use Rattle.boot_images.specs.Outcome.{AreImagesOf, RunsImages, setup_of, with_images_in}
 use Rattle.boot_images.specs.declared.machine.Start.{Start}
 use Rattle.boot_run.specs.Console.{IsObserved}
-use Rattle.boot_run.specs.Machine.{Setup, StartsLoaded}
+use Rattle.boot_run.specs.Machine.{IsUnrun, Setup, StartsLoaded}
 use Rattle.boot_run.specs.World.{World}
 use Rattle.session_text.specs.Typed.{kept_keys, kept_slices}
 use Rattle.console_run.specs.Keyboard.{KeyboardState}
-use Rattle.console_run.specs.Session.{AsksKeyboard, EndsAtLine, HasSession, IsPartTo, IsSessionTo, run_end, untyped}
+use Rattle.console_run.specs.Session.{AsksKeyboard, EndsAtLine, HasSession, IsPartTo, IsSessionTo, StopsWithin, run_end, untyped}
 use Rattle.console_run.specs.Lines.{KeepsLines}
 use Rattle.console_run.specs.TypedTurn.{TypedTurn}
 use Rattle.session_text.specs.declared.typed.Typed.{Typed}
@@ -34,6 +34,11 @@ pub record LeavesSession (setup : Setup) (images : List (List ℕ)) (history : L
   pub volumes : AreImagesOf t setup.images images
   pub recorded : history ≡ t.files.records.history
 
+-- it was a part of a session, with these images in its drives when that stopped
+abbrev pub StopsMidway : Setup → Typed → List (List ℕ) → KeyboardState → KeyboardState → World → World → Type 0
+StopsMidway setup typed images from to before after =
+    StopsWithin setup typed from to before (with_images_in images after)
+
 -- The machine that is set up so was run with its images in the drives, these were taken out again, and this history was
 -- handed out. What is kept was typed, and it was a session or a part of one if the bytes of all terminals are observed.
 pub record RunsConsole (setup : Setup) (typed : Typed) (images : List (List ℕ)) (history : List Entry)
@@ -44,4 +49,5 @@ pub record RunsConsole (setup : Setup) (typed : Typed) (images : List (List ℕ)
   pub lines : KeepsLines typed from to
   pub session : All IsObserved before.devices.terms
       → IsSessionTo (LeavesSession setup images history typed before after) end from to before after
-  pub stopped : All IsObserved before.devices.terms → IsPartTo setup typed end from to before
+  pub stopped : All IsObserved before.devices.terms
+      → IsPartTo (IsUnrun before after) (StopsMidway setup typed images from to before after) end from to

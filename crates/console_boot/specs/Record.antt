@@ -1,4 +1,4 @@
--- The record of a session: two files, over whose texts a boot gives it again (this project's own).
+-- The record of a session: two files, over whose texts a boot has its setup (this project's own).
 use Rattle.std.specs.Prelude.{◌≡◌, ◌⊎◌, ℕ, suc, Bool, true, false, Some, List, [], ◌∷◌, take}
 use Rattle.os9_outer.specs.Host.{IfObserved}
 use Rattle.os9_words.specs.declared.command.RunWords.{RunWords}

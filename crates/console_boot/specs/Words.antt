@@ -20,7 +20,7 @@ record_name given = unwrap_or (value_of given (codes "record")) (codes "session"
 abbrev pub option_words : List ℕ → Option (List ℕ) → List (List ℕ)
 option_words option value = option_map_or (λ value. (option ++ value) ∷ []) value []
 
--- The words of the boot that gives a session again: the script and the slices of its record, the blocks and the time
+-- The words of a boot over the record of a session: the script and the slices of the record, the blocks and the time
 -- that are given, and after `--` its images, or as many as are too many.
 abbrev pub replay_words : Given → List (List ℕ)
 replay_words given =
@@ -50,7 +50,7 @@ session_of given (Some (Boot boot)) =
     else Some (record { boot = boot; recorded = is_some (value_of given (codes "record")) })
 session_of given command = None
 
--- the command line that the words spell: that of the boot which gives its session again; nothing if there is no such
+-- the command line that the words spell: that of a boot over the record of its session; nothing if there is no such
 -- boot
 abbrev pub console_of : List (List ℕ) → Option ConsoleWords
 console_of words =

@@ -59,8 +59,8 @@ pub(crate) fn record_session<H: Host>(
     }
 }
 
-/// Writes the script and the slices of a session to the files of which these words speak, of a boot
-/// that gives it again.
+/// Writes the script and the slices of a session to the files that these words of a boot over its
+/// record name.
 fn write_record<H: Host>(alloc: Global, boot: &RunWords, typed: &Typed, host: &mut H) -> Recording
     requires { IsSome boot.now.script }
     ensures recorded { (devices : Outside) → RecordsSession boot.now typed.now result

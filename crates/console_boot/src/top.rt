@@ -33,12 +33,13 @@ const NO_COMMAND: u8 = 1;
 /// The words are those after the program's name: `IMAGE..`, with `--blocks N`, `--time T` and
 /// `--record NAME` or not. The images are read, checked and written back as `boot` of os9 does. The
 /// machine runs in slices of [`session_text::typed::SLICE`] instructions. If no process was Ready
-/// in one, none sleeps until a tick and TERM has no key left, TERM is loaded before the next slice
-/// with the next [`console_run::part::PART`] keys of a line, or as many as are left of it; if none
-/// are, the next line is taken from the keyboard. What is put on the terminals goes to the output
-/// stream after each slice, before the keyboard is asked again. The session is over if no process
-/// lives, or if the keyboard gave its end in place of a line. With `--record` the files
-/// `NAME.script` and `NAME.slices` are written then, over which `boot` gives the session again.
+/// in one, no tick ends what one waits for and TERM has no key left, TERM is loaded before the next
+/// slice with the next [`console_run::part::PART`] keys of a line, or as many as are left of it; if
+/// none are, the next line is taken from the keyboard. What is put on the terminals goes to the
+/// output stream after each slice, before the keyboard is asked again. The session is over if no
+/// process lives, if the keyboard gave its end in place of a line, or if the last tick would come.
+/// With `--record` the files `NAME.script` and `NAME.slices` are written then. A boot over these
+/// texts and the old images has the setup of the session.
 ///
 /// Statuses are those of `boot` without texts: 1 also if the record would be written over an image,
 /// 3 also if it could not be written, and 4 also if memory is out for keys or for the record. A

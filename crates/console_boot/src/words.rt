@@ -17,7 +17,7 @@ const TOO_MANY_IMAGES: usize = 5;
 /// The words of the console.
 #[derive(Debug, Drop)]
 pub struct ConsoleWords {
-    /// Those of the boot that gives the session again, if it is recorded.
+    /// Those of a boot over the record of the session, if it is recorded.
     pub boot: RunWords,
     /// Is the session recorded?
     pub recorded: bool,
@@ -56,7 +56,7 @@ pub(crate) fn read_console(alloc: Global, words: &[String]) -> Result<ConsoleWor
     Ok(ConsoleWords { boot, recorded })
 }
 
-/// The words of the boot that gives a session again: `boot --script=NAME.script
+/// The words of a boot over the record of a session: `boot --script=NAME.script
 /// --slices=NAME.slices`, with the blocks and the time that are given, and its images after `--`.
 fn words_of_boot(alloc: Global, given: &GivenWords<'_>) -> Result<Vec<String>, AllocError>
     ensures { IfOk result (λ words. map string_bytes words.items ≡ replay_words given.now) }

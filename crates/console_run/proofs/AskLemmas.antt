@@ -1,5 +1,5 @@
 -- What is typed before a slice.
-use Rattle.std.proofs.Common.{◌≡◌, ◌≢◌, ◌+◌, ℕ, Some, None, Option, List, [], ◌∷◌, ◌++◌, drop, length, take, refl, sym, ap, ◌∙◌, subst, append-nil, inl, inr}
+use Rattle.std.proofs.Common.{◌≡◌, ◌≢◌, ◌⊎◌, ◌↔◌, IsSome, ◌+◌, ℕ, Some, None, Option, List, [], ◌∷◌, ◌++◌, drop, length, take, refl, sym, ap, ◌∙◌, subst, append-nil, inl, inr}
 use Rattle.os9_outer.specs.TerminalState.{TerminalState}
 use Rattle.event_rules.specs.declared.ends.SliceEnd.{SliceEnd}
 use Rattle.machine_model.specs.State.{State}
@@ -9,7 +9,7 @@ use Rattle.os9_kernel.specs.declared.kernel.Kernel.{Kernel}
 use Rattle.session_text.specs.Typed.{kept_keys, keys_typed}
 use Rattle.session_text.specs.declared.typed.Typed.{Typed}
 use Rattle.console_run.specs.Kept.{IsKept}
-use Rattle.console_run.specs.Keyboard.{GivesEnd, KeyboardState, TakesLines, line_list, shown_for}
+use Rattle.console_run.specs.Keyboard.{FailsToGive, GivesEnd, KeyboardState, TakesLines, line_list, shown_for}
 use Rattle.console_run.specs.Lines.{line_bytes}
 use Rattle.console_run.specs.Shown.{shown_length}
 use Rattle.console_run.specs.Turn.{AllWait, AsksLine, ConsoleState, LoadsKeys, LosesLine, MeetsEnd, TypesLine, TypesRest}
@@ -69,17 +69,21 @@ pub loses-line : (out : Option (List ℕ)) (line : List ℕ) (old new : ConsoleS
 loses-line out line old new none taken typed = record {
   lost = Some line;
   none_left = λ some. none;
+  mid = new.keyboard;
   taken = taken;
+  lacks = inl (inl refl, refl);
   typed = kept-same old.typed new.typed typed;
 }
 
 -- or before it gave one
-pub loses-none : (out : Option (List ℕ)) (old new : ConsoleState) → TakesLines [] [] old.keyboard new.keyboard
+pub loses-none : (out : Option (List ℕ)) (old new : ConsoleState) → old.rest ≡ [] → FailsToGive old.keyboard new.keyboard
     → new.typed ≡ old.typed → LosesLine out old new
-loses-none out old new taken typed = record {
+loses-none out old new none fails typed = record {
   lost = None;
-  none_left = λ is. absurd (cc is);
-  taken = taken;
+  none_left = λ is. none;
+  mid = old.keyboard;
+  taken = takes-none old.keyboard;
+  lacks = inr (refl, none, fails);
   typed = kept-same old.typed new.typed typed;
 }
 
@@ -88,6 +92,11 @@ pub meets-end : (out : Option (List ℕ)) (old new : ConsoleState) → old.rest 
     → GivesEnd (shown_length out) old.keyboard new.keyboard → new.typed ≡ old.typed → MeetsEnd out old new
 meets-end out old new none end typed =
     record { none_left = none; end = end; typed = kept-same old.typed new.typed typed }
+
+-- a line was given, or a rest was left
+has-keys : (line : Option (List ℕ)) (rest : List ℕ) → (IsSome line ↔ (rest ≡ [])) → IsSome line ⊎ (rest ≢ [])
+has-keys None rest asked = inr (λ none. cc (asked.1 none))
+has-keys (Some line) rest asked = inl refl
 
 module _ (out : Option (List ℕ)) (line : Option (List ℕ)) (old mid new : ConsoleState) (asks : AsksLine out line old mid) (keyboard : new.keyboard ≡ mid.keyboard) where
   taken-then : TakesLines (line_list line) (shown_for out line) old.keyboard new.keyboard
@@ -119,6 +128,8 @@ module _ (out : Option (List ℕ)) (line : Option (List ℕ)) (old mid new : Con
   loses-part kept = record {
     lost = line;
     none_left = λ is. asks.asked.0 is;
+    mid = new.keyboard;
     taken = taken-then;
+    lacks = inl (has-keys line old.rest asks.asked, refl);
     typed = subst (λ (typed : Typed). IsKept typed new.typed) asks.typed kept;
   }

@@ -3,7 +3,7 @@ use Rattle.std.proofs.Common.{◌≡◌, ℕ, true, Option, List, [], length, ma
 use Rattle.std.specs.Prelude.{Result, Ok, Err, replicate}
 use Rattle.os9_outer.specs.Stream.{stream_with}
 use Rattle.os9_outer.specs.TerminalState.{TerminalState}
-use Rattle.key_loading.specs.Loaded.{HasNoKeys, keys_for}
+use Rattle.boot_run.specs.Loaded.{HasNoKeys, keys_for}
 use Rattle.event_rules.specs.declared.ends.SliceEnd.{SliceEnd}
 use Rattle.machine_model.specs.Run.{Run}
 use Rattle.machine_model.specs.State.{State, has_living}
@@ -25,6 +25,7 @@ use Rattle.session_text.specs.declared.typed.TheConstants.{SLICE}
 use Rattle.script_text.specs.declared.script.ScriptKey.{ScriptKey}
 use Rattle.file_drives.specs.Drives.{DriveView}
 use Rattle.console_run.specs.Keyboard.{KeyboardState, line_list, shown_for}
+use Rattle.console_run.specs.Lines.{LacksKeys}
 use Rattle.console_run.specs.Session.{RunsSession, StopsFor, at_start}
 use Rattle.console_run.specs.Turn.{AllWait, ConsoleState, LosesLine, MeetsEnd}
 use Rattle.console_run.specs.TypedTurn.{last_end, lines_of, shown_at, turn_of}
@@ -194,7 +195,7 @@ met-still out place new it = record { none_left = it.none_left; end = it.end; ty
 
 pub lost-still : (out : Option (List ℕ)) (place new : ConsoleState) → LosesLine out place new → LosesLine out (with_kept place new.typed) new
 lost-still out place new it =
-    record { lost = it.lost; none_left = it.none_left; taken = it.taken; typed = record { parts = refl; slices = refl } }
+    record { lost = it.lost; none_left = it.none_left; mid = it.mid; taken = it.taken; lacks = it.lacks; typed = record { parts = refl; slices = refl } }
 
 module _ (place : ConsoleState) (last : SliceEnd) (first : Option (List ℕ)) (from : KeyboardState) (s t : State)
     (written : List ℕ) (it : HasTurns place last first from s t written) where
@@ -207,11 +208,12 @@ module _ (place : ConsoleState) (last : SliceEnd) (first : Option (List ℕ)) (f
     waits-last = subst (λ (end : SliceEnd). WaitsForLine end t) (sym it.last_is) waits
 
     -- the keyboard gave its end
-    pub stops-end : MeetsEnd out place new → StopsFor Stop.Over it.turns t from new.keyboard first out
-    stops-end meets = inr (record {
+    pub stops-end : has_living t ≡ true → MeetsEnd out place new → StopsFor Stop.Over it.turns t from new.keyboard first out
+    stops-end lives meets = inr (record {
       mid = place.keyboard;
       taken = it.taken;
       waits = waits-last;
+      lives = lives;
       none_left = it.rest_is ∙ meets.none_left;
       end = meets.end;
     })
@@ -221,7 +223,9 @@ module _ (place : ConsoleState) (last : SliceEnd) (first : Option (List ℕ)) (f
     stops-lost lives loses = record {
       lost = loses.lost;
       taken = takes-then (lines_of it.turns) (line_list loses.lost) (shown_at first it.turns) (shown_for out loses.lost)
-          from place.keyboard new.keyboard it.taken loses.taken;
+          from place.keyboard loses.mid it.taken loses.taken;
+      mid = loses.mid;
+      lacks = subst (λ (rest : List ℕ). LacksKeys loses.lost rest loses.mid new.keyboard) (sym it.rest_is) loses.lacks;
       none_left = λ is. it.rest_is ∙ loses.none_left is;
       waits = waits-last;
       lives = lives;

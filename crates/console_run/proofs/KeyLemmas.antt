@@ -10,7 +10,7 @@ use Rattle.std.proofs.lemmas.Option.{none-some, same_Some}
 use Rattle.os9_outer.specs.Terminal.{due_byte}
 use Rattle.os9_outer.specs.TerminalState.{TerminalState, ChangesOneTerminal}
 use Rattle.os9_outer.specs.declared.terminal.Key.{Key}
-use Rattle.key_loading.specs.Loaded.{HasNoKeys, keys_for, loaded, loaded_from}
+use Rattle.boot_run.specs.Loaded.{HasNoKeys, keys_for, loaded, loaded_from}
 use Rattle.script_text.specs.declared.script.ScriptKey.{ScriptKey}
 use Rattle.script_text.specs.Script.{key_at}
 use Rattle.run_laws.specs.Session.{AreLater, Keys, keys_loaded, keys_then}

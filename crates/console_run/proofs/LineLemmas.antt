@@ -1,10 +1,11 @@
 -- Lines that are taken from a keyboard.
 use Rattle.std.proofs.Common.{◌≡◌, ◌<◌, ℕ, ◌+◌, zero, suc, arith, get_or, length, map, Option, Some, None, List, [], ◌∷◌, ◌++◌, drop, refl, sym, ap, ◌∙◌, subst, append_assoc}
-use Rattle.std.specs.Prelude.{IfSome, option_map, slice_get, true}
+use Rattle.std.specs.Prelude.{Bool, IfSome, option_map, slice_get, true, false}
 use Rattle.std.proofs.lemmas.Option.{none-some, same_Some}
 use Rattle.os9_outer.specs.Stream.{stream_with}
 use Rattle.device_table.proofs.StreamLemmas.{appended-twice, appended-nothing}
-use Rattle.console_run.specs.Keyboard.{GivesEnd, KeyboardState, TakesLines}
+use Rattle.console_run.specs.Keyboard.{FailsToGive, GivesEnd, KeyboardState, TakesLines, over_after}
+use Rattle.console_run.specs.Shown.{counted}
 
 abbrev Takes : List (List ℕ) → Option (List (List ℕ)) → Option (List (List ℕ)) → Type 0
 Takes taken before after = IfSome before (λ lines. (left : List (List ℕ)) × (lines ≡ taken ++ left) × (after ≡ Some left))
@@ -15,7 +16,13 @@ none-taken None = tt
 none-taken (Some lines) = (lines, refl, refl)
 
 pub takes-none : (keyboard : KeyboardState) → TakesLines [] [] keyboard keyboard
-takes-none keyboard = record { lines = none-taken keyboard.lines; asked = sym (appended-nothing keyboard.asked) }
+takes-none keyboard = record {
+  lines = none-taken keyboard.lines;
+  unseen = λ none. none;
+  asked = sym (appended-nothing keyboard.asked);
+  over = refl;
+  failed = refl;
+}
 
 -- some are, and then others
 then-taken : (one two : List (List ℕ)) (before mid after : Option (List (List ℕ))) → Takes one before mid → Takes two mid after → Takes (one ++ two) before after
@@ -24,11 +31,19 @@ then-taken one two (Some lines) mid after (left, is, there) second =
     let (rest, left_is, here) = subst (λ (mid : Option (List (List ℕ))). Takes two mid after) there second in
     (rest, is ∙ ap (λ (left : List (List ℕ)). one ++ left) left_is ∙ sym (append_assoc one two rest), here)
 
+over-then : (one two : List (List ℕ)) (before : Bool) → over_after two (over_after one before) ≡ over_after (one ++ two) before
+over-then [] two before = refl
+over-then (line ∷ one) [] before = refl
+over-then (line ∷ one) (next ∷ two) before = refl
+
 pub takes-then : (one two : List (List ℕ)) (shown more : List ℕ) (before mid after : KeyboardState)
     → TakesLines one shown before mid → TakesLines two more mid after → TakesLines (one ++ two) (shown ++ more) before
     after
 takes-then one two shown more before mid after first second = record {
   lines = then-taken one two before.lines mid.lines after.lines first.lines second.lines;
+  unseen = λ none. second.unseen (first.unseen none);
+  over = second.over ∙ ap (over_after two) first.over ∙ over-then one two before.is_over;
+  failed = second.failed ∙ first.failed;
   asked = second.asked ∙ ap (λ (asked : Option (List ℕ)). stream_with asked more) first.asked ∙ appended-twice before.asked shown more;
 }
 
@@ -41,30 +56,34 @@ next-taken line (Some (next ∷ lines)) after first rest =
 
 pub takes-line : (line : List ℕ) (shown : ℕ) (before after : KeyboardState) → IfSome before.lines (λ lines. Some line
     ≡ slice_get lines 0) → after.lines ≡ option_map (drop 1) before.lines → after.asked ≡ stream_with before.asked
-    (shown ∷ []) → TakesLines (line ∷ []) (shown ∷ []) before after
-takes-line line shown before after first rest asked =
-    record { lines = next-taken line before.lines after.lines first rest; asked = asked }
+    (shown ∷ []) → after.is_over ≡ false → after.failed ≡ before.failed → TakesLines (line ∷ []) (shown ∷ []) before after
+takes-line line shown before after first rest asked over failed = record {
+  lines = next-taken line before.lines after.lines first rest;
+  unseen = λ none. rest ∙ ap (option_map (drop 1)) none;
+  asked = asked;
+  over = over;
+  failed = failed;
+}
 
 -- the end is
 end-taken : (before after : Option (List (List ℕ))) → IfSome before (λ lines. None ≡ slice_get lines 0)
-    → after ≡ option_map (drop 1) before → Takes [] before after × IfSome after (λ lines. lines ≡ [])
-end-taken None after first rest = (tt, subst (λ (after : Option (List (List ℕ))). IfSome after (λ lines. lines ≡ [])) (sym rest) tt)
-end-taken (Some []) after first rest = (([], refl, rest), subst (λ (after : Option (List (List ℕ))). IfSome after (λ lines. lines ≡ [])) (sym rest) refl)
+    → after ≡ option_map (drop 1) before → IfSome before (λ lines. lines ≡ []) × (after ≡ before)
+end-taken None after first rest = (tt, rest)
+end-taken (Some []) after first rest = (refl, rest)
 end-taken (Some (next ∷ lines)) after first rest = absurd (none-some next first)
 
 pub takes-end : (shown : ℕ) (before after : KeyboardState) → IfSome before.lines (λ lines. None ≡ slice_get lines 0)
     → after.lines ≡ option_map (drop 1) before.lines → after.asked ≡ stream_with before.asked (shown ∷ [])
-    → after.is_over ≡ true → GivesEnd shown before after
-takes-end shown before after first rest asked over =
-    let (taken, none) = end-taken before.lines after.lines first rest in
-    record { taken = record { lines = taken; asked = asked }; over = over; none = none }
+    → after.is_over ≡ true → after.failed ≡ before.failed → GivesEnd shown before after
+takes-end shown before after first rest asked over failed =
+    let (none, lines) = end-taken before.lines after.lines first rest in
+    record { none = none; lines = lines; asked = asked; over = over; failed = failed }
 
 -- none is, if memory is out
-pub takes-kept : (before after : KeyboardState) → after.lines ≡ before.lines → after.asked ≡ before.asked → TakesLines [] [] before after
-takes-kept before after kept asked = record {
-  lines = subst (λ (lines : Option (List (List ℕ))). Takes [] before.lines lines) (sym kept) (none-taken before.lines);
-  asked = asked ∙ sym (appended-nothing before.asked);
-}
+pub fails-to-give : (before after : KeyboardState) → after.lines ≡ before.lines → after.is_over ≡ before.is_over
+    → after.asked ≡ before.asked → after.failed ≡ counted before.failed → FailsToGive before after
+fails-to-give before after lines over asked failed =
+    λ i. record { lines = lines i; is_over = over i; asked = asked i; failed = failed i }
 
 -- ---- lines in memory
 

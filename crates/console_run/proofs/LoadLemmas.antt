@@ -2,8 +2,7 @@
 use Rattle.std.proofs.Common.{◌≡◌, List, [], ◌∷◌, ◌++◌, length, sym, ap, ◌∙◌, subst, All}
 use Rattle.std.proofs.lemmas.List.Elements.{All-cons, All-head, All-tail}
 use Rattle.os9_outer.specs.TerminalState.{TerminalState}
-use Rattle.wait_laws.specs.Running.{IsRunning}
-use Rattle.wait_laws.proofs.RunningLaws.{running-then}
+use Rattle.wake_laws.proofs.OpenRuns.{terminals-open}
 use Rattle.machine_model.specs.State.{State}
 use Rattle.run_laws.specs.Session.{Keys, keys_loaded, with_keys}
 use Rattle.os9_kernel.specs.declared.kernel.Kernel.{Kernel}
@@ -29,11 +28,6 @@ unladen (term ∷ terms) (k ∷ ks) observed =
 
 -- ---- a kernel and its devices
 
-running-loaded : (s : State) (terms : List TerminalState) → length terms ≡ length s.terms → IsRunning s → IsRunning (record s { terms = terms })
-running-loaded s terms count running =
-    running-then s (record s { terms = terms }) running running.kept running.in_calls running.places running.on count
-    running.requested running.kinds running.clock
-
 -- it stands for the state with the terminals that are there now
 pub represents-with : (kernel : Kernel) (devices now : Outside) (s : State) → now.drives ≡ devices.drives
     → length now.terms ≡ length devices.terms → Represents kernel devices s → Represents kernel now
@@ -47,7 +41,9 @@ represents-with kernel devices now s drives count tied =
       inner = tied.inner;
       files = tied.files;
       is = λ i. record (tied.is i) { terms = now.terms };
-      running = running-loaded s now.terms (count ∙ ap length (sym there)) tied.running;
+      run = terminals-open s now.terms (count ∙ ap length (sym there)) tied.run;
+      looked = tied.looked;
+      known = tied.known;
     })
 
 -- where keys were loaded

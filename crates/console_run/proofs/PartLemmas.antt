@@ -1,5 +1,5 @@
 -- Lines that are typed in parts.
-use Rattle.std.proofs.Common.{◌≡◌, ◌≢◌, ◌≤◌, ◌<◌, ℕ, ◌+◌, ◌-◌, zero, suc, Bool, true, false, nat_lt, Option, Some, None, List, [], ◌∷◌, ◌++◌, drop, length, map, take, get_or, refl, sym, ap, ◌∙◌, subst, arith, append-nil, append_assoc, length-append, inl, inr}
+use Rattle.std.proofs.Common.{◌≡◌, ◌≢◌, ◌⊎◌, ◌≤◌, ◌<◌, ℕ, ◌+◌, ◌-◌, zero, suc, Bool, true, false, nat_lt, Option, Some, None, List, [], ◌∷◌, ◌++◌, drop, length, map, take, get_or, refl, sym, ap, ◌∙◌, subst, arith, append-nil, append_assoc, length-append, inl, inr}
 use Rattle.std.specs.Prelude.{IsSome}
 use Rattle.std.specs.List.{flat_map}
 use Rattle.std.proofs.lemmas.Bool.{ltb-false, ltb-true}
@@ -9,8 +9,8 @@ use Rattle.script_text.specs.declared.script.ScriptKey.{ScriptKey}
 use Rattle.session_text.specs.Typed.{IsUntyped, kept_bytes, kept_keys, keys_typed}
 use Rattle.session_text.specs.declared.typed.Typed.{Typed}
 use Rattle.console_run.specs.Kept.{IsKept}
-use Rattle.console_run.specs.Keyboard.{GivesEnd, KeyboardState, TakesLines, line_list, shown_for}
-use Rattle.console_run.specs.Lines.{AreTyped, GaveLines, KeepsLines, TypesIf, asked_bytes, last_bytes, left_after, line_bytes}
+use Rattle.console_run.specs.Keyboard.{FailsToGive, GivesEnd, KeyboardState, TakesLines, line_list, shown_for}
+use Rattle.console_run.specs.Lines.{AreTyped, GaveLines, KeepsLines, LacksKeys, TypesIf, asked_bytes, last_bytes, left_after, line_bytes}
 use Rattle.console_run.specs.declared.part.TheConstants.{PART}
 use Rattle.console_run.proofs.KeyLemmas.{keys-still, none-kept}
 use Rattle.console_run.proofs.LineLemmas.{takes-none, takes-then}
@@ -174,15 +174,23 @@ gave-still typed now rest from to same it =
 pub keeps-end : (typed now : Typed) (rest : List ℕ) (shown : ℕ) (from mid to : KeyboardState) → IsKept typed now
     → GaveLines (kept_bytes typed) rest from mid → GivesEnd shown mid to → KeepsLines now from to
 keeps-end typed now rest shown from mid to same it end =
-    record { rest = rest; mid = mid; gave = gave-still typed now rest from mid same it; end = inr (shown, end) }
+    record { rest = rest; mid = mid; gave = gave-still typed now rest from mid same it; end = inr (inl (shown, end)) }
 
 -- memory was out for a line
 pub keeps-lost : (typed now : Typed) (rest : List ℕ) (lost : Option (List ℕ)) (out : Option (List ℕ))
-    (from mid to : KeyboardState) → IsKept typed now → GaveLines (kept_bytes typed) rest from mid
-    → (IsSome lost → rest ≡ []) → TakesLines (line_list lost) (shown_for out lost) mid to → KeepsLines now from to
-keeps-lost typed now rest lost out from mid to same it none taken =
-    let gave : GaveLines (kept_bytes now ++ []) (rest ++ asked_bytes lost) from to = gave-more (kept_bytes now) rest
-    [] (rest ++ asked_bytes lost) lost out from mid to (gave-still typed now rest from mid same it) none refl
+    (from mid at to : KeyboardState) → IsKept typed now → GaveLines (kept_bytes typed) rest from mid
+    → (IsSome lost → rest ≡ []) → TakesLines (line_list lost) (shown_for out lost) mid at → LacksKeys lost rest at to → KeepsLines now from to
+keeps-lost typed now rest lost out from mid at to same it none taken lacks =
+    let gave : GaveLines (kept_bytes now ++ []) (rest ++ asked_bytes lost) from at = gave-more (kept_bytes now) rest
+    [] (rest ++ asked_bytes lost) lost out from mid at (gave-still typed now rest from mid same it) none refl
     taken in
-    keeps-so now (rest ++ asked_bytes lost) from to
-    (subst (λ (bytes : List ℕ). GaveLines bytes (rest ++ asked_bytes lost) from to) (append-nil (kept_bytes now)) gave)
+    record {
+      rest = rest ++ asked_bytes lost;
+      mid = at;
+      gave = subst (λ (bytes : List ℕ). GaveLines bytes (rest ++ asked_bytes lost) from at) (append-nil (kept_bytes now)) gave;
+      end = by lacks;
+    }
+  where
+    by : LacksKeys lost rest at to → (to ≡ at) ⊎ (((shown : ℕ) × GivesEnd shown at to) ⊎ FailsToGive at to)
+    by (inl (keys, same)) = inl same
+    by (inr (none, no_rest, fails)) = inr (inr fails)

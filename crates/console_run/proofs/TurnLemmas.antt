@@ -1,5 +1,5 @@
 -- Turns, one after another, make a session and the run of what it keeps.
-use Rattle.std.proofs.Common.{◌≡◌, ◌≢◌, ◌⊎◌, ℕ, ◌+◌, true, Option, Some, List, [], ◌∷◌, ◌++◌, length, map, take, slice_get, refl, sym, ap, ◌∙◌, subst, All, append_assoc, append-nil, inl, inr, length-append}
+use Rattle.std.proofs.Common.{◌≡◌, ◌≢◌, ℕ, ◌+◌, true, Option, Some, List, [], ◌∷◌, ◌++◌, length, map, take, slice_get, refl, sym, ap, ◌∙◌, subst, All, append_assoc, append-nil, inl, inr, length-append}
 use Rattle.std.specs.Prelude.{IfOk, OnErr, OnOk, Result, Ok, Err, replicate}
 use Rattle.std.specs.List.{flat_map}
 use Rattle.std.proofs.lemmas.List.{map-append, replicate_more}
@@ -7,7 +7,7 @@ use Rattle.std.proofs.lemmas.List.Concat.{flat_map-append}
 use Rattle.os9_outer.specs.Stream.{stream_with}
 use Rattle.os9_outer.specs.TerminalState.{TerminalState}
 use Rattle.os9_outer.specs.declared.terminal.Key.{Key}
-use Rattle.key_loading.specs.Loaded.{keys_for}
+use Rattle.boot_run.specs.Loaded.{keys_for}
 use Rattle.script_text.specs.declared.script.ScriptKey.{ScriptKey}
 use Rattle.device_table.proofs.StreamLemmas.{appended-twice, appended-nothing}
 use Rattle.file_drives.specs.Drives.{DriveView}
@@ -22,7 +22,6 @@ use Rattle.run_laws.specs.Session.{AreLater, Keys, Turn, keys_loaded, keys_then,
 use Rattle.run_laws.specs.SoFar.{ComesTo, each_with}
 use Rattle.run_laws.proofs.Loads.{begins-with, event-with, later-before, later-then, load-bytes, load-emptied, load-then, slice-with}
 use Rattle.run_laws.proofs.Onward.{comes-first, comes-on}
-use Rattle.os9_kernel.specs.Calls.{StopsSlice}
 use Rattle.os9_kernel.specs.Changes.{AsksToChange, BeginsAt, KeepsImages}
 use Rattle.os9_kernel.specs.Outside.{Outside}
 use Rattle.os9_kernel.specs.Tie.{Represents, ticks}
@@ -36,7 +35,7 @@ use Rattle.console_run.specs.Kept.{load_of}
 use Rattle.session_text.specs.Typed.{IsUntyped, kept_keys, kept_slices, keys_typed}
 use Rattle.console_run.specs.Keyboard.{KeyboardState, TakesLines, line_list, shown_for}
 use Rattle.console_run.specs.Lines.{TypesIf, left_after}
-use Rattle.console_run.specs.Session.{HasPart, at_start}
+use Rattle.console_run.specs.Session.{HasPart, at_start, with_bytes}
 use Rattle.console_run.specs.Turn.{ConsoleState, PassesSlice, RunsTurn, StopsTurn, TypesLine}
 use Rattle.console_run.specs.TypedTurn.{KeepsTurns, TypedTurn, TypedTurns, last_end, left_of, lines_of, shown_at, turn_keys, turn_of}
 use Rattle.console_run.specs.Waiting.{WaitsForLine}
@@ -236,13 +235,26 @@ lines-behind turns turn =
 abbrev pub SomeLives : Kernel → Outside → Type 0
 SomeLives kernel devices = (m : State) → Represents kernel devices m → living_count m.inner ≢ 0
 
-get-behind : (ran extra : List ℕ) (n : ℕ) → slice_get (ran ++ n ∷ extra) (length ran) ≡ Some n
+pub get-behind : (ran extra : List ℕ) (n : ℕ) → slice_get (ran ++ n ∷ extra) (length ran) ≡ Some n
 get-behind [] extra n = refl
 get-behind (first ∷ ran) extra n = get-behind ran extra n
 
-take-front : (ran extra : List ℕ) → take (length ran) (ran ++ extra) ≡ ran
+pub take-front : (ran extra : List ℕ) → take (length ran) (ran ++ extra) ≡ ran
 take-front [] extra = refl
 take-front (first ∷ ran) extra = ap (λ (rest : List ℕ). first ∷ rest) (take-front ran extra)
+
+-- the slice that stopped, as it was seen from an earlier world
+stops-from : (u : State) (origin before now : World) (first : Option (List ℕ)) (written : List ℕ) → origin.out ≡ first
+    → before.out ≡ stream_with first written → HasNoFault origin before → StopsTurn u before now
+    → StopsTurn u (record origin { out = stream_with origin.out written }) now
+stops-from u origin before now first written out gained_first none stops = by stops
+  where
+    gained : before.out ≡ stream_with origin.out written
+    gained = gained_first ∙ ap (λ (stream : Option (List ℕ)). stream_with stream written) (sym out)
+
+    by : StopsTurn u before now → StopsTurn u (record origin { out = stream_with origin.out written }) now
+    by (inl (slice, same, kept)) = inl (slice, same ∙ gained, (kept.0 ∙ none.0, kept.1 ∙ none.1, kept.2 ∙ none.2))
+    by (inr breaks) = inr (subst (λ (stream : Option (List ℕ)). BreaksOutput SLICE u stream now) gained breaks)
 
 module _ (start : List DriveView) (keys load : List Key) (ran : List ℕ) (s m : State) (written : List ℕ)
     (kernel after : Kernel) (before now : World) (tied : Represents kernel before.devices m)
@@ -325,17 +337,8 @@ module _ (start : List DriveView) (keys load : List Key) (ran : List ℕ) (s m :
           n = SLICE;
           next = get-behind ran [] SLICE;
           lives = alive;
-          stopped = by stops;
+          stopped = stops-from (with_keys m (load ∷ [])) origin before now first written out gained_first none stops;
         }
-      where
-        gained : before.out ≡ stream_with origin.out written
-        gained = gained_first ∙ ap (λ (stream : Option (List ℕ)). stream_with stream written) (sym out)
-
-        by : StopsTurn (with_keys m (load ∷ [])) before now → (StopsSlice SLICE (with_keys m (load ∷ [])) now.devices ×
-            (now.out ≡ stream_with origin.out written) × HasNoFault origin now) ⊎ BreaksOutput SLICE
-            (with_keys m (load ∷ [])) (stream_with origin.out written) now
-        by (inl (slice, same, kept)) = inl (slice, same ∙ gained, (kept.0 ∙ none.0, kept.1 ∙ none.1, kept.2 ∙ none.2))
-        by (inr breaks) = inr (subst (λ (stream : Option (List ℕ)). BreaksOutput SLICE (with_keys m (load ∷ [])) stream now) gained breaks)
 
 -- ---- a turn at a keyboard
 
@@ -535,9 +538,18 @@ module _ (start : List DriveView) (first : Option (List ℕ)) (was place : Conso
         }
 
   -- or it stopped
-  pub part-typed : (fault : RunFault) → TakesTurn was place last kernel after (Err fault) before now → HasPart s new from place.keyboard first
-  part-typed fault made =
+  pub part-typed : (fault : RunFault) (origin : World) → origin.out ≡ first → HasNoFault origin before
+      → TakesTurn was place last kernel after (Err fault) before now → HasPart s new from place.keyboard origin now
+  part-typed fault origin out none made =
       let it : HasTurns was last first from s m here.written = here.turns in
+      let load : List ScriptKey = keys_typed (m.inner.tick + 1) made.bytes in
+      let kept : kept_keys new ≡ kept_keys old ++ load = made.kept ∙ ap (λ (tick : ℕ). kept_keys old ++ keys_typed (tick + 1) made.bytes) (sym tick-here) in
+      let gone : GoesWith start before.devices.drives (keys_for 0 (kept_keys old)) (kept_slices old) s m here.written
+      (load_of load) (SLICE ∷ []) = here.goes (load_of load) (SLICE ∷ []) (load-later m.inner.tick load (all-typed (m.inner.tick + 1) made.bytes)) in
+      let ran : Run (kept_slices old) (with_keys s (load_of (kept_keys new))) gone.states here.written (with_bytes m made.bytes) = subst
+      (λ (keys : List Key). Run (kept_slices old) (with_keys s (keys ∷ [])) gone.states here.written (with_bytes m made.bytes)) (all-keys old new load kept) gone.run in
+      let stops : StopsTurn (with_bytes m made.bytes) before now = subst (λ (tick : ℕ). StopsTurn (with_keys m (load_of (keys_typed (tick + 1) made.bytes))) before now)
+      (sym tick-here) (made.stopped m here.told here.tied) in
       let taken : TakesLines (lines_of it.turns ++ line_list made.line) (shown_at first it.turns ++ shown_for before.out made.line) from place.keyboard = takes-then
       (lines_of it.turns) (line_list made.line) (shown_at first it.turns) (shown_for before.out made.line) from was.keyboard place.keyboard it.taken made.taken in
       record {
@@ -552,13 +564,16 @@ module _ (start : List DriveView) (first : Option (List ℕ)) (was place : Conso
         types =
             subst (λ (end : SliceEnd). TypesIf (WaitsForLine end m) (left_of [] it.turns) made.line made.bytes) (sym it.last_is)
             (subst (λ (rest : List ℕ). TypesIf (WaitsForLine last m) rest made.line made.bytes) (sym it.rest_is) (made.types m here.tied));
-        keys =
-            made.kept
-            ∙ ap (λ (tick : ℕ). kept_keys old ++ keys_typed (tick + 1) made.bytes) (sym tick-here)
-            ∙ ap (λ (keys : List ScriptKey). keys ++ keys_typed (m.inner.tick + 1) made.bytes) it.kept.keys;
+        keys = kept ∙ ap (λ (keys : List ScriptKey). keys ++ load) it.kept.keys;
         slices = made.slices ∙ ap (λ (count : ℕ). count + 1) it.kept.slices;
+        through = gone.states;
+        run =
+            subst (λ (count : ℕ). Run (replicate count SLICE) (with_keys s (load_of (kept_keys new))) gone.states here.written (with_bytes m made.bytes)) it.kept.slices ran;
+        stopped = stops-from (with_bytes m made.bytes) origin before now first here.written out here.gained none stops;
         taken =
-            subst (λ (out : Option (List ℕ)). TakesLines (lines_of it.turns ++ line_list made.line) (shown_at first it.turns ++ shown_for out made.line) from place.keyboard) here.gained taken;
+            subst (λ (first : Option (List ℕ)). TakesLines (lines_of it.turns ++ line_list made.line)
+            (shown_at first it.turns ++ shown_for (stream_with first here.written) made.line) from place.keyboard) (sym out)
+            (subst (λ (out : Option (List ℕ)). TakesLines (lines_of it.turns ++ line_list made.line) (shown_at first it.turns ++ shown_for out made.line) from place.keyboard) here.gained taken);
       }
 
   pub partly-typed : (fault : RunFault) (origin : World) → origin.out ≡ first → HasNoFault origin before

@@ -1,6 +1,6 @@
 -- What is kept of a session, as it is loaded (this project's own).
 use Rattle.std.specs.Prelude.{◌≡◌, List, [], ◌∷◌}
-use Rattle.key_loading.specs.Loaded.{keys_for, loaded}
+use Rattle.boot_run.specs.Loaded.{keys_for, loaded}
 use Rattle.script_text.specs.declared.script.ScriptKey.{ScriptKey}
 use Rattle.run_laws.specs.Session.{Keys}
 use Rattle.boot_run.specs.World.{World}

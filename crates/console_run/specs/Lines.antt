@@ -1,9 +1,9 @@
 -- The lines of a keyboard, and what is typed of them.
-use Rattle.std.specs.Prelude.{◌≡◌, ◌⊎◌, ◌↔◌, ℕ, IsSome, Option, Some, None, List, [], ◌∷◌, ◌++◌, drop, length, take}
+use Rattle.std.specs.Prelude.{◌≡◌, ◌≢◌, ◌⊎◌, ◌↔◌, ℕ, IsSome, Option, Some, None, List, [], ◌∷◌, ◌++◌, drop, length, take}
 use Rattle.std.specs.List.{flat_map}
 use Rattle.session_text.specs.Typed.{kept_bytes}
 use Rattle.session_text.specs.declared.typed.Typed.{Typed}
-use Rattle.console_run.specs.Keyboard.{GivesEnd, KeyboardState, TakesLines}
+use Rattle.console_run.specs.Keyboard.{FailsToGive, GivesEnd, KeyboardState, TakesLines}
 use Rattle.console_run.specs.declared.part.TheConstants.{PART}
 
 -- what is typed for a line: its bytes, and then Return
@@ -36,6 +36,14 @@ TypesIf waits rest line bytes = (waits × TypesPart rest line bytes) ⊎ (¬ wai
 abbrev pub left_after : List ℕ → Option (List ℕ) → List ℕ → List ℕ
 left_after rest line bytes = drop (length bytes) (rest ++ asked_bytes line)
 
+-- ---- if memory was out
+
+-- it was out for the keys of this line or of this rest; or no rest was left, and the keyboard was asked and found none
+-- for a line
+abbrev pub LacksKeys : Option (List ℕ) → List ℕ → KeyboardState → KeyboardState → Type 0
+LacksKeys lost rest mid to =
+    ((IsSome lost ⊎ (rest ≢ [])) × (to ≡ mid)) ⊎ ((lost ≡ None) × (rest ≡ []) × FailsToGive mid to)
+
 -- ---- of a session, however it ended
 
 -- for the last of these lines
@@ -58,9 +66,9 @@ pub record GaveLines (bytes rest : List ℕ) (from to : KeyboardState) : Type 0 
   pub typed : AreTyped lines bytes rest
 
 -- The keys that are kept are those of lines that the keyboard gave, in their order. Then it was asked no more, or once
--- more, and gave its end.
+-- more, and gave its end or found no memory.
 pub record KeepsLines (typed : Typed) (from to : KeyboardState) : Type 0 where
   pub rest : List ℕ
   pub mid : KeyboardState
   pub gave : GaveLines (kept_bytes typed) rest from mid
-  pub end : (to ≡ mid) ⊎ ((shown : ℕ) × GivesEnd shown mid to)
+  pub end : (to ≡ mid) ⊎ (((shown : ℕ) × GivesEnd shown mid to) ⊎ FailsToGive mid to)

@@ -1,5 +1,5 @@
 -- A session of a machine at whose terminal a person types.
-use Rattle.std.specs.Prelude.{◌≡◌, ◌≢◌, ◌⊎◌, ◌+◌, ◌++◌, ℕ, ⊤, Bool, true, false, IsSome, Option, Result, List, [], length, map, IfOk, OnErr, All}
+use Rattle.std.specs.Prelude.{◌≡◌, ◌≢◌, ◌⊎◌, ◌+◌, ◌++◌, ℕ, ⊤, Bool, true, false, IsSome, Option, Result, List, [], length, map, replicate, IfOk, OnErr, All}
 use Rattle.std.specs.List.{flat_map}
 use Rattle.os9_outer.specs.Stream.{stream_with}
 use Rattle.lock_model.specs.declared.history.Entry.{Entry}
@@ -13,7 +13,7 @@ use Rattle.os9_kernel.specs.Volumes.{HoldsVolumes}
 use Rattle.os9_kernel.specs.declared.kernel.Kernel.{Kernel}
 use Rattle.os9_kernel.specs.declared.new.Config.{Config}
 use Rattle.boot_run.specs.Console.{IsObserved}
-use Rattle.boot_run.specs.Machine.{MachineCall, Setup, StartsLoaded, setup_with}
+use Rattle.boot_run.specs.Machine.{IsUnrun, MachineCall, Setup, StartsLoaded, setup_with}
 use Rattle.boot_run.specs.Slices.{RunsSlices}
 use Rattle.boot_run.specs.World.{World}
 use Rattle.boot_run.specs.declared.machine.RunEnd.{RunEnd}
@@ -22,10 +22,12 @@ use Rattle.boot_run.specs.declared.run.RunFault.{RunFault}
 use Rattle.console_run.specs.Kept.{load_of, with_typed}
 use Rattle.session_text.specs.Typed.{kept_keys, kept_slices, keys_typed}
 use Rattle.console_run.specs.Keyboard.{GivesEnd, KeyboardState, TakesLines, line_list, shown_for}
-use Rattle.console_run.specs.Lines.{KeepsLines, TypesIf}
+use Rattle.console_run.specs.Lines.{KeepsLines, LacksKeys, TypesIf}
 use Rattle.console_run.specs.Shown.{shown_length}
+use Rattle.console_run.specs.Turn.{StopsTurn}
 use Rattle.console_run.specs.TypedTurn.{KeepsTurns, TypedTurn, TypedTurns, last_end, left_of, lines_of, shown_at, turn_keys, turn_of}
 use Rattle.console_run.specs.Waiting.{IsOver, WaitsForLine}
+use Rattle.session_text.specs.declared.typed.TheConstants.{SLICE}
 use Rattle.session_text.specs.declared.typed.Typed.{Typed}
 use Rattle.console_run.specs.declared.session.SessionEnd.{SessionEnd}
 use Rattle.console_run.specs.declared.session.SessionEnd.TheVariants.{OfRun, LineLost}
@@ -61,6 +63,7 @@ pub record StopsAtEnd (turns : List TypedTurn) (t : State) (from to : KeyboardSt
   pub mid : KeyboardState
   pub taken : TakesLines (lines_of turns) (shown_at before turns) from mid
   pub waits : WaitsForLine (last_end at_start turns) t
+  pub lives : has_living t ≡ true
   pub none_left : left_of [] turns ≡ []
   pub end : GivesEnd (shown_length after) mid to
 
@@ -68,7 +71,9 @@ pub record StopsAtEnd (turns : List TypedTurn) (t : State) (from to : KeyboardSt
 pub record StopsAtLine (turns : List TypedTurn) (t : State) (from to : KeyboardState) (before after : Option (List ℕ))
     : Type 0 where
   pub lost : Option (List ℕ)
-  pub taken : TakesLines (lines_of turns ++ line_list lost) (shown_at before turns ++ shown_for after lost) from to
+  pub mid : KeyboardState
+  pub taken : TakesLines (lines_of turns ++ line_list lost) (shown_at before turns ++ shown_for after lost) from mid
+  pub lacks : LacksKeys lost (left_of [] turns) mid to
   pub none_left : IsSome lost → left_of [] turns ≡ []
   pub waits : WaitsForLine (last_end at_start turns) t
   pub lives : has_living t ≡ true
@@ -80,9 +85,13 @@ StopsFor Stop.Over turns t from to before after =
     StopsAsOver turns t from to before ⊎ StopsAtEnd turns t from to before after
 StopsFor Stop.LineLost turns t from to before after = StopsAtLine turns t from to before after
 
--- A session from s that stopped within a slice, or as the bytes of one were put out. What is kept was typed in these
--- turns, and before that slice, each at its time, with this output before them.
-pub record HasPart (s : State) (typed : Typed) (from to : KeyboardState) (before : Option (List ℕ)) : Type 0 where
+-- a state with keys of these bytes, due in the tick that comes
+abbrev pub with_bytes : State → List ℕ → State
+with_bytes m bytes = with_keys m (load_of (keys_typed (m.inner.tick + 1) bytes))
+
+-- A session from s that stopped within the slice behind these turns, or as the bytes of that slice were put out. What
+-- is kept was typed in these turns and before that slice, each at its time, and over it the turns are one run.
+pub record HasPart (s : State) (typed : Typed) (from to : KeyboardState) (before after : World) : Type 0 where
   pub turns : List TypedTurn
   pub states : List State
   pub written : List ℕ
@@ -94,8 +103,12 @@ pub record HasPart (s : State) (typed : Typed) (from to : KeyboardState) (before
   pub types : TypesIf (WaitsForLine (last_end at_start turns) m) (left_of [] turns) line bytes
   pub keys : kept_keys typed ≡ flat_map turn_keys turns ++ keys_typed (m.inner.tick + 1) bytes
   pub slices : typed.slices ≡ length turns + 1
+  pub through : List State
+  pub run : Run (replicate (length turns) SLICE) (with_keys s (load_of (kept_keys typed))) through written
+      (with_bytes m bytes)
+  pub stopped : StopsTurn (with_bytes m bytes) (record before { out = stream_with before.out written }) after
   pub taken : TakesLines (lines_of turns ++ line_list line)
-      (shown_at before turns ++ shown_for (stream_with before written) line) from to
+      (shown_at before.out turns ++ shown_for (stream_with before.out written) line) from to
 
 -- ---- of a kernel that was started
 
@@ -117,7 +130,7 @@ pub record RunsTurns (typed : Typed) (old new : Kernel) (answer : Result Stop Ru
   pub session : IfOk answer (λ stop. (s : State) → All IsObserved before.devices.terms
       → Represents old before.devices s → RunsSession stop s new typed from to before after)
   pub stopped : OnErr answer ((s : State) → All IsObserved before.devices.terms → Represents old before.devices s
-      → HasPart s typed from to before.out)
+      → HasPart s typed from to before after)
 
 -- ---- of a machine
 
@@ -154,16 +167,18 @@ IsSessionTo comes (LineLost end) from to before after = StopsSession comes true 
 IsSessionTo comes end from to before after = ⊤
 
 -- the machine that is set up so was started, and there was a part of a session from its start
-pub record StopsWithin (setup : Setup) (typed : Typed) (from to : KeyboardState) (before : World) : Type 0 where
-  pub s : State
-  pub starts : StartsLoaded (untyped setup) before s
-  pub part : HasPart s typed from to before.out
+pub record StopsWithin (setup : Setup) (typed : Typed) (from to : KeyboardState) (before after : World) : Type 0
+  where
+    pub s : State
+    pub starts : StartsLoaded (untyped setup) before s
+    pub part : HasPart s typed from to before after
 
--- If the output failed, that was within a session. If memory was out, it was too, or the keyboard was not asked.
-abbrev pub IsPartTo : Setup → Typed → SessionEnd → KeyboardState → KeyboardState → World → Type 0
-IsPartTo setup typed (OfRun OutputFailed) from to before = StopsWithin setup typed from to before
-IsPartTo setup typed (OfRun NoMemory) from to before = (to ≡ from) ⊎ StopsWithin setup typed from to before
-IsPartTo setup typed end from to before = ⊤
+-- If the output failed, that was within a session. If memory was out, that was too, or nothing was run and the keyboard
+-- was not asked.
+abbrev pub IsPartTo : (unrun within : Type 0) → SessionEnd → KeyboardState → KeyboardState → Type 0
+IsPartTo unrun within (OfRun OutputFailed) from to = within
+IsPartTo unrun within (OfRun NoMemory) from to = (unrun × (to ≡ from)) ⊎ within
+IsPartTo unrun within end from to = ⊤
 
 -- if memory was out for keys, the output did not fail
 abbrev pub EndsAtLine : SessionEnd → Type 0
@@ -191,7 +206,8 @@ pub record SessionCall (setup : Setup) (end : SessionEnd) (history : List Entry)
   pub lines : KeepsLines typed from to
   pub session : All IsObserved before.devices.terms
       → IsSessionTo (LeadsSession setup typed history before after) end from to before after
-  pub stopped : All IsObserved before.devices.terms → IsPartTo setup typed end from to before
+  pub stopped : All IsObserved before.devices.terms
+      → IsPartTo (IsUnrun before after) (StopsWithin setup typed from to before after) end from to
 
 -- so with the images that were in the first drives
 abbrev pub SessionRuns : Config → List ℕ → SessionEnd → List Entry → Typed → KeyboardState → KeyboardState → World

@@ -21,7 +21,7 @@ use Rattle.boot_run.specs.declared.run.RunFault.{RunFault}
 use Rattle.console_run.specs.Kept.{IsKept, load_of}
 use Rattle.session_text.specs.Typed.{kept_keys, keys_typed}
 use Rattle.console_run.specs.Keyboard.{GivesEnd, KeyboardState, TakesLines, keyboard_state, line_list, shown_for}
-use Rattle.console_run.specs.Lines.{TypesIf, asked_bytes, left_after}
+use Rattle.console_run.specs.Lines.{LacksKeys, TypesIf, asked_bytes, left_after}
 use Rattle.console_run.specs.Shown.{shown_length}
 use Rattle.console_run.specs.declared.console.Console.{Console}
 use Rattle.console_run.specs.declared.keyboard.Keyboard.{Ghosts}
@@ -78,7 +78,9 @@ pub record AsksLine (out : Option (List ℕ)) (line : Option (List ℕ)) (old ne
 pub record LosesLine (out : Option (List ℕ)) (old new : ConsoleState) : Type 0 where
   pub lost : Option (List ℕ)
   pub none_left : IsSome lost → old.rest ≡ []
-  pub taken : TakesLines (line_list lost) (shown_for out lost) old.keyboard new.keyboard
+  pub mid : KeyboardState
+  pub taken : TakesLines (line_list lost) (shown_for out lost) old.keyboard mid
+  pub lacks : LacksKeys lost old.rest mid new.keyboard
   pub typed : IsKept old.typed new.typed
 
 -- nothing was typed: no rest was left, and the keyboard was asked, and gave its end

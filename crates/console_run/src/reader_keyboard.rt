@@ -15,17 +15,20 @@ pub struct ReaderKeyboard<R> {
     alloc: Global,
     reader: R,
     over: bool,
+    failed: u64,
 }
 
 impl<R: BufRead + Drop> ReaderKeyboard<R> {
     /// The keyboard over this reader.
     pub fn new(alloc: Global, reader: R) -> ReaderKeyboard<R>
-        ensures { result.over ≡ false }
+        ensures not_over { result.over ≡ false }
+        ensures none_failed { result.failed ≡ 0 }
     {
         ReaderKeyboard {
             alloc,
             reader,
             over: false,
+            failed: 0,
         }
     }
 }
@@ -37,6 +40,8 @@ impl<H: Host, R: BufRead + Drop> Keyboard<H> for ReaderKeyboard<R> {
 
     ghost asked = { λ _. None };
 
+    ghost failed_asks = { λ keyboard. keyboard.failed };
+
     fn line(&mut self, host: &H) -> Result<Option<Vec<u8>>, AllocError> {
         let mut line = Vec::new(self.alloc);
         match self.reader.read_until(LINE_FEED, &mut line) {
@@ -45,7 +50,10 @@ impl<H: Host, R: BufRead + Drop> Keyboard<H> for ReaderKeyboard<R> {
                 return Ok(None);
             }
             Ok(_) => {}
-            Err(error) if error.kind() == ErrorKind::OutOfMemory => return Err(AllocError),
+            Err(error) if error.kind() == ErrorKind::OutOfMemory => {
+                self.failed = self.failed.saturating_add(1);
+                return Err(AllocError);
+            }
             Err(_) => {
                 self.over = true;
                 return Ok(None);

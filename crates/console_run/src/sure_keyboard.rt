@@ -1,4 +1,5 @@
-ghost use Rattle.std.specs.Prelude.{◌≡◌, ◌≤◌, ℕ, Some, [], false, List, drop, length, map};
+ghost use Rattle.std.specs.Prelude.{◌≡◌, ◌≤◌, ◌∷◌, ◌++◌, ℕ, OnErr, OnOk, Some, [], false, List, drop, length, map};
+ghost use Rattle.console_run.specs.Shown.{counted};
 
 use crate::keyboard::Keyboard;
 use os9_outer::mem_host::MemHost;
@@ -12,6 +13,7 @@ pub struct SureKeyboard {
     given: usize,
     over: bool,
     asked: Vec<usize>,
+    failed: u64,
 }
 
 impl SureKeyboard {
@@ -27,7 +29,29 @@ impl SureKeyboard {
             given: 0,
             over: false,
             asked: Vec::new(alloc),
+            failed: 0,
         }
+    }
+
+    /// Notes that it answers when so many bytes are shown.
+    ///
+    /// # Errors
+    ///
+    /// Memory is out, which is counted.
+    fn note(&mut self, shown: usize) -> Result<(), AllocError>
+        ensures noted { OnOk result (self.new.asked.items ≡ self.old.asked.items ++ shown ∷ []) }
+        ensures none_failed { OnOk result (self.new.failed ≡ self.old.failed) }
+        ensures asked_kept { OnErr result (self.new.asked.items ≡ self.old.asked.items) }
+        ensures failed { OnErr result (self.new.failed ≡ counted self.old.failed) }
+        ensures lines_kept { self.new.lines ≡ self.old.lines }
+        ensures given_kept { self.new.given ≡ self.old.given }
+        ensures over_kept { self.new.over ≡ self.old.over }
+    {
+        if let Err(error) = self.asked.push(shown) {
+            self.failed = self.failed.saturating_add(1);
+            return Err(error.into());
+        }
+        Ok(())
     }
 
     /// How many bytes the host was given before each answer.
@@ -45,15 +69,20 @@ impl Keyboard<MemHost> for SureKeyboard {
 
     ghost asked = { λ it. Some it.asked.items };
 
+    ghost failed_asks = { λ it. it.failed };
+
     fn line(&mut self, host: &MemHost) -> Result<Option<Vec<u8>>, AllocError> {
         if self.given >= self.lines.len() {
-            self.asked.push(host.out_bytes.len())?;
+            self.note(host.out_bytes.len())?;
             self.over = true;
             return Ok(None);
         }
         let line = &self.lines[self.given];
-        let line = Vec::from_slice(*self.lines.allocator(), line.as_slice())?;
-        self.asked.push(host.out_bytes.len())?;
+        let Ok(line) = Vec::from_slice(*self.lines.allocator(), line.as_slice()) else {
+            self.failed = self.failed.saturating_add(1);
+            return Err(AllocError);
+        };
+        self.note(host.out_bytes.len())?;
         self.given += 1;
         self.over = false;
         Ok(Some(line))

@@ -1,7 +1,7 @@
 //! The turns of a session.
 
 ghost use Rattle.std.specs.Prelude.{◌≡◌};
-ghost use Rattle.key_loading.specs.Loaded.{AreUnloaded};
+ghost use Rattle.boot_run.specs.Loaded.{AreUnloaded};
 ghost use Rattle.os9_kernel.specs.Tie.{Stands, ticks};
 ghost use Rattle.os9_words.specs.Notes.{notes_of};
 ghost use Rattle.session_text.specs.Typed.{IsUntyped};

@@ -19,8 +19,8 @@ use os9_outer::drive::BlockDriver;
 use os9_outer::terminal::CharDriver;
 use std::alloc::Global;
 
-/// Does every process wait for keys after a slice that ended so? None was Ready in it, none sleeps
-/// until a tick, and TERM has no key left.
+/// Does every process wait for keys after a slice that ended so? None was Ready in it, no tick ends
+/// what one waits for, and TERM has no key left.
 pub(crate) fn waits_for_line(
     alloc: Global,
     kernel: &Kernel,

@@ -9,7 +9,7 @@ ghost use Rattle.session_text.specs.Typed.{IsUntyped};
 ghost use Rattle.console_run.specs.Keyboard.{keyboard_state};
 ghost use Rattle.console_run.specs.Seen.{devices_seen, OnNotedCall};
 ghost use Rattle.file_drives.specs.Drives.{drive_views, drives_seen};
-ghost use Rattle.key_loading.specs.Loaded.{AreUnloaded};
+ghost use Rattle.boot_run.specs.Loaded.{AreUnloaded};
 ghost use Rattle.os9_outer.specs.TerminalState.{terminal_states};
 
 #[cfg(test)]

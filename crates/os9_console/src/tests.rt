@@ -2,7 +2,7 @@
 
 ghost use Rattle.boot_images.specs.Drives.{HaveRoom};
 ghost use Rattle.file_drives.specs.Drives.{drives_seen};
-ghost use Rattle.key_loading.specs.Loaded.{AreUnloaded};
+ghost use Rattle.boot_run.specs.Loaded.{AreUnloaded};
 ghost use Rattle.console_run.specs.Seen.{terms_seen};
 
 use console_boot::console_main;

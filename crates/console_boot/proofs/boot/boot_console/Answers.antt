@@ -44,7 +44,8 @@ returns-in-OfRun-clause-call g c =
     (c.in-Ok.ensures.kept devices) c.run_on_images-session.ensures.run) in
     console-ended c.args.boot.now typed file c.in-Ok.images new history from to before mid _
     c.in-OfRun.end c.write_back.result c.in-Ok.ensures.count c.in-Ok-accept_images.ensures.well_formed
-    c.in-Ok-accept_images.ensures.bytes c.in-Ok.ensures.contents ran (c.write_back.ensures.ended left)
+    c.in-Ok-accept_images.ensures.bytes c.requires.devices.terminals.unloaded c.in-Ok.ensures.contents ran
+    (c.write_back.ensures.ended left)
 
 pub returns-clause-call : goal.returns-clause-call
 returns-clause-call g c =
@@ -62,7 +63,7 @@ returns-clause-call g c =
     let ran = subst (λ end. RunsConsole setup typed new history end from to before mid) c.in-LineLost.is
     (subst (λ world. RunsConsole setup typed new history c.run_on_images-session.result.end from to world mid)
     (c.in-Ok.ensures.kept devices) c.run_on_images-session.ensures.run) in
-    console-lost c.args.boot.now typed file c.in-Ok.images new history from to before mid
+    console-lost c.args.boot.now typed file c.in-Ok.images new history from to before mid c.in-Ok.ensures.count
     c.in-Ok-accept_images.ensures.well_formed c.in-Ok-accept_images.ensures.bytes c.in-Ok.ensures.contents
     c.in-LineLost.field-0 ran
 

@@ -5,12 +5,12 @@ use Rattle.file_drives.specs.Drives.{boxed_drive_view, drive_views}
 use Rattle.file_start.specs.Start.{HaveImages}
 use Rattle.os9_kernel.specs.Outside.{outside}
 use Rattle.boot_run.specs.Console.{IsObserved}
-use Rattle.boot_run.specs.Machine.{Setup, history_left}
+use Rattle.boot_run.specs.Machine.{IsUnrun, Setup, history_left}
 use Rattle.boot_run.specs.World.{world_of}
 use Rattle.boot_images.proofs.RunLemmas.{have-images, have-volumes, runs-between}
 use Rattle.console_run.specs.Keyboard.{keyboard_state}
 use Rattle.console_run.specs.Session.{IsPartTo, IsSessionTo, run_end}
-use Rattle.console_boot.specs.Images.{LeavesSession, session_setup}
+use Rattle.console_boot.specs.Images.{LeavesSession, StopsMidway, session_setup}
 use Rattle.console_boot.proofs.SessionLemmas.{part-between, session-between}
 use Rattle.console_boot.proofs.images.run_on_images.Goals as goal
 
@@ -76,10 +76,12 @@ returns-clause-run g c =
       keyboard = call.keyboard;
       lines = call.lines;
       stopped = λ told.
-          subst (λ (setup : Setup). IsPartTo setup typed c.run_session-outcome.result.end from to before) same
+          subst (λ (setup : Setup). IsPartTo (IsUnrun before (record ran { devices = left }))
+          (StopsMidway setup typed c.eject_images.new.images from to before (record ran { devices = left }))
+          c.run_session-outcome.result.end from to) same
           (part-between given typed before ran inside left c.eject_images.new.images count
-          c.eject_images.ensures.taken history c.insert_images.ensures.held terms_put terms_left c.run_session-outcome.result.end
-          from to (call.stopped (subst (λ (terms : List TerminalState). All IsObserved terms) (sym terms_put) told)));
+          c.eject_images.ensures.taken history c.insert_images.ensures.held terms_put terms_left c.requires.devices.room.enough
+          many c.requires.devices.room.empty c.run_session-outcome.result.end from to (call.stopped (subst (λ (terms : List TerminalState). All IsObserved terms) (sym terms_put) told)));
       session = λ told.
           subst (λ (setup : Setup). IsSessionTo (LeavesSession setup c.eject_images.new.images history typed before
           (record ran { devices = left })) c.run_session-outcome.result.end from to before

@@ -1,10 +1,10 @@
-use Rattle.std.proofs.Common.{◌≡◌, ◌∷◌, [], List, Some, None, ℕ, ap, arith, sym, subst}
+use Rattle.std.proofs.Common.{◌≡◌, ◌∷◌, [], List, Some, None, ℕ, ap, arith, refl, sym, subst}
 use Rattle.std.proofs.lemmas.List.{drop_all}
 use Rattle.console_run.specs.Keyboard.{KeyboardState, TakesLines, keyboard_state}
 use Rattle.console_run.specs.Shown.{shown_length}
 use Rattle.console_run.specs.Turn.{console_state, rest_of}
-use Rattle.console_run.proofs.AskLemmas.{asks-line, asks-none, loses-line}
-use Rattle.console_run.proofs.LineLemmas.{takes-line}
+use Rattle.console_run.proofs.AskLemmas.{asks-line, asks-none, loses-line, loses-none}
+use Rattle.console_run.proofs.LineLemmas.{fails-to-give, takes-line}
 use Rattle.console_run.proofs.PartLemmas.{rest-some}
 use Rattle.console_run.proofs.asking.ask_line.Goals as goal
 
@@ -23,7 +23,7 @@ returns-in-Ok g c =
     let line : List ℕ = c.in-Ok-Some.line.items in
     let first = rw c.in-Ok-Some.field-0-is at c.in-Ok-Some.ensures.first in
     let taken = takes-line line (shown_length out) old.keyboard (keyboard_state g.K.Keyboard c.line.new.self) first
-    c.in-Ok-Some.ensures.rest c.in-Ok-Some.ensures.shown in
+    c.in-Ok-Some.ensures.rest c.in-Ok-Some.ensures.shown (rw c.in-Ok-Some.field-0-is at c.in-Ok-Some.ensures.over) c.in-Ok-Some.ensures.none_failed in
     let same = ap (λ keyboard. keyboard_state g.K.Keyboard keyboard) c.take_line.ensures.keyboard_kept in (
       Some line,
       asks-line out line old new none c.in-Ok.ensures.rest
@@ -41,6 +41,14 @@ returns-in-Err-take_line g c =
     let line : List ℕ = c.in-Ok-Some.line.items in
     let first = rw c.in-Ok-Some.field-0-is at c.in-Ok-Some.ensures.first in
     let taken = takes-line line (shown_length out) old.keyboard (keyboard_state g.K.Keyboard c.line.new.self) first
-    c.in-Ok-Some.ensures.rest c.in-Ok-Some.ensures.shown in
+    c.in-Ok-Some.ensures.rest c.in-Ok-Some.ensures.shown (rw c.in-Ok-Some.field-0-is at c.in-Ok-Some.ensures.over) c.in-Ok-Some.ensures.none_failed in
     let same = ap (λ keyboard. keyboard_state g.K.Keyboard keyboard) c.take_line.ensures.keyboard_kept in
     loses-line out line old new none (subst (λ (to : KeyboardState). TakesLines (line ∷ []) (shown_length out ∷ []) old.keyboard to) (sym same) taken) c.take_line.ensures.typed_kept
+
+pub returns-in-Err : goal.returns-in-Err
+returns-in-Err g c =
+    let console = c.args.console.now in
+    let none : rest_of console ≡ [] = drop_all console.place console.line.items (omega (arith, c.if-console-len.false, c.len.ensures, console.line.ok.0)) in
+    loses-none _ (console_state g.K.Keyboard console) _ none
+    (fails-to-give (keyboard_state g.K.Keyboard console.keyboard) (keyboard_state g.K.Keyboard c.line.new.self)
+    c.in-Err.ensures.lines_kept c.in-Err.ensures.over_kept c.in-Err.ensures.asked_kept c.in-Err.ensures.failed) refl

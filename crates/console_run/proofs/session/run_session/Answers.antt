@@ -2,7 +2,7 @@ use Rattle.std.proofs.Common.{◌≡◌, [], List, length, ap, subst, refl, sym,
 use Rattle.std.specs.Vec.{vec_len}
 use Rattle.std.proofs.lemmas.List.{length-map}
 use Rattle.os9_outer.specs.TerminalState.{TerminalState, terminal_states}
-use Rattle.key_loading.specs.Loaded.{AreUnloaded, loaded}
+use Rattle.boot_run.specs.Loaded.{AreUnloaded, loaded}
 use Rattle.file_drives.specs.Drives.{drive_views}
 use Rattle.lock_model.specs.Records.{Records}
 use Rattle.lock_model.specs.declared.history.Entry.{Entry}
@@ -64,7 +64,9 @@ returns-in-Err-clause-call g c =
       at_line = tt;
       keyboard = rw c.end_of_start.ensures (asks-none c.in-Err.error _);
       lines = keeps-none typed _ c.requires.untyped;
-      stopped = λ told. rw c.end_of_start.ensures (never-part setup typed c.in-Err.error _ before);
+      stopped = λ told. rw c.end_of_start.ensures (never-part _ c.args.config.images before started c.in-Err.error _
+          c.in-Err.ensures.starts.drives (drives-started c.args.config.images _ _ _ c.requires.machine.volumes
+          c.in-Err.ensures.starts.drives) (ap (λ terms. terminal_states (λ table. (g.dyn-2.0.entry table).1) terms.items) c.in-Err.ensures.terms_kept));
       session = λ told. rw c.end_of_start.ensures (never-began _ c.in-Err.error _ _ _ _);
     }
 
@@ -99,7 +101,7 @@ returns-in-Over-clause-call g c =
       at_line = tt;
       keyboard = asks-over c.living.result c.ticks.result c.run_end-end.result from to c.run_end-end.ensures.idle c.run_end-end.ensures.lives;
       lines = ran.lines;
-      stopped = λ told. whole-part setup typed c.living.result c.ticks.result c.run_end-end.result from to before c.run_end-end.ensures.idle c.run_end-end.ensures.lives;
+      stopped = λ told. whole-part _ _ c.living.result c.ticks.result c.run_end-end.result from to c.run_end-end.ensures.idle c.run_end-end.ensures.lives;
       session = session-over setup typed from to c.in-Ok.kernel c.run_turns.new.kernel before after started
           c.requires.machine.terminals.unloaded starts.drives.moves kept (starts.stands images have) history entered c.living.result
           c.ticks.result c.run_end-end.result ran.session (λ t tied. c.living.ensures _ t tied)

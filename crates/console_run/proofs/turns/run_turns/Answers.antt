@@ -170,7 +170,8 @@ returns-in-AtEnd-clause-ran g c =
           session-all Stop.Over still c.loop.last from place.keyboard s c.loop.kernel before now come
           (stops-end still c.loop.last before.out from s come.m come.written come.turns
           (waits-there c.loop.last c.loop.kernel _ _ waits same come.m come.tied) place mid.out
-          (met-still mid.out was place meets));
+          (some-living come.m (λ none_lives. c.if-living-eq0.false (c.living.ensures _ come.m come.tied ∙
+          none_lives))) (met-still mid.out was place meets));
     }
 
 -- ---- memory is out for keys
@@ -201,8 +202,8 @@ returns-in-NoMemory-clause-ran g c =
         no_fault = so_far.count;
         files_kept = so_far.files;
       };
-      lines = keeps-lost was.typed place.typed was.rest loses.lost mid.out from was.keyboard place.keyboard
-          loses.typed so_far.gave loses.none_left loses.taken;
+      lines = keeps-lost was.typed place.typed was.rest loses.lost mid.out from was.keyboard loses.mid place.keyboard
+          loses.typed so_far.gave loses.none_left loses.taken loses.lacks;
       stopped = tt;
       session = λ s told tied.
           let come = comes s told tied in
@@ -258,7 +259,7 @@ returns-in-Err-clause-ran g c =
       stopped = λ s told tied.
           part-typed _ _ was then c.loop.last from s c.loop.kernel c.run_turn.new.kernel mid now
           (so_far.comes s told tied) (λ m tied none. c.if-living-eq0.false (c.living.ensures _ m tied ∙ none))
-          c.in-Err.fault
+          c.in-Err.fault before refl so_far.count
           (turn-stopped was place new c.loop.last c.loop.kernel c.run_turn.new.kernel mid now loaded typed refl refl c.in-Err.fault turn);
     }
 
