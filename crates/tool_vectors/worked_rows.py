@@ -2,7 +2,7 @@
 """Prints rows of commands with what they answer and leave, worked out by hand: worked_rows.py [IMAGE..]
 
 The rows have names of 29 and 30 characters and paths of each wrong form, the smallest disks, a worn disk
-on which a file needs more segments than there are, and permissions that are missing. With images, of
+on which a file needs more segments than there are, permissions that are missing, and checks. With images, of
 other makers, they are rows on these: what is listed and read, and what a new file and a new directory
 leave. A row is as those that are known from elsewhere: its number, the image, the commands.
 """
@@ -297,11 +297,82 @@ def image_row(path):
     ]
 
 
+# What is not zero of the smallest volume: of its 16 sectors sector 2 is the descriptor of the root, its only file.
+SMALLEST = {2: 16, 5: 2, 7: 1, 10: 2, 256: 0xF0, 512: 0xBF, 524: 64, 530: 3, 532: 1, 768: 0x2E, 769: 0xAE, 799: 2,
+            800: 0xAE, 831: 2}
+# Two files with the descriptors 4 and 5, which share sector 9.
+TWO_FILES = {256: 0xFC, 257: 0x40, 524: 128, 832: 0xC1, 863: 4, 864: 0xC2, 895: 5, 1042: 9, 1044: 1, 1298: 9, 1300: 1}
+# The greatest number of sectors, with a bit each in a map of 65,535 bytes; the root is sector 257.
+MOST = {0: 0x07, 1: 0xFF, 2: 0xF8, 4: 0xFF, 5: 0xFF, 7: 1, 9: 1, 10: 1, 288: 0xE0, 65792: 0xBF, 65804: 64, 65809: 1,
+        65810: 2, 65812: 1, 66048: 0x2E, 66049: 0xAE, 66078: 1, 66079: 1, 66080: 0xAE, 66110: 1, 66111: 1,
+        **{at: 0xFF for at in range(256, 288)}}
+# A volume of 300 sectors, all marked, whose root has the sectors from 3 on for 102 entries.
+LONG_ROOT = {1: 1, 2: 44, 5: 38, 7: 1, 10: 2, 512: 0xBF, 523: 12, 524: 192, 530: 3, 532: 13, 768: 0xAE, 799: 2,
+             800: 0x2E, 801: 0xAE, 831: 2, **{at: 0xFF for at in range(256, 294)}}
+
+
+def overlapping(attributes):
+    """Its 100 files, each of 48 segments of the sectors from 150 on; or they are directories of that size."""
+    places = dict(LONG_ROOT)
+    for lsn in range(16, 116):
+        at = 832 + 32 * (lsn - 16)
+        places.update({at: 0xC1, at + 31: lsn})
+        for i in range(48):
+            places.update({256 * lsn + 18 + 5 * i: 150, 256 * lsn + 20 + 5 * i: 150})
+        if attributes:
+            places.update({256 * lsn: attributes, 256 * lsn + 10: 28, 256 * lsn + 11: 32})
+    return places
+
+
+def counted(length, places, line):
+    """A volume whose check counts files, directories, free and lost clusters."""
+    return laid_out(length, places), [done("check,i", lines=line)]
+
+
+def broken(length, places, line):
+    """An image that breaks a rule."""
+    return laid_out(length, places), [f"check,i|-|6|-|os9: i: {line}|-"]
+
+
+def laid_out(length, places):
+    """An image as a row has it: its length, and the bytes at these places."""
+    sectors = {}
+    for at, byte in places.items():
+        sectors.setdefault(at // 256, bytearray(256))[at % 256] = byte
+    held = [(lsn, bytes(sector).rstrip(b"\0")) for lsn, sector in sorted(sectors.items())]
+    return ";".join([str(length)] + [f"{lsn}:{sector.hex()}" for lsn, sector in held if sector])
+
+
+def check_rows():
+    """Checks of volumes whose bytes are laid out here one by one (docs/disk.md)."""
+    small = lambda places: {**SMALLEST, **places}
+    clusters = lambda total, size, mark: small({2: total, 5: 1, 7: size, 256: mark})
+    most = 256 * 524280
+    return [
+        counted(4096, SMALLEST, "files 0 dirs 1 free 12 lost 0"),
+        broken(4095, SMALLEST, "rule 1 at LSN 0"),
+        counted(4106, SMALLEST, "files 0 dirs 1 free 12 lost 0"),
+        counted(4096, small({768: 0xAE, 769: 0, 800: 0x2E, 801: 0xAE}), "files 0 dirs 1 free 12 lost 0"),
+        broken(4096, small({256: 0xE0}), "rule 3 at LSN 3"),
+        broken(4096, small(TWO_FILES), "rule 4 at LSN 9"),
+        counted(4096, small({256: 0xFF, 257: 0xFF}), "files 0 dirs 1 free 0 lost 12"),
+        counted(8192, clusters(32, 4, 0x80), "files 0 dirs 1 free 7 lost 0"),
+        counted(8192, clusters(30, 4, 0x80), "files 0 dirs 1 free 6 lost 0"),
+        counted(8192, clusters(32, 4, 0xC0), "files 0 dirs 1 free 6 lost 1"),
+        broken(8192, clusters(32, 3, 0x80), "rule 1 at LSN 0"),
+        counted(most, MOST, "files 0 dirs 1 free 524021 lost 0"),
+        broken(76800, overlapping(0), "rule 4 at LSN 150"),
+        broken(76800, {**overlapping(0), 293: 0xE0}, "rule 3 at LSN 299"),
+        broken(76800, {**overlapping(0xBF), 76768: 0xC1, 76799: 120}, "rule 4 at LSN 150"),
+        broken(76800, {**overlapping(0xBF), 76768: 0xC1, 76798: 1, 76799: 44}, "rule 1 at LSN 16"),
+    ]
+
+
 def main():
     if len(sys.argv) > 1:
         rows = [image_row(path) for path in sys.argv[1:]]
     else:
-        rows = [names_row(), smallest_row(), whole_cluster_row(), worn_row(), permissions_row()]
+        rows = [names_row(), smallest_row(), whole_cluster_row(), worn_row(), permissions_row(), *check_rows()]
     for place, (image, commands) in enumerate(rows):
         print("\t".join([str(201 + place), image, *commands]))
 

@@ -112,8 +112,8 @@ fn history(
 
 /// The row of a session of the debugger: the words, the file of modules, the number of zero bytes
 /// after it, the slice text, the script of keys, the commands, the status, the lines written with
-/// `;` between them, the line on the error stream, and the failing calls of terminals, a field that
-/// may be missing.
+/// `;` between them, the line on the error stream, and two fields that may be missing, the failing
+/// calls of terminals and the numbers of the failing calls of the host.
 fn session(alloc: Global, fields: &mut Fields<'_>) -> Result<Row, RowError> {
     let words = fields.string(alloc)?;
     let mut files = files(alloc, fields)?;
@@ -128,7 +128,7 @@ fn session(alloc: Global, fields: &mut Fields<'_>) -> Result<Row, RowError> {
         history: None,
         drives: Failing::nothing(alloc),
         terminals: terminal_calls(alloc, fields.last_text()?)?,
-        host: Vec::new(alloc),
+        host: fields.last_numbers(alloc)?,
     })
 }
 

@@ -2,7 +2,7 @@ ghost use Rattle.boot_images.specs.Drives.{HaveRoom};
 ghost use Rattle.boot_images.specs.Ready.{AreFree};
 ghost use Rattle.os9_kernel.specs.Outside.{outside};
 ghost use Rattle.file_drives.specs.Drives.{drive_views};
-ghost use Rattle.key_loading.specs.Loaded.{HasNoKeys};
+ghost use Rattle.boot_run.specs.Loaded.{HasNoKeys};
 ghost use Rattle.os9_outer.specs.TerminalState.{terminal_states};
 ghost use Rattle.std.specs.Prelude.{◌≡◌, ◌+◌, true, All, OnOk, bytes_eq, length, []};
 ghost use Rattle.std.specs.Bool.{OnTrue};

@@ -138,33 +138,3 @@ pub fn push_instruction(out: &mut Vec<u8>, at: u16, bytes: &[u8]) -> Result<u8, 
         }
     }
 }
-
-#[cfg(test)]
-mod tests {
-    use super::*;
-    use std::test::Fail;
-
-    #[test]
-    fn lines(rt: HostRuntime) -> Result<(), Fail> {
-        let mut out = Vec::new(rt.alloc());
-        let regs = Regs {
-            a: 0,
-            b: 0,
-            dp: 0,
-            cc: 0,
-            x: 0xE022,
-            y: 0x0100,
-            u: 0,
-            s: 0x0100,
-            pc: 0xE015,
-        };
-        push_regs(&mut out, 1, Pid(2), Some(regs))?;
-        push_instruction(&mut out, 0xE015, &[0x10, 0x8E, 0x00, 0x50])?;
-        push_end(&mut out, 8)?;
-        push_regs(&mut out, 8, Pid(2), None)?;
-        let lines = b"at 1 process 2 pc E015 a 00 b 00 dp 00 cc 00 x E022 y 0100 u 0000 s 0100\n\
-            E015 LDY #$0050\nend at 8\nat 8 process 2 ended\n";
-        assert_eq!(rt; out.as_slice(), lines.as_slice());
-        Ok(())
-    }
-}

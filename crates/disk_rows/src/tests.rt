@@ -4,7 +4,6 @@ mod drives;
 mod files;
 mod formats;
 mod mounts;
-mod overlapping;
 mod reads;
 mod sizes;
 mod walks;

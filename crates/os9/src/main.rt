@@ -5,7 +5,7 @@ ghost use Rattle.std.specs.Prelude.{map, string_bytes};
 ghost use Rattle.boot_images.specs.Drives.{HaveRoom};
 ghost use Rattle.boot_run.specs.World.{world_of};
 ghost use Rattle.file_drives.specs.Drives.{drive_views, drives_seen};
-ghost use Rattle.key_loading.specs.Loaded.{AreUnloaded};
+ghost use Rattle.boot_run.specs.Loaded.{AreUnloaded};
 ghost use Rattle.os9_boot.specs.TopCall.{TopCall};
 ghost use Rattle.os9_kernel.specs.Outside.{outside};
 ghost use Rattle.os9_outer.specs.TerminalState.{terminal_states};

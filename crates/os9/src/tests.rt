@@ -1,15 +1,15 @@
-//! Whole calls of the program, over a host, drives and a terminal that fail as planned.
+//! Calls of the program that no row of `boot_vectors` can have, over a host and drives that fail as
+//! planned.
 
 mod boots;
-mod runs;
-mod sessions;
 mod sources;
 mod tools;
+mod words;
 
 ghost use Rattle.std.specs.Prelude.{◌≡◌, []};
 ghost use Rattle.boot_images.specs.Drives.{HaveRoom};
 ghost use Rattle.file_drives.specs.Drives.{drive_views};
-ghost use Rattle.key_loading.specs.Loaded.{AreUnloaded};
+ghost use Rattle.boot_run.specs.Loaded.{AreUnloaded};
 ghost use Rattle.os9_outer.specs.TerminalState.{terminal_states};
 
 use crate::program;
@@ -34,8 +34,6 @@ struct Step<'a> {
     host: &'a [u64],
     /// The call of D0 that fails, and how.
     drive: Option<(u64, DriveFault)>,
-    /// The calls of TERM that fail.
-    term: &'a [u64],
     status: u8,
     out: &'a [u8],
     err: &'a [u8],
@@ -46,7 +44,6 @@ const QUIET: Step = Step {
     words: "",
     host: &[],
     drive: None,
-    term: &[],
     status: 0,
     out: b"",
     err: b"",
@@ -101,16 +98,13 @@ fn faults(
 
 /// Makes a call over these files.
 fn call(alloc: Global, files: Vec<HostFile>, step: &Step) -> Result<Shown, AllocError> {
-    let term = Box::new(
-        alloc,
-        ScriptTty::new(alloc, Vec::from_slice(alloc, step.term)?),
-    )?;
+    let term = Box::new(alloc, ScriptTty::new(alloc, Vec::new(alloc)))?;
     let host = MemHost::new(alloc, files, Vec::from_slice(alloc, step.host)?);
     let words = words_of(alloc, step.words)?;
     call_with(alloc, term, faults(alloc, step.drive)?, &words, host)
 }
 
-/// The same with this terminal as TERM, and with these failing calls of D0.
+/// The same with this terminal as TERM and these failing calls of D0.
 fn call_with(
     alloc: Global,
     term: Box<dyn CharDriver>,

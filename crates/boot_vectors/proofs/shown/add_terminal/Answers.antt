@@ -1,4 +1,4 @@
-use Rattle.key_loading.specs.Loaded.{HasNoKeys}
+use Rattle.boot_run.specs.Loaded.{HasNoKeys}
 use Rattle.boot_vectors.proofs.Devices.{one-more}
 use Rattle.boot_vectors.proofs.shown.add_terminal.Goals as goal
 
