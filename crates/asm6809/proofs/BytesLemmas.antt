@@ -4,7 +4,7 @@ use Rattle.std.specs.Prelude.{option_map, option_and_then, is_some, unwrap_or}
 use Rattle.std.specs.Option.{option_map_or}
 use Rattle.std.specs.List.{flat_map}
 use Rattle.cpu_table.specs.Spelling.{spelling}
-use Rattle.module_maker.specs.GuestModule.{word_bytes}
+use Rattle.module_format.specs.GuestModule.{word_bytes}
 use Rattle.asm_model.specs.declared.operand.Wanted.{Wanted}
 use Rattle.asm_model.specs.declared.operand.Wanted.TheVariants.{Nothing, Fixed, Value}
 use Rattle.asm_model.specs.Operands.{modulo, filled}
@@ -12,9 +12,9 @@ use Rattle.asm_model.specs.Instructions.{shape_length, with_tail}
 use Rattle.asm_model.specs.Statements.{Action, label_alone, instruction, module_start, module_end, equals, byte_list, word_list, characters, system_call}
 use Rattle.asm_model.specs.Placement.{FieldText, Reached, action_length, action_values, term_value, value_at}
 use Rattle.asm_text.specs.Tails.{tail_by}
-use Rattle.asm_labels.specs.declared.table.Labels.{Labels}
-use Rattle.asm_labels.specs.Labels.{Holds, expression_in, term_in, is_filled_in, is_text_filled_in}
-use Rattle.asm_labels.proofs.LabelLemmas.{expression-same, list_all-same}
+use Rattle.asm_lines.specs.declared.table.Labels.{Labels}
+use Rattle.asm_lines.specs.Labels.{Holds, expression_in, term_in, is_filled_in, is_text_filled_in}
+use Rattle.asm_lines.proofs.LabelLemmas.{expression-same, list_all-same}
 use Rattle.asm6809.specs.Assembled.{action_bytes, byte_there, word_there, is_filled, is_text_filled, placed_at}
 use Rattle.asm6809.specs.Bytes.{action_bytes_in, byte_in, word_in}
 

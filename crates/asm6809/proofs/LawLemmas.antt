@@ -11,10 +11,10 @@ use Rattle.os9_base.proofs.NameLemmas.{is_stored_character-from_name}
 use Rattle.proc_model.specs.Crc.{crc_of}
 use Rattle.proc_model.specs.Module.{IsModule, info_at}
 use Rattle.proc_model.specs.declared.module.ModuleInfo.{ModuleInfo}
-use Rattle.module_maker.specs.declared.maker.Header.{Header}
-use Rattle.module_maker.specs.GuestModule.{made_module, made_body, made_info, header_front, parity_of, crc_bytes, marked_name, code_offset, guest_size, is_program_kind, kind_header_length}
-use Rattle.module_maker.proofs.ModuleLemmas.{length-made_module, made_module-is, made_info-is}
-use Rattle.module_maker.proofs.NameLemmas.{length-marked_name}
+use Rattle.module_format.specs.declared.maker.Header.{Header}
+use Rattle.module_format.specs.GuestModule.{made_module, made_body, made_info, header_front, parity_of, crc_bytes, marked_name, code_offset, guest_size, is_program_kind, kind_header_length}
+use Rattle.module_format.proofs.ModuleLemmas.{length-made_module, made_module-is, made_info-is}
+use Rattle.module_format.proofs.NameLemmas.{length-marked_name}
 use Rattle.asm_model.specs.Operands.{modulo}
 use Rattle.asm_model.specs.Characters.{is_line_feed}
 use Rattle.asm_model.specs.Statements.{ModuleFields, is_module_name, module_start, source_lines}

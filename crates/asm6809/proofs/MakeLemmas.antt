@@ -3,8 +3,8 @@ use Rattle.std.proofs.Common.{◌≡◌, ◌<◌, ℕ, ◌+◌, ◌&&◌, Bool, 
 use Rattle.std.specs.Prelude.{option_map, nat_le, if◌then◌else◌}
 use Rattle.std.proofs.lemmas.Option.{cond_some}
 use Rattle.os9_base.specs.declared.limits.TheConstants.{MOST_GROUP_BYTES}
-use Rattle.module_maker.specs.declared.maker.Header.{Header}
-use Rattle.module_maker.specs.GuestModule.{made_module, code_offset, guest_size, is_program_kind}
+use Rattle.module_format.specs.declared.maker.Header.{Header}
+use Rattle.module_format.specs.GuestModule.{made_module, code_offset, guest_size, is_program_kind}
 use Rattle.asm_model.specs.Statements.{ModuleFields, is_module_name}
 use Rattle.asm_model.specs.Placement.{Reached}
 use Rattle.asm6809.specs.Assembled.{kind_of, header_with, entry_at, module_with}

@@ -13,7 +13,7 @@ use Rattle.cpu_model.specs.declared.instruction.Tail.TheVariants.{Empty, Byte}
 use Rattle.cpu_model.specs.Reading.{reading}
 use Rattle.cpu_table.specs.Spelling.{spelling, IsPlain}
 use Rattle.cpu_table.proofs.Read.{plain_read}
-use Rattle.module_maker.specs.GuestModule.{crc_bytes, kind_header_length, marked_name, word_bytes}
+use Rattle.module_format.specs.GuestModule.{crc_bytes, kind_header_length, marked_name, word_bytes}
 use Rattle.asm_model.specs.declared.operand.Wanted.{Wanted}
 use Rattle.asm_model.specs.declared.operand.Wanted.TheVariants.{Nothing, Fixed, Value}
 use Rattle.asm_model.specs.Instructions.{Shape, shape_length, with_tail}

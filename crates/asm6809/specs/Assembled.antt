@@ -9,8 +9,8 @@ use Rattle.proc_model.specs.declared.module.ModuleInfo.{ModuleInfo}
 use Rattle.cpu_model.specs.declared.instruction.Instr.{Instr}
 use Rattle.cpu_model.specs.Reading.{reading}
 use Rattle.cpu_table.specs.Spelling.{spelling}
-use Rattle.module_maker.specs.declared.maker.Header.{Header}
-use Rattle.module_maker.specs.GuestModule.{made_module, code_offset, crc_bytes, guest_size, is_program_kind, kind_header_length, marked_name, word_bytes}
+use Rattle.module_format.specs.declared.maker.Header.{Header}
+use Rattle.module_format.specs.GuestModule.{made_module, code_offset, crc_bytes, guest_size, is_program_kind, kind_header_length, marked_name, word_bytes}
 use Rattle.asm_model.specs.declared.error.AsmError.TheVariants.{NoModule}
 use Rattle.asm_model.specs.Operands.{modulo, filled}
 use Rattle.asm_model.specs.Instructions.{Shape, shape_length, with_tail}

@@ -4,12 +4,12 @@ use Rattle.std.specs.Option.{option_map_or}
 use Rattle.std.specs.List.{flat_map}
 use Rattle.cpu_model.specs.declared.instruction.Tail.{Tail}
 use Rattle.cpu_table.specs.Spelling.{spelling}
-use Rattle.module_maker.specs.GuestModule.{word_bytes}
+use Rattle.module_format.specs.GuestModule.{word_bytes}
 use Rattle.asm_model.specs.Operands.{Operand, modulo}
 use Rattle.asm_model.specs.Instructions.{Shape, shape_length, with_tail}
 use Rattle.asm_model.specs.Statements.{Action, label_alone, instruction, module_start, module_end, equals, byte_list, word_list, characters, system_call}
-use Rattle.asm_labels.specs.declared.table.Labels.{Labels}
-use Rattle.asm_labels.specs.Labels.{expression_in, term_in}
+use Rattle.asm_lines.specs.declared.table.Labels.{Labels}
+use Rattle.asm_lines.specs.Labels.{expression_in, term_in}
 use Rattle.asm_text.specs.Tails.{tail_by}
 
 abbrev pub value_or_zero : Labels → Option ℕ → List ℕ → ℤ

@@ -4,8 +4,7 @@ ghost use Rattle.asm6809.specs.Assembled.{Assembled, outcome_of};
 ghost use Rattle.asm6809.specs.Faults.{error_number as error_number_lem, OnLine};
 
 use crate::module::module_of;
-use asm_labels::{first_fault, reached_by};
-use asm_lines::read_lines;
+use asm_lines::{first_fault, reached_by, read_lines};
 use asm_model::error::AsmError;
 use os9_base::call::OutOfMemory;
 use std::alloc::{AllocError, Global};

@@ -1,17 +1,16 @@
 ghost use Rattle.std.specs.Prelude.{◌≡◌, ◌+◌, ◌++◌, ◌∷◌, [], Some, map, None, option_map, IfOk, OnSome, if◌then◌else◌};
 ghost use Rattle.std.specs.List.{flat_map, slice_split};
-ghost use Rattle.module_maker.specs.GuestModule.{marked_name, word_bytes};
+ghost use Rattle.module_format.specs.GuestModule.{marked_name, word_bytes};
 ghost use Rattle.asm_model.specs.Characters.{is_comma};
 ghost use Rattle.asm_model.specs.Placement.{Reached as ReachedOf, action_length};
 ghost use Rattle.asm6809.specs.Assembled.{code_if_filled, is_filled as is_filled_lem, placed_at, placed_bytes, placed_from};
 ghost use Rattle.asm6809.specs.Pieces.{end_if_filled, line_bytes};
 ghost use Rattle.asm6809.specs.Bytes.{action_bytes_in, byte_in, shape_bytes_in, word_in};
-ghost use Rattle.asm_labels.specs.Labels.{IsReached};
+ghost use Rattle.asm_lines.specs.Labels.{IsReached};
 ghost use Rattle.asm_lines.specs.Lines.{action_said, line_said};
 ghost use Rattle.asm_text.specs.Views.{shape_as};
 
-use asm_labels::{Place, Reached, is_filled, offset_behind, value_at};
-use asm_lines::{Action, Line};
+use asm_lines::{Action, Line, Place, Reached, is_filled, offset_behind, value_at};
 use asm_text::{Shape, low_byte, low_word, shape_length, tail_with};
 use cpu_model::instruction::Instr;
 use cpu_table::spell;

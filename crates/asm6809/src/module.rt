@@ -1,18 +1,20 @@
 ghost use Rattle.std.specs.Prelude.{◌≡◌, ◌+◌, ◌<◌, nat_le, map, option_map, Some, None, IfOk, IfSome, length, if◌then◌else◌};
 ghost use Rattle.os9_base.specs.declared.limits.TheConstants.{MOST_GROUP_BYTES};
-ghost use Rattle.module_maker.specs.GuestModule.{code_offset, guest_size, is_program_kind};
+ghost use Rattle.module_format.specs.GuestModule.{code_offset, guest_size, is_program_kind};
 ghost use Rattle.asm_model.specs.Placement.{Reached as ReachedOf};
 ghost use Rattle.asm_model.specs.Statements.{is_module_name as is_module_name_lem};
-ghost use Rattle.asm_labels.specs.Labels.{IsReached};
+ghost use Rattle.asm_lines.specs.Labels.{IsReached};
 ghost use Rattle.asm_lines.specs.Lines.{action_said, fields_said, line_said};
 ghost use Rattle.asm6809.specs.Stages.{stage_after as stage_after_lem, stage_behind as stage_behind_lem};
 ghost use Rattle.asm6809.specs.Assembled.{actions_of, entry_at, first_start as first_start_lem, is_framed as is_framed_lem, kind_of as kind_of_lem, module_of as module_of_lem, module_with as module_with_lem, start_of as start_of_lem};
 
 use crate::emit::{byte_at, code_of, word_at};
-use asm_labels::{CRC_LENGTH, PROGRAM, Place, Reached, constant_value, header_length};
-use asm_lines::{Action, Line, ModuleFields, is_module_name};
+use asm_lines::{
+    Action, CRC_LENGTH, Line, ModuleFields, PROGRAM, Place, Reached, constant_value, header_length,
+    is_module_name,
+};
 use asm_text::low_byte;
-use module_maker::{Header, module_with};
+use module_format::{Header, module_with};
 use os9_base::call::OutOfMemory;
 use os9_base::limits::MOST_GROUP_BYTES;
 use os9_base::name::{Name, parse_name};

@@ -9,7 +9,7 @@ use Rattle.cpu_model.specs.BasePage.{base_page}
 use Rattle.cpu_model.specs.TenPage.{ten_page}
 use Rattle.cpu_model.specs.ElevenPage.{eleven_page}
 use Rattle.text_values.specs.Cuts.{is_space, first_word, behind_word, without_spaces}
-use Rattle.module_maker.specs.GuestModule.{marked_name}
+use Rattle.module_format.specs.GuestModule.{marked_name}
 use Rattle.asm_model.specs.declared.directive.Directive.{Directive}
 use Rattle.asm_model.specs.declared.directive.Directive.TheVariants.{Mod, Emod, Equ, Fcb, Fdb, Fcc, Fcs, Os9}
 use Rattle.asm_model.specs.declared.operand.Mark.{Mark}

@@ -1,12 +1,25 @@
-//! The lines of an assembler source, read as statements.
+//! The lines of an assembler source, read as statements; their labels and offsets, and the first line
+//! that breaks a rule.
 #![tactic(auto)]
 
+pub use faults::{SourceFault, first_fault, is_filled};
+pub use lengths::{
+    CRC_LENGTH, PROGRAM, action_length, constant_value, header_length, offset_behind,
+};
 pub use line::{Line, Statement, read_line};
 pub use operands::{Action, ModuleFields, action_of, is_module_name};
+pub use reached::{Reached, reached_by};
 pub use source::read_lines;
+pub use table::Labels;
+pub use values::{Place, value_at};
 
 mod cuts;
+mod faults;
+mod lengths;
 mod line;
 mod operands;
+mod reached;
 mod source;
+mod table;
+mod values;
 mod words;

@@ -4,7 +4,7 @@ use Rattle.std.specs.Option.{option_or, option_map_or}
 use Rattle.std.specs.List.{list_all, list_any}
 use Rattle.std.specs.Str.{bytes_eq}
 use Rattle.os9_base.specs.declared.limits.TheConstants.{MOST_GROUP_BYTES}
-use Rattle.module_maker.specs.GuestModule.{kind_header_length}
+use Rattle.module_format.specs.GuestModule.{kind_header_length}
 use Rattle.asm_model.specs.declared.error.AsmError.{AsmError}
 use Rattle.asm_model.specs.declared.error.AsmError.TheVariants.{Syntax, UnknownName, Twice, Range}
 use Rattle.asm_model.specs.declared.operand.Wanted.{Wanted}

@@ -70,13 +70,13 @@ with_images_in images world = record world {
   devices = record { drives = holding images world.devices.drives; terms = world.devices.terms };
 }
 
--- it was run over the first of its slices, with these images in its drives then, which hold the volumes of the state in
--- which it stopped
+-- it was run over the first of its slices, and stopped with these images in its drives; they hold the volumes of the
+-- state then, or those after the attempt whose entry in the history found no memory
 pub record StopsWithImages (setup : Setup) (before after : World) : Type 0 where
   pub images : List (List ℕ)
   pub first : RunsFirst setup before (with_images_in images after)
 
--- its outcome, by how its run ended; if it stopped before its end, the images hold the volumes of the state then
+-- its outcome, by how its run ended; if it stopped before its end, the images are those in its drives then
 abbrev pub RunGives : Setup → List (List ℕ) → List Entry → World → World → RunEnd → Type 0
 RunGives setup images history before after (Ended begun) =
     EndsWithImages setup false begun images history before after

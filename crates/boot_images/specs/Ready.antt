@@ -2,7 +2,7 @@
 use Rattle.std.specs.Prelude.{◌≡◌, ℕ, ◌≤◌, ◌<◌, true, List, length, All}
 use Rattle.os9_base.specs.declared.limits.TheConstants.{LAST_TICK}
 use Rattle.civil_time.specs.CivilTime.{is_time_packet}
-use Rattle.key_loading.specs.Loaded.{AreUnloaded}
+use Rattle.boot_run.specs.Loaded.{AreUnloaded}
 use Rattle.os9_kernel.specs.Outside.{Outside}
 use Rattle.file_drives.specs.Drives.{DriveView}
 use Rattle.boot_images.specs.Drives.{HaveRoom, IsEmpty}

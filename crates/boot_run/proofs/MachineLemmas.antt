@@ -10,7 +10,7 @@ use Rattle.civil_time.specs.CivilTime.{is_time_packet}
 use Rattle.os9_outer.specs.TerminalState.{TerminalState}
 use Rattle.os9_outer.specs.declared.drive.BlockDriver.{Ghosts}
 use Rattle.script_text.specs.declared.script.ScriptKey.{ScriptKey}
-use Rattle.key_loading.specs.Loaded.{keys_for, loaded, loaded_from, with_keys, AreUnloaded}
+use Rattle.boot_run.specs.Loaded.{keys_for, loaded, loaded_from, with_keys, AreUnloaded}
 use Rattle.lock_model.specs.declared.history.Entry.{Entry}
 use Rattle.rbf_model.specs.Volume.{DiskVolume}
 use Rattle.file_rules.specs.Files.{DriveState, NoneFailed}
@@ -26,7 +26,7 @@ use Rattle.event_rules.specs.declared.ends.BootFault.{BootFault}
 use Rattle.event_rules.specs.declared.ends.BootFault.TheVariants.{OutOfMemory, BadModule, NoFirst, TooLarge}
 use Rattle.machine_model.specs.Start.{Boot as Begun, Starts}
 use Rattle.machine_model.specs.State.{State, has_living}
-use Rattle.wait_laws.proofs.RunningLaws.{start-running}
+use Rattle.wake_laws.proofs.OpenRuns.{start-open}
 use Rattle.os9_kernel.specs.declared.kernel.Kernel.{Kernel}
 use Rattle.os9_kernel.specs.declared.new.Config.{Config}
 use Rattle.os9_kernel.specs.declared.new.StartError.{StartError}
@@ -187,7 +187,9 @@ module _ (setup : Setup) (kernel : Kernel) (before : World) (started later : Out
     inner = begins.2.inner;
     files = subst (λ (views : List DriveView). StandsFor kernel.files views was.files) (sym drives) begins.2.files;
     is = λ i. record (begins.2.is i) { terms = later.terms };
-    running = start-running (boot_with setup (drive_states started.drives) later.terms) begun starts (omega (arith, count, unloaded.some)) (omega (arith, count, unloaded.few)) civil;
+    run = start-open (boot_with setup (drive_states started.drives) later.terms) begun starts (omega (arith, count, unloaded.some)) (omega (arith, count, unloaded.few)) civil;
+    looked = begins.2.looked;
+    known = begins.2.known;
   }
 
   pub stands-loaded : Stands kernel later

@@ -1,3 +1,5 @@
+pub mod Loaded
+pub mod Dropped
 pub mod Console
 pub mod Machine
 pub mod PassedBytes

@@ -8,7 +8,7 @@ use Rattle.civil_time.specs.CivilTime.{is_time_packet}
 use Rattle.file_drives.specs.Drives.{drive_states, media_of}
 use Rattle.file_rules.specs.Files.{NoneFailed, OneFailed}
 use Rattle.file_start.specs.Start.{HaveImages, HaveVolumes}
-use Rattle.key_loading.specs.Loaded.{AreUnloaded, loaded}
+use Rattle.boot_run.specs.Loaded.{AreUnloaded, loaded}
 use Rattle.lock_model.specs.Records.{Records}
 use Rattle.lock_model.specs.declared.history.Entry.{Entry}
 use Rattle.event_rules.specs.Start.{Refuses}

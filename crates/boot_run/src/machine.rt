@@ -7,9 +7,9 @@ ghost use Rattle.boot_run.specs.Machine.{CanRun, MachineRuns, history_left};
 ghost use Rattle.boot_run.specs.RunEnd.{start_end};
 ghost use Rattle.boot_run.specs.World.{OnWorld};
 
+use crate::load_keys;
 use crate::run::{RunFault, run_slices};
 use device_table::devices::Devices;
-use key_loading::load_keys;
 use lock_model::history::Entry;
 use os9_base::limits::LAST_TICK;
 use os9_kernel::{BootFault, Config, Kernel, StartError};

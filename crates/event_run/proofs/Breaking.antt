@@ -20,9 +20,9 @@ use Rattle.event_rules.proofs.TerminalLaws.{gain-attempt, gain-same}
 use Rattle.file_rules.specs.Attempts.{FileAttempts}
 use Rattle.file_rules.specs.Files.{DriveState, Files}
 use Rattle.file_rules.specs.declared.path_call.PathCall.{PathCall}
-use Rattle.touch_laws.specs.Devices.{IsOnDevice}
-use Rattle.touch_laws.specs.Touch.{LeavesDevices, WaitsForRecord}
-use Rattle.touch_laws.proofs.Attempts.{attempt-comes}
+use Rattle.file_laws.specs.Devices.{IsOnDevice}
+use Rattle.file_laws.specs.Touch.{LeavesDevices, WaitsForRecord}
+use Rattle.file_laws.proofs.TouchAttempts.{attempt-comes}
 use Rattle.file_drives.specs.Drives.{drive_states}
 use Rattle.machine_model.specs.Devices.{DrivesOnlyGain}
 use Rattle.machine_model.specs.Run.{BreaksTick}

@@ -23,7 +23,7 @@ use Rattle.file_state.specs.Counted.{AttemptsIn}
 use Rattle.file_state.specs.Lacks.{LacksItsEntry, TriesWithin}
 use Rattle.file_state.specs.Tie.{StandsFor}
 use Rattle.file_state.specs.declared.state.FileState.{FileState}
-use Rattle.touch_laws.specs.Devices.{device_call}
+use Rattle.file_laws.specs.Devices.{device_call}
 use Rattle.file_dispatch.specs.Bounds.{attempt_calls}
 use Rattle.file_dispatch.specs.Dates.{IsTimeFor}
 

@@ -15,10 +15,10 @@ use Rattle.proc_model.specs.Objects.{file_block, file_blocks}
 use Rattle.proc_model.specs.declared.module.ModuleInfo.{ModuleInfo}
 use Rattle.proc_model.specs.declared.module.ModuleStep.TheVariants.{Module}
 use Rattle.guest_mods.specs.declared.load.Load.{Load}
-use Rattle.module_maker.specs.GuestModule.{guest_info}
+use Rattle.module_format.specs.GuestModule.{guest_info}
 use Rattle.guest_mods.specs.Stress.{IsLoad, sysgo_code, worker_code, sysgo_module, worker_module, stress_file}
 use Rattle.guest_mods.specs.Accepted.{IsAccepted}
-use Rattle.module_maker.proofs.ModuleLemmas.{guest_module-is, guest_info-is, length-guest_module}
+use Rattle.module_format.proofs.ModuleLemmas.{guest_module-is, guest_info-is, length-guest_module}
 use Rattle.guest_mods.proofs.BehindLemmas.{step-module, step-end}
 use Rattle.guest_mods.proofs.StressLemmas.{length-sysgo_code, length-worker_code, few-lengths}
 

@@ -3,7 +3,7 @@ use Rattle.std.specs.Prelude.{ℕ, ◌*◌, ◌<◌, ◌≤◌, List, [], ◌∷
 use Rattle.guest_mods.specs.declared.load.Load.{Load}
 use Rattle.guest_mods.specs.declared.load.TheConstants.{MOST_RECORDS}
 use Rattle.guest_mods.specs.declared.programs.TheConstants.{STORAGE, SYSGO, WORKER}
-use Rattle.module_maker.specs.GuestModule.{guest_module}
+use Rattle.module_format.specs.GuestModule.{guest_module}
 use Rattle.guest_mods.specs.Random.{draws}
 
 -- a valid load

@@ -1,10 +1,10 @@
 //! The disk that the command `stress` boots, and its list of slices; the image of a disk with one
-//! boot file; and the source of a shell. `module` is that of `module_maker`.
+//! boot file; and the source of a shell. `module` is that of `module_format`.
 #![tactic(auto)]
 
 pub use image::boot_image;
 pub use load::Load;
-pub use module_maker::module;
+pub use module_format::module;
 pub use shell::shell_source;
 pub use slices::stress_slices;
 pub use stress::stress_image;

@@ -5,7 +5,7 @@ ghost use Rattle.guest_mods.specs.Stress.{IsLoad, record_lengths, program_module
 
 use crate::load::Load;
 use crate::random::{draw, next_random};
-use module_maker::module;
+use module_format::module;
 use os9_base::call::OutOfMemory;
 use os9_base::calls::{
     F_EXIT, F_FORK, F_WAIT, I_CREATE, I_OPEN, I_READ, I_SEEK, I_SETSTT, I_WRITE,

@@ -11,9 +11,9 @@ use Rattle.file_rules.specs.Attempts.{FileAttempts, asker_of, file_step}
 use Rattle.file_rules.specs.Files.{Asker, Files}
 use Rattle.file_rules.specs.Step.{Deed, DoesDeed, FileDoes, FileEffect, FileStep, GoesWell, IsBroken, MayBeLeft, as_io, changes, deed_of, drive_of, leaves_so}
 use Rattle.file_rules.specs.declared.path_call.PathCall.{PathCall}
-use Rattle.touch_laws.proofs.Attempts.{step-splits}
-use Rattle.touch_laws.proofs.Loads.{chain-leaves, fork-leaves, load-leaves}
-use Rattle.touch_laws.proofs.Splits.{Splits, StepSplits}
+use Rattle.file_laws.proofs.TouchAttempts.{step-splits}
+use Rattle.file_laws.proofs.Loads.{chain-leaves, fork-leaves, load-leaves}
+use Rattle.file_laws.proofs.Splits.{Splits, StepSplits}
 use Rattle.machine_model.specs.Services.{Serves, Service, files_after_call, files_after_fork, loads, no_call, on_paths, on_processes, on_time}
 use Rattle.machine_model.specs.State.{Rest, State}
 use Rattle.image_laws.specs.Ends.{KeepsEnds}

@@ -1,3 +1,4 @@
+pub mod CutOff
 pub mod Volumes
 pub mod Attempts
 pub mod Runs

@@ -1,2 +1,4 @@
 pub mod Places
 pub mod Table
+pub mod ModuleLemmas
+pub mod NameLemmas

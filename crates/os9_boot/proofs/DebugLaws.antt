@@ -12,7 +12,7 @@ use Rattle.boot_run.specs.World.{World}
 use Rattle.command_files.specs.End.{status_number}
 use Rattle.command_files.specs.declared.status.End.{End}
 use Rattle.command_files.specs.declared.status.End.TheVariants.{Ended, Living, NoMemory, TerminalFailed}
-use Rattle.debug_session.specs.Counts.{TerminalRose}
+use Rattle.os9_debug.specs.Counts.{TerminalRose}
 use Rattle.os9_debug.specs.Call.{DebugCall}
 use Rattle.os9_debug.specs.Left.{DebugMayEnd}
 use Rattle.os9_debug.specs.OneCourse.{IsFaultless, ShowsOneCourse}

@@ -6,7 +6,7 @@ use Rattle.std.specs.declared.alloc.Global.{Global}
 use Rattle.std.specs.declared.dyn_box.DynBox.{DynBox}
 use Rattle.os9_outer.specs.declared.drive.BlockDriver.{Ghosts}
 use Rattle.file_drives.specs.Drives.{DriveView, boxed_drive_view, drive_views}
-use Rattle.key_loading.specs.Loaded.{AreUnloaded}
+use Rattle.boot_run.specs.Loaded.{AreUnloaded}
 use Rattle.os9_words.specs.declared.command.Command.{Command}
 use Rattle.os9_words.specs.declared.command.Command.TheVariants.{Run, Boot, Check, Stress, Vol, Asm, Debug}
 use Rattle.os9_words.specs.Command.{command_of, most_images}

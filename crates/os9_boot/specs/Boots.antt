@@ -54,8 +54,7 @@ pub record IsUndone (before after : World) : Type 0 where
   pub unrun : IsUnrun before after
   pub files : after.files ≡ before.files
 
--- it ran over the first of its slices, its images hold the volumes of the state in which it stopped, and none was
--- written
+-- it ran over the first of its slices, its images are those in the drives if it stops there, and none was written
 pub record RunsUnended (setup : Setup) (before after : World) : Type 0 where
   pub first : StopsWithImages setup before after
   pub files : after.files ≡ before.files

@@ -14,7 +14,7 @@ ghost use Rattle.boot_run.specs.World.{World};
 ghost use Rattle.command_files.specs.End.{status_number};
 ghost use Rattle.command_files.specs.declared.status.End.{End};
 ghost use Rattle.command_files.specs.declared.status.End.TheVariants.{Ended, TerminalFailed};
-ghost use Rattle.debug_session.specs.Counts.{TerminalRose};
+ghost use Rattle.os9_debug.specs.Counts.{TerminalRose};
 ghost use Rattle.os9_debug.specs.OneCourse.{IsFaultless, ShowsOneCourse};
 ghost use Rattle.os9_boot.specs.Commands.{CommandCall};
 ghost use Rattle.os9_boot.specs.Completeness.{IsNoFault, NoneRose, TellsNoFault};

@@ -10,10 +10,10 @@ use Rattle.os9_words.specs.declared.debug_words.DebugWords.{DebugWords}
 use Rattle.boot_run.specs.World.{World, HasNoFault}
 use Rattle.debug_text.specs.Commands.{commands_of}
 use Rattle.debug_text.specs.declared.command.Command.{Command}
-use Rattle.debug_session.specs.Session.{FailsToPrint, PrintsSome, SessionCall, StopsAtTerminal}
-use Rattle.debug_session.specs.declared.machine.Machine.{Machine}
-use Rattle.debug_session.specs.declared.machine.SessionFault.{SessionFault}
-use Rattle.debug_session.specs.declared.machine.SessionFault.TheVariants as Fault
+use Rattle.os9_debug.specs.Session.{FailsToPrint, PrintsSome, SessionCall, StopsAtTerminal}
+use Rattle.os9_debug.specs.declared.machine.Machine.{Machine}
+use Rattle.os9_debug.specs.declared.machine.SessionFault.{SessionFault}
+use Rattle.os9_debug.specs.declared.machine.SessionFault.TheVariants as Fault
 use Rattle.command_files.specs.Left.{IsSilent}
 use Rattle.command_files.specs.Reading.{RefusesTexts}
 use Rattle.command_files.specs.Setup.{HaveTexts}

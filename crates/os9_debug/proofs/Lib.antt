@@ -1,3 +1,9 @@
+pub mod Back
+pub mod Bytes
+pub mod Counted
+pub mod Going
+pub mod Printing
+pub mod Starting
 pub mod CallLemmas
 pub mod FileLemmas
 pub mod NoteLemmas

@@ -11,8 +11,8 @@ use Rattle.command_files.specs.declared.status.End.{End}
 use Rattle.command_files.specs.declared.status.End.TheVariants.{CannotRead, CannotWrite, NoMemory, BadText, BadModule, NoFirst, TooLarge, TerminalFailed}
 use Rattle.command_files.specs.declared.status.Input.TheVariants.{Script, Slices, Commands}
 use Rattle.command_files.proofs.ReadLemmas.{written-none}
-use Rattle.debug_session.specs.declared.machine.SessionFault.{SessionFault}
-use Rattle.debug_session.specs.declared.machine.SessionFault.TheVariants as Fault
+use Rattle.os9_debug.specs.declared.machine.SessionFault.{SessionFault}
+use Rattle.os9_debug.specs.declared.machine.SessionFault.TheVariants as Fault
 use Rattle.os9_debug.specs.Call.{NotesDebug}
 use Rattle.os9_debug.specs.Debug.{debug_file_name, debug_inputs}
 use Rattle.os9_debug.specs.Steps.{RefusesCommands, session_end}

@@ -6,11 +6,11 @@ use Rattle.civil_time.specs.CivilTime.{is_time_packet}
 use Rattle.os9_outer.specs.Host.{Files}
 use Rattle.os9_outer.specs.TerminalState.{TerminalState}
 use Rattle.script_text.specs.declared.script.ScriptKey.{ScriptKey}
-use Rattle.key_loading.specs.Loaded.{loaded_from}
+use Rattle.boot_run.specs.Loaded.{loaded_from}
 use Rattle.os9_words.specs.declared.debug_words.DebugWords.{DebugWords}
 use Rattle.boot_run.specs.World.{World}
 use Rattle.debug_text.proofs.Courses.{course-one, course-some}
-use Rattle.debug_session.specs.Machine.{boot_of}
+use Rattle.os9_debug.specs.Machine.{boot_of}
 use Rattle.command_files.specs.declared.status.End.TheVariants.{Ended}
 use Rattle.os9_debug.specs.Call.{DebugCall}
 use Rattle.os9_debug.specs.Debug.{DebugComesTo, PrintsWhole, SessionThen}

@@ -11,7 +11,7 @@ use Rattle.os9_outer.specs.TerminalState.{TerminalState, fault_counts}
 use Rattle.file_drives.specs.Drives.{DriveView, drive_states}
 use Rattle.script_text.specs.Script.{AreKeys, IsKey}
 use Rattle.script_text.specs.declared.script.ScriptKey.{ScriptKey}
-use Rattle.key_loading.specs.Dropped.{FailsAt}
+use Rattle.boot_run.specs.Dropped.{FailsAt}
 use Rattle.os9_words.specs.declared.command.RunWords.{RunWords}
 use Rattle.os9_words.specs.Command.{IsRun}
 use Rattle.boot_images.specs.Drives.{IsEmpty, without_media}
@@ -24,13 +24,13 @@ use Rattle.debug_text.specs.Course.{Course}
 use Rattle.debug_text.specs.Prints.{printed_from}
 use Rattle.debug_text.specs.declared.command.Command.{Command}
 use Rattle.event_run.specs.Devices.{Unfailed}
-use Rattle.debug_session.specs.Counts.{FailedOnce, RoseOnce, TerminalRose}
-use Rattle.debug_session.specs.Machine.{CanStart, HasTick, InCourse}
-use Rattle.debug_session.specs.Session.{FailsToPrint, PrintsFirst, PrintsSome, SessionCall, StopsSession}
-use Rattle.debug_session.specs.declared.machine.Machine.{Machine}
-use Rattle.debug_session.specs.declared.machine.SessionFault.{SessionFault}
-use Rattle.debug_session.specs.declared.machine.SessionFault.TheVariants.{Refused, TerminalFailed, OutputFailed, NoMemory}
-use Rattle.debug_session.proofs.Starting.{no-volumes}
+use Rattle.os9_debug.specs.Counts.{FailedOnce, RoseOnce, TerminalRose}
+use Rattle.os9_debug.specs.Machine.{CanStart, HasTick, InCourse}
+use Rattle.os9_debug.specs.Session.{FailsToPrint, PrintsFirst, PrintsSome, SessionCall, StopsSession}
+use Rattle.os9_debug.specs.declared.machine.Machine.{Machine}
+use Rattle.os9_debug.specs.declared.machine.SessionFault.{SessionFault}
+use Rattle.os9_debug.specs.declared.machine.SessionFault.TheVariants.{Refused, TerminalFailed, OutputFailed, NoMemory}
+use Rattle.os9_debug.proofs.Starting.{no-volumes}
 
 -- ---- it can be had
 

@@ -1,4 +1,4 @@
--- What `debug` does (this project's own; what a session shows is that of debug_session).
+-- What `debug` does (this project's own; what a session shows is in Session.antt).
 use Rattle.std.specs.Prelude.{◌≡◌, ◌⊎◌, ℕ, ⊤, Option, Some, Ok, Err, List, ◌∷◌, ◌++◌, length, slice_get}
 use Rattle.os9_outer.specs.Host.{Files, file_contents}
 use Rattle.script_text.specs.declared.script.ScriptKey.{ScriptKey}
@@ -9,9 +9,9 @@ use Rattle.os9_words.specs.declared.debug_words.DebugWords.{DebugWords}
 use Rattle.boot_run.specs.World.{World}
 use Rattle.debug_text.specs.Commands.{commands_of}
 use Rattle.debug_text.specs.declared.command.Command.{Command}
-use Rattle.debug_session.specs.Machine.{HasStart}
-use Rattle.debug_session.specs.Session.{FailsToPrint, PrintsAll, PrintsSome, StopsAtTerminal}
-use Rattle.debug_session.specs.declared.machine.Machine.{Machine}
+use Rattle.os9_debug.specs.Machine.{HasStart}
+use Rattle.os9_debug.specs.Session.{FailsToPrint, PrintsAll, PrintsSome, StopsAtTerminal}
+use Rattle.os9_debug.specs.declared.machine.Machine.{Machine}
 use Rattle.command_files.specs.End.{boot_end, run_file_name}
 use Rattle.command_files.specs.FileNames.{script_names}
 use Rattle.command_files.specs.Reading.{BreaksSlices}

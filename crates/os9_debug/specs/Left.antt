@@ -1,7 +1,7 @@
 -- How `debug` may end, and what it leaves (this project's own).
 use Rattle.std.specs.Prelude.{◌≡◌, ℕ, ⊤, List, []}
 use Rattle.boot_run.specs.World.{World}
-use Rattle.debug_session.specs.Counts.{TerminalRose}
+use Rattle.os9_debug.specs.Counts.{TerminalRose}
 use Rattle.command_files.specs.Left.{IsSilent}
 use Rattle.command_files.specs.declared.status.End.{End}
 use Rattle.command_files.specs.declared.status.End.TheVariants.{Ended, CannotRead, CannotWrite, NoMemory, BadText, BadModule, NoFirst, TooLarge, TerminalFailed}

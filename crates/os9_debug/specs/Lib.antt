@@ -1,3 +1,7 @@
+pub mod Counts
+pub mod Machine
+pub mod Moves
+pub mod Session
 pub mod Call
 pub mod Debug
 pub mod Left

@@ -7,9 +7,9 @@ use Rattle.boot_images.specs.Ready.{AreFree}
 use Rattle.boot_run.specs.World.{World}
 use Rattle.event_run.specs.Devices.{Unfailed}
 use Rattle.debug_text.specs.declared.command.Command.{Command}
-use Rattle.debug_session.specs.Machine.{HasNoBytes}
-use Rattle.debug_session.specs.Session.{CanFail, ShowsTheCourse}
-use Rattle.debug_session.specs.declared.machine.Machine.{Machine}
+use Rattle.os9_debug.specs.Machine.{HasNoBytes}
+use Rattle.os9_debug.specs.Session.{CanFail, ShowsTheCourse}
+use Rattle.os9_debug.specs.declared.machine.Machine.{Machine}
 use Rattle.os9_debug.specs.Debug.{HasSession, SessionThen}
 
 -- a call over observed files and free devices, in which no count of faults rose, though each could, and before which no

@@ -5,10 +5,10 @@ use Rattle.os9_words.specs.declared.debug_words.DebugWords.{DebugWords}
 use Rattle.boot_run.specs.World.{World}
 use Rattle.debug_text.specs.Commands.{commands_of}
 use Rattle.debug_text.specs.declared.command.Command.{Command}
-use Rattle.debug_session.specs.Session.{SessionCall}
-use Rattle.debug_session.specs.declared.machine.Machine.{Machine}
-use Rattle.debug_session.specs.declared.machine.SessionFault.{SessionFault}
-use Rattle.debug_session.specs.declared.machine.SessionFault.TheVariants as Fault
+use Rattle.os9_debug.specs.Session.{SessionCall}
+use Rattle.os9_debug.specs.declared.machine.Machine.{Machine}
+use Rattle.os9_debug.specs.declared.machine.SessionFault.{SessionFault}
+use Rattle.os9_debug.specs.declared.machine.SessionFault.TheVariants as Fault
 use Rattle.command_files.specs.End.{boot_end}
 use Rattle.command_files.specs.Setup.{script_of}
 use Rattle.command_files.specs.declared.status.End.{End}

@@ -8,11 +8,11 @@ ghost use Rattle.boot_images.specs.Ready.{AreEmptyAgain, AreFree};
 ghost use Rattle.boot_run.specs.World.{OnWorld};
 ghost use Rattle.os9_debug.specs.Call.{DebugCall, NotesDebug};
 
+use crate::Machine;
 use crate::files::{commands_in, read_files};
 use crate::session::show;
 use command_files::status::End;
 use command_files::texts::read_texts;
-use debug_session::Machine;
 use device_table::devices::Devices;
 use os9_outer::drive::BlockDriver;
 use os9_outer::host::Host;

@@ -5,15 +5,15 @@ ghost use Rattle.file_drives.specs.Drives.{drive_views};
 ghost use Rattle.boot_images.specs.Drives.{HaveRoom};
 ghost use Rattle.boot_images.specs.Ready.{AreEmptyAgain};
 ghost use Rattle.boot_run.specs.World.{OnWorld};
-ghost use Rattle.debug_session.specs.Machine.{CanStart};
+ghost use Rattle.os9_debug.specs.Machine.{CanStart};
 ghost use Rattle.os9_debug.specs.Steps.{HadSession, session_end};
 ghost use Rattle.os9_kernel.specs.Outside.{outside};
 ghost use Rattle.os9_words.specs.Notes.{notes_of};
 
+use crate::{Machine, SessionFault, debug};
 use boot_images::drives::eject_images;
 use boot_images::images::Images;
 use command_files::status::End;
-use debug_session::{Machine, SessionFault, debug};
 use debug_text::Command;
 use device_table::devices::Devices;
 use os9_outer::drive::BlockDriver;

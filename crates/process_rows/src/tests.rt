@@ -1,7 +1,13 @@
+mod areas;
+mod blocks;
 mod calls;
 mod files;
 mod forks;
+mod modules;
+mod names;
 mod processes;
+mod processor;
+mod records;
 mod starts;
 mod tables;
 mod times;

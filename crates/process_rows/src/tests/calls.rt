@@ -1,8 +1,7 @@
 ghost use Rattle.proc_rules.specs.Records.{IsLiving};
 
-use super::processes::{CLEAR, give_block, lives, same, set, store};
+use super::processes::{CLEAR, give_block, lives, next_chosen, same, set, store};
 use call_dispatch::attempt;
-use call_rules::io_ready::IoReady;
 use call_rules::proc_call::ProcCall;
 use os9_base::call::CallEnd;
 use os9_base::calls::{F_SEND, F_SLEEP, F_UNLINK};
@@ -112,7 +111,7 @@ fn sleep_and_signals(rt: HostRuntime) -> Result<(), Fail> {
         CallEnd::Wait,
     );
     next_tick(&mut s);
-    same(&rt, s.choose(&IoReady::none()), Some(sender));
+    same(&rt, next_chosen(&mut s), Some(sender));
     assert!(rt; lives(&s, sender));
     begin(
         &mut s,
@@ -126,7 +125,7 @@ fn sleep_and_signals(rt: HostRuntime) -> Result<(), Fail> {
     );
     same(&rt, attempt(&mut s, sender, ProcCall::Send), CallEnd::Done);
     next_tick(&mut s);
-    same(&rt, s.choose(&IoReady::none()), Some(sleeper));
+    same(&rt, next_chosen(&mut s), Some(sleeper));
     assert!(rt; lives(&s, sleeper));
     same(
         &rt,

@@ -4,9 +4,11 @@ ghost use Rattle.std.specs.Prelude.{◌≡◌, ◌<◌, ◌≤◌, length};
 ghost use Rattle.guest_memory.specs.Tie.{modules_of};
 ghost use Rattle.proc_rules.specs.Records.{IsLiving, is_living};
 
+use call_rules::io_ready::IoReady;
 use guest_memory::memory::Memory;
 use os9_base::registers::{Pid, Regs};
 use proc_state::state::ProcState;
+use process_choice::choice::{dispatch, settle};
 use process_table::Life;
 use std::fmt::Debug;
 use std::process::Abort;
@@ -33,6 +35,19 @@ pub fn lives(s: &ProcState, p: Pid) -> bool
     ensures { result ≡ is_living s.now.table p.0 }
 {
     matches!(s.table.life(p), Some(Life::Running | Life::Waiting))
+}
+
+/// The choice of a process if no call on input and output may go on.
+pub fn next_chosen(s: &mut ProcState) -> Option<Pid> {
+    settle(s, &IoReady::none());
+    dispatch(s)
+}
+
+/// The age of a process.
+pub fn age(s: &ProcState, p: Pid) -> u8
+    requires { IsLiving s.now.table p.0 }
+{
+    s.sched.age(p)
 }
 
 /// Gives a process these registers.

@@ -1,3 +1,4 @@
+use super::processes::next_chosen;
 use call_rules::io_ready::IoReady;
 use os9_base::registers::Pid;
 use os9_sched::{Cause, Sched};
@@ -17,7 +18,7 @@ fn ample_memory(rt: HostRuntime) -> Result<(), Fail> {
     assert_eq!(rt; sched.dispatch(), None);
     assert_eq!(rt; state.living(), 0);
     assert!(rt; !state.ready(TWO, &IoReady::none()));
-    assert_eq!(rt; state.choose(&IoReady::none()), None);
+    assert_eq!(rt; next_chosen(&mut state), None);
     Ok(())
 }
 

@@ -1,7 +1,7 @@
 -- The lines that were read are those of the source.
 use Rattle.std.proofs.Common.{◌≡◌, Some, None, map}
 use Rattle.asm_model.specs.Placement.{fault_from, reached_from, start}
-use Rattle.asm_labels.specs.Labels.{IsReached, fault_said}
+use Rattle.asm_lines.specs.Labels.{IsReached, fault_said}
 use Rattle.asm_lines.specs.Lines.{line_said}
 use Rattle.asm6809.specs.Assembled.{module_of}
 use Rattle.asm6809.proofs.AssembleLemmas.{outcome-fault, outcome-made, outcome-none}

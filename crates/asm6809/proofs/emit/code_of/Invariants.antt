@@ -1,7 +1,7 @@
 -- The code so far.
 use Rattle.asm_model.specs.Placement.{Reached}
 use Rattle.asm_lines.specs.Lines.{line_said}
-use Rattle.asm_labels.specs.Labels.{IsReached}
+use Rattle.asm_lines.specs.Labels.{IsReached}
 use Rattle.asm6809.proofs.CodeLemmas.{IsSoFar}
 use Rattle.asm6809.proofs.emit.code_of.Given as goal
 

@@ -1,6 +1,6 @@
 -- Each part is that of the module, or there is none.
 use Rattle.std.proofs.Common.{◌≡◌, ◌∙◌}
-use Rattle.module_maker.specs.declared.maker.Header.{Header}
+use Rattle.module_format.specs.declared.maker.Header.{Header}
 use Rattle.asm_lines.specs.Lines.{fields_said}
 use Rattle.asm6809.specs.Assembled.{header_with}
 use Rattle.asm6809.proofs.BytesLemmas.{byte-same, word-same}

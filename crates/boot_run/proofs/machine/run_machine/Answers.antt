@@ -2,7 +2,7 @@ use Rattle.std.proofs.Common.{◌≡◌, List, [], All, length, ap, subst, refl,
 use Rattle.std.specs.Vec.{vec_len}
 use Rattle.std.proofs.lemmas.List.{length-map}
 use Rattle.os9_outer.specs.TerminalState.{TerminalState, terminal_states}
-use Rattle.key_loading.specs.Loaded.{HasNoKeys, loaded}
+use Rattle.boot_run.specs.Loaded.{HasNoKeys, loaded}
 use Rattle.lock_model.specs.Records.{Records}
 use Rattle.file_rules.specs.Files.{NoneFailed}
 use Rattle.file_drives.specs.Drives.{drive_states, drive_views, media_of}

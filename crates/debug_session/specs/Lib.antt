@@ -1,4 +1,0 @@
-pub mod Counts
-pub mod Machine
-pub mod Moves
-pub mod Session

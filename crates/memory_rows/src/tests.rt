@@ -1,5 +1,0 @@
-mod areas;
-mod blocks;
-mod modules;
-mod names;
-mod processor;

@@ -1,2 +1,0 @@
-pub mod ModuleLemmas
-pub mod NameLemmas
