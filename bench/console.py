@@ -4,8 +4,9 @@ programs.
 
 Each session is recorded, and `boot` over its record must give the same bytes, the same image and the same status.
 Then come the edges: an image that is refused, bytes above 7F, lines of up to a megabyte, no input, a record that
-cannot be written, and interrupts, at a prompt and of a guest that never waits. At last 100,000 empty lines are typed at a guest that reads lines, and the host instructions of the console are divided
-by those of `boot` over the record. Needs valgrind.
+cannot be written, and interrupts, at a prompt and of a guest that never waits. At last 100,000 empty lines are typed
+at a guest that reads lines, and the host instructions of the console are divided by those of `boot` over the record.
+Needs valgrind.
 """
 import os
 import random

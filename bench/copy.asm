@@ -1,23 +1,22 @@
         mod     SysGo,$11,$81,1000
+* BIG is on path 3 and COPY on path 4: a path gets the least free number.
 start   leax    <from,pcr
         lda     #1
         os9     $84
         bcs     exit
-        sta     0
         leax    <to,pcr
         lda     #2
         ldb     #3
         os9     $83
         bcs     exit
-        sta     1
-again   lda     0
+        deca
         ldx     #256
         ldy     #256
-        os9     $89
+again   os9     $89
         bcs     over
-        lda     1
-        ldx     #256
+        inca
         os9     $8A
+        deca
         bcc     again
         bra     exit
 over    cmpb    #211

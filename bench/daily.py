@@ -49,52 +49,75 @@ MAKE = """
         ldb     #3
         os9     $83
         bcs     exit
-        sta     0
 """
 
-# Writes BYTES to it, each time at its end.
-PUT = """
+# Writes 4,096 bytes to it, each time at its end.
+WRITE = repeated(
+    MAKE + "        sta     0",
+    """
         lda     0
         ldx     #256
-        ldy     #BYTES
+        ldy     #4096
         os9     $8A
         bcs     exit
+""",
+    named("name", "NEW"),
+    room=6000,
+)
+
+# Writes a byte at its end COUNT times. A call keeps A, X and Y, so X is the count and the place of the byte.
+APPEND = f"""
+        mod     SysGo,$11,$81,1000
+start   {MAKE.strip()}
+        ldx     #COUNT
+        ldy     #1
+again   os9     $8A
+        bcs     exit
+        leax    -1,x
+        bne     again
+        clrb
+exit    os9     $06
+{named("name", "NEW")}        emod
 """
 
-APPEND = repeated(MAKE, PUT.replace("BYTES", "1"), named("name", "NEW"))
-WRITE = repeated(MAKE, PUT.replace("BYTES", "4096"), named("name", "NEW"), room=6000)
 
-# Opens BIG, which has 4,096 sectors.
-OPEN = """
-        leax    <name,pcr
+def seek_and_read(sectors):
+    """Goes so many sectors on in the 256 of which X is the high half of the position, and reads a sector."""
+    return f"""        leau    {256 * sectors},u
+        os9     $88
+        lbcs    exit
+        os9     $89
+        lbcs    exit
+"""
+
+
+# Goes through the 4,096 sectors of BIG COUNT times, 16 sectors to a round, and never reads one that was among the
+# last 256. A call keeps A, X, Y and U, so X is the high half of the position and the place of the buffer too.
+READ = f"""
+        mod     SysGo,$11,$81,1000
+start   leax    name,pcr
         lda     #1
         os9     $84
-        bcs     exit
-        sta     0
-        ldd     #0
-        std     <4
-        std     <6
-"""
-
-# Reads the sector 1,237 behind the one before.
-SEEK_AND_READ = """
-        ldd     <5
-        addd    #1237
-        anda    #15
-        std     <5
-        lda     0
-        ldx     <4
-        ldu     <6
-        os9     $88
-        bcs     exit
-        lda     0
-        ldx     #256
+        lbcs    exit
+        ldx     #0
         ldy     #256
-        os9     $89
-        bcs     exit
+        ldu     #0
+        ldb     #COUNT
+        stb     >769
+        clr     >768
+again   {(seek_and_read(78) + 15 * seek_and_read(77)).strip()}
+        leax    1,x
+        cmpx    #16
+        bne     count
+        ldx     #0
+count   dec     >768
+        lbne    again
+        dec     >769
+        lbne    again
+        clrb
+exit    os9     $06
+{named("name", "BIG")}        emod
 """
-
-READ = repeated(OPEN, SEEK_AND_READ, named("name", "BIG"))
 
 # Goes to the directory DIR; the first name is F0000.
 ENTER = """
@@ -254,7 +277,8 @@ def main():
         print(f"calls of the drive of a write of 4,096 bytes at the end: {calls:.2f}", flush=True)
         print(f"one byte appended: {each(program, APPEND, 1000, 5000, sectors=4096):.0f}", flush=True)
         print(f"a call of a copy by 256 bytes: {copied(program):.0f}", flush=True)
-        print(f"a seek and a read of a sector: {each(program, READ, 1, 10000, sectors=8192, big=4096):.0f}", flush=True)
+        cost = each(program, READ, 1, 4, sectors=8192, big=4096) / 4096
+        print(f"a seek and a read of a sector: {cost:.0f}", flush=True)
         for files in (400, 1000):
             print(f"each of {files} files: {created(program, files):.0f}", flush=True)
         print(f"a boot of 128 MiB: {boot(program, NOTHING, sectors=524280) / 1e6:.1f} million", flush=True)
