@@ -4,32 +4,7 @@ manuals (docs/calls.md and docs/machine.md). src/row.rt has the fields of a row.
 
 import routines
 from assemble import assemble
-
-SHOW = routines.SHOW.replace("PATH", "1")
-
-
-def program(name, source, storage=200):
-    """The module of a program that shows words."""
-    return assemble(f"        mod {name},$11,$81,{storage}\n{source}{SHOW}        emod\n")
-
-
-def row(name, modules, slices, status, shown, blocks=64):
-    """A row by its name: the words shown are the lines of four digits that are written."""
-    out = b"".join(word.encode() + b"\r\n" for word in shown.split())
-    words = f"run modules --slices slices --blocks {blocks}"
-    print("#", name)
-    print(words, modules.hex(), 0, slices.encode().hex(), "-", status, out.hex() or "-", "-", sep="\t")
-
-
-FORK = """
-        leax    <child,pcr
-        lda     #$11
-        clrb
-        os9     $03
-"""
-CHILD = """
-child   fcs     "Child"
-"""
+from guests import CHILD, FORK, program, row
 
 # A child loads A from an address in an unnamed slot: it ends with 228, which its parent is given.
 row("an unnamed slot", program("SysGo", f"""

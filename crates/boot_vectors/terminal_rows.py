@@ -194,6 +194,17 @@ def long_lines():
     guest({"SysGo": [("writln", 0, text), ("exit", 0)]}, [], 3)
 
 
+def erased_lines():
+    title("the longest line, which is erased and comes again, twice; and bytes as they are, where 1B comes first")
+    keys = [(2, "TERM", codes("78") * 200), (3, "TERM", codes("78") * 56 + codes("0D")), (5, "TERM", codes("01 01 0D")),
+            (7, "TERM", codes("1B")), (8, "TERM", codes("08 1B 01"))]
+    steps = [("readln", 0, 400), ("readln", 0, 400), ("read", 0, 3), ("read", 0, 3), ("exit", 0)]
+    out = guest({"SysGo": steps}, keys, 12)
+    line_of, erased, told = b"x" * 255, b"\x08 \x08" * 255, b"0000\r\n0100\r\n" + b"x" * 255 + b"\r"
+    first = line_of + b"\x07\r\n" + told
+    again = line_of + erased + line_of + b"\r\n" + told
+    assert out == first + again + b"01D3\r\n0003\r\n" + b"\x08\x1b\x01" + b"0000\r\n0003\r\n\x08\x1b\x01"
+
 def texts():
     """Scripts and slices that are refused, with the least line that breaks a rule."""
     steps = {"SysGo": [("writln", 0, b"hi\r"), ("exit", 0)]}
@@ -356,6 +367,34 @@ start   ldx     #$200
         os9     $8C
 {EXIT}"""}, 0, b"0000\r\n0004\r\n0000\r\n0002\r\na\r\n")
 
+    # The child, which holds the pipe too, reads nothing, and its signal ends the write: 256 bytes have moved.
+    by_hand("a write to a full pipe that a signal ends", {"SysGo": f"""
+start   leax    routine,pcr
+        ldu     #$80
+        os9     $09
+        clra
+        os9     $8F
+        leax    <pipe,pcr
+        lda     #3
+        os9     $84
+{FORK}
+        ldx     #$100
+        ldy     #300
+        clra
+        os9     $8A
+        lbsr    report
+        os9     $04
+{EXIT}
+routine clra
+        lbsr    show
+        rti
+{PIPE}{CHILD}""", "Child": f"""
+start   ldx     #2
+        os9     $0A
+        lda     #2
+        ldb     #7
+        os9     $08
+{EXIT}"""}, 0, "0007 0107 0100")
 
 def limits():
     # Paths 0 to 2 are one path; thirteen more are opened, then one is refused, and so is a further image of one.
@@ -612,6 +651,57 @@ start   ldx     #6
         os9     $06
 """}, 0, b"0003\r\nA0000\r\n0000\r\n0003\r\n0000\r\n0000\r\n", "10000*20", b"7 T1 03\n")
 
+    # The child was the last user, so 05 ends it, and 03 finds nobody. The other keys wait for a read.
+    by_hand("keys that signal the last of two users", {"SysGo": f"""
+start   leax    <one,pcr
+        ldy     #1
+        lda     #1
+        os9     $8A
+{FORK}
+        os9     $04
+        lbsr    report
+        lda     #0
+        ldb     #1
+        os9     $8D
+        lbsr    report
+{EXIT}{CHILD}
+one     fcb     $31
+""", "Child": """
+start   leax    <two,pcr
+        ldy     #1
+        lda     #1
+        os9     $8A
+        ldx     #0
+        os9     $0A
+two     fcb     $32
+"""}, 0, b"120002\r\n0000\r\n0003\r\n0000\r\n", script=b"5 TERM 61 05 62 03 63\n")
+    # Signal 7 ends the child's read, in which two keys were used; they are dropped with it.
+    by_hand("one reader of a terminal at a time", {"SysGo": f"""
+start   nop
+{FORK}
+        ldx     #5
+        os9     $0A
+        lda     #3
+        ldb     #7
+        os9     $08
+        ldx     #$200
+        ldy     #3
+        clra
+        clrb
+        os9     $89
+        lbsr    report
+        ldx     #$200
+        ldy     #3
+        lda     #1
+        os9     $8A
+        os9     $04
+        lbsr    report
+{EXIT}{CHILD}""", "Child": """
+start   ldx     #$200
+        ldy     #3
+        clra
+        os9     $89
+"""}, 0, b"abcde0000\r\n0003\r\ncde0007\r\n0003\r\n", script=b"3 TERM 61 62\n9 TERM 63 64 65\n")
 
 def shell():
     """The shell of examples/ and its programs."""
@@ -632,6 +722,7 @@ def main():
     signals()
     refusals()
     long_lines()
+    erased_lines()
     texts()
     pipes()
     limits()

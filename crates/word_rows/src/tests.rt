@@ -1,5 +1,0 @@
-mod guests;
-mod messages;
-mod sources;
-mod texts;
-mod words;

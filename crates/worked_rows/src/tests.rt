@@ -1,0 +1,10 @@
+mod guests;
+mod hosts;
+mod messages;
+mod processor;
+mod real_files;
+mod records;
+mod segments;
+mod sources;
+mod times;
+mod turns;
