@@ -1,6 +1,7 @@
 #!/usr/bin/env python3
 """Makes rows of boots whose programs load modules from files of their disk, for the stdin of this crate: a group that
-leaves memory with its last link, a program that is chained to itself, and files without modules.
+leaves memory with its last link, a program that is chained to itself, files without modules; and a path that is used
+again.
 
 What is expected is worked out by hand from docs/calls.md; worked_rows.py lays out the disks. src/row.rt has the fields
 of a row."""
@@ -16,7 +17,7 @@ WHOLE = f"""
 """
 
 
-def row(name, shown, modules, files):
+def row(name, shown, modules, files, history=()):
     """A row by its name: files with their names, from sector 16 on, which stay as they are."""
     placed = [(label, MORE + 2 * place, 7, held, [(MORE + 2 * place + 1, needed(held))] if held else [])
               for place, (label, held) in enumerate(files)]
@@ -25,8 +26,9 @@ def row(name, shown, modules, files):
     described += [file_line(f"/{label}", 7, held) for label, held in files]
     used = BOOT_SECTORS + needed(modules) + sum(1 + needed(held) for _, held in files)
     print("#", name)
-    print(f"boot d0.img --slices slices --script script --blocks {BLOCKS}", "-", 0, b"1000*30".hex(), "-", 0,
-          lines(shown).hex(), "-", disk.field(), tree(described, 64 - used), "-", "-", sep="\t")
+    words = f"boot d0.img --slices slices --script script --blocks {BLOCKS}" + (" --history history" if history else "")
+    print(words, "-", 0, b"1000*30".hex(), "-", 0, lines(shown).hex(), "-", disk.field(), tree(described, 64 - used),
+          "-", "-", *(["-", ";".join(history)] if history else []), sep="\t")
 
 
 def last_link():
@@ -143,10 +145,40 @@ start   nop
     row("files without modules are loaded", "01CD " * 6 + "E000", modules, files)
 
 
+def free_path():
+    """System path 1 is TERM. A file is opened as paths 2 and 3, the first is closed, and the next one is path 2 again:
+    the history of its read for update has that number."""
+    opened = """
+        leax    name,pcr
+        lda     #3
+        os9     $84
+        tfr     a,b
+        clra
+        lbsr    show
+"""
+    modules = program("SysGo", f"""
+start   nop
+{opened}{opened}
+        lda     #3
+        os9     $8F
+{opened}
+        lda     #3
+        ldx     #$30
+        ldy     #1
+        os9     $89
+{EXIT}
+name    fcs     "/D0/A"
+""")
+    place = f"2 2 0:{MORE:06x} 00000000 00000001"
+    row("a system path that is used again", "0003 0004 0003", modules, [("A", b"abcd")],
+        [f"G {place} 61", f"D {place} -"])
+
+
 def main():
     last_link()
     chained_to_itself()
     no_modules()
+    free_path()
 
 
 if __name__ == "__main__":
