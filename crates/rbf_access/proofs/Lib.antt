@@ -6,3 +6,4 @@ pub mod Reading
 pub mod ReadPieces
 pub mod ReadFile
 pub mod MapMarks
+pub mod RunReads

@@ -73,37 +73,38 @@ module _ (media : Option (List ℕ)) (v : DiskVolume) (on : Represents media v) 
       let all = whole_length media file.segments on_drive in
       omega (arith, ap length contents_are, length-take (length file.contents) (segment_bytes (sector_at media) file.segments))
 
-  module _ (fd : Fd) (known : IsFdOf file fd) where
-    -- the sectors that the descriptor lists are on the drive, also when the media has been read
-    pub listed_on : (now : Option (List ℕ)) → now ≡ media → AreOnDrive now (sectors_of fd.segs)
-    listed_on now same =
-        let P : List (ℕ × ℕ) → Type 0 = λ segs. AreOnDrive media (sectors_of segs) in
-        subst (λ m. AreOnDrive m (sectors_of fd.segs)) (sym same) (subst P (sym known.segments_are) on_drive)
+  -- the same for a list of these segments, also when the media has been read
+  pub segments_on_drive : (segs : List (ℕ × ℕ)) → segs ≡ file.segments → (now : Option (List ℕ)) → now ≡ media → AreOnDrive now (sectors_of segs)
+  segments_on_drive segs segs_are now same =
+      let P : List (ℕ × ℕ) → Type 0 = λ segments. AreOnDrive media (sectors_of segments) in
+      subst (λ m. AreOnDrive m (sectors_of segs)) (sym same) (subst P (sym segs_are) on_drive)
 
-    -- they have room for what is read
-    pub room_within : (buffer : List ℕ) (at count : ℕ) → count ≡ min (length buffer) (fd.size - at) → length (take count buffer) ≤ 256 * length (sectors_of fd.segs) - at
+  pub listed_on : (fd : Fd) → IsFdOf file fd → (now : Option (List ℕ)) → now ≡ media → AreOnDrive now (sectors_of fd.segs)
+  listed_on fd known now same = segments_on_drive fd.segs known.segments_are now same
+
+  module _ (size : ℕ) (size_is : size ≡ length file.contents) (segs : List (ℕ × ℕ)) (segs_are : segs ≡ file.segments) where
+    -- the sectors of the list have room for what is read
+    pub room_within : (buffer : List ℕ) (at count : ℕ) → count ≡ min (length buffer) (size - at) → length (take count buffer) ≤ 256 * length (sectors_of segs) - at
     room_within buffer at count is =
         let room = room_for in
-        let size = known.size_is in
-        let same : length (sectors_of fd.segs) ≡ length (sectors_of file.segments) = ap (λ segs. length (sectors_of segs)) known.segments_are in
+        let same : length (sectors_of segs) ≡ length (sectors_of file.segments) = ap (λ segs. length (sectors_of segs)) segs_are in
         omega (arith, length-take count buffer)
 
     -- how many bytes are read
-    pub count_is : (buffer : List ℕ) (at count : ℕ) → count ≡ min (length buffer) (fd.size - at) → count ≡ length (bytes_from file.contents at (length buffer))
+    pub count_is : (buffer : List ℕ) (at count : ℕ) → count ≡ min (length buffer) (size - at) → count ≡ length (bytes_from file.contents at (length buffer))
     count_is buffer at count is =
-        let size = known.size_is in
         omega (arith, length-take (length buffer) (drop at file.contents), length-drop at file.contents)
 
     -- and which
-    pub bytes_are : (buffer news : List ℕ) (at count : ℕ) (now : Option (List ℕ)) → now ≡ media → count ≡ min (length buffer) (fd.size - at)
-        → news ≡ bytes_from (segment_bytes (sector_at now) fd.segs) at (length (take count buffer))
+    pub bytes_are : (buffer news : List ℕ) (at count : ℕ) (now : Option (List ℕ)) → now ≡ media → count ≡ min (length buffer) (size - at)
+        → news ≡ bytes_from (segment_bytes (sector_at now) segs) at (length (take count buffer))
         → news ++ drop count buffer ≡ filled_buffer (bytes_from file.contents at (length buffer)) buffer
     bytes_are buffer news at count now same is read =
         let taken : length (take count buffer) ≡ count = omega (arith, length-take count buffer) in
-        let few : count ≡ min (length buffer) (length file.contents - at) = is ∙ ap (λ s. min (length buffer) (s - at)) known.size_is in
+        let few : count ≡ min (length buffer) (length file.contents - at) = is ∙ ap (λ s. min (length buffer) (s - at)) size_is in
         let listed : news ≡ bytes_from (segment_bytes (sector_at media) file.segments) at count =
-        read ∙ ap (λ m. bytes_from (segment_bytes (sector_at m) fd.segs) at (length (take count buffer))) same
-        ∙ ap (λ segs. bytes_from (segment_bytes (sector_at media) segs) at (length (take count buffer))) known.segments_are
+        read ∙ ap (λ m. bytes_from (segment_bytes (sector_at m) segs) at (length (take count buffer))) same
+        ∙ ap (λ segs. bytes_from (segment_bytes (sector_at media) segs) at (length (take count buffer))) segs_are
         ∙ ap (bytes_from (segment_bytes (sector_at media) file.segments) at) taken in
         let front : news ≡ bytes_from file.contents at (length buffer) =
         listed ∙ ap (bytes_from (segment_bytes (sector_at media) file.segments) at) few
@@ -112,19 +113,19 @@ module _ (media : Option (List ℕ)) (v : DiskVolume) (on : Represents media v) 
         ap (λ b. b ++ drop count buffer) front ∙ ap (λ n. bytes_from file.contents at (length buffer) ++ drop n buffer) (count_is buffer at count is)
 
     -- of how many sectors
-    pub span_read : (buffer : List ℕ) (at count : ℕ) → count ≡ min (length buffer) (fd.size - at)
+    pub span_read : (buffer : List ℕ) (at count : ℕ) → count ≡ min (length buffer) (size - at)
         → sector_span at (at + length (take count buffer)) ≡ sector_span at (min (at + length buffer) (length file.contents))
     span_read buffer at count is =
         let taken : length (take count buffer) ≡ count = omega (arith, length-take count buffer) in
-        let few : count ≡ min (length buffer) (length file.contents - at) = is ∙ ap (λ s. min (length buffer) (s - at)) known.size_is in
+        let few : count ≡ min (length buffer) (length file.contents - at) = is ∙ ap (λ s. min (length buffer) (s - at)) size_is in
         ap (λ n. sector_span at (at + n)) (taken ∙ few) ∙ same_span at (length buffer) (length file.contents)
 
     -- and how many calls that takes
-    pub calls_are : (buffer : List ℕ) (at count : ℕ) (f : Option ℕ) (s t u : DriveCounts) → count ≡ min (length buffer) (fd.size - at) → MovesCounts None 1 s t
+    pub calls_are : (buffer : List ℕ) (at count : ℕ) (f : Option ℕ) (s t u : DriveCounts) → count ≡ min (length buffer) (size - at) → MovesCounts None 1 s t
         → MovesCounts f (sector_span at (at + length (take count buffer))) t u → MovesCounts f (1 + sector_span at (min (at + length buffer) (length file.contents))) s u
     calls_are buffer at count f s t u is one other =
         let taken : length (take count buffer) ≡ count = omega (arith, length-take count buffer) in
-        let few : count ≡ min (length buffer) (length file.contents - at) = is ∙ ap (λ s. min (length buffer) (s - at)) known.size_is in
+        let few : count ≡ min (length buffer) (length file.contents - at) = is ∙ ap (λ s. min (length buffer) (s - at)) size_is in
         let span : sector_span at (at + length (take count buffer)) ≡ sector_span at (min (at + length buffer) (length file.contents)) =
         ap (λ n. sector_span at (at + n)) (taken ∙ few) ∙ same_span at (length buffer) (length file.contents) in
         counts_then f 1 (sector_span at (min (at + length buffer) (length file.contents))) s t u one (subst (λ n. MovesCounts f n t u) span other)

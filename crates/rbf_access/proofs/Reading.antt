@@ -12,7 +12,7 @@ use Rattle.rbf_change.specs.Agrees.{KeptVolume, Agrees}
 use Rattle.rbf_access.specs.declared.volume.Volume.{Volume}
 use Rattle.rbf_access.specs.Cached.{IsCacheOf}
 use Rattle.rbf_access.specs.Mounted.{kept, Represents, IsMounted, HasFile}
-use Rattle.rbf_access.specs.Reading.{IsFdOf, OnFile}
+use Rattle.rbf_access.specs.Reading.{IsFdOf, OnFile, list_at}
 
 -- a number below a volume's total is a sector of the drive
 pub below_total : (media : Option (List ℕ)) (v : DiskVolume) (on : Represents media v) (s : ℕ) → s < (image_geometry on.image).total → s < sector_count media
@@ -70,6 +70,11 @@ pub size_of : (media : Option (List ℕ)) (n : ℕ) (bytes : List ℕ) (size : �
 size_of media n bytes size are read v file on is =
     let there : bytes ≡ sector on.image n = are ∙ ap (λ m. sector_at m n) on.is in
     read ∙ ap size_field there ∙ sym (length_of_file (image_geometry on.image) (sector on.image) v on.vol.sound n file is)
+
+-- the segments of a file are those in its descriptor, also when the media has been read
+pub segments_on : (media now : Option (List ℕ)) (n : ℕ) → now ≡ media → OnFile media n (λ file. list_at now n ≡ file.segments)
+segments_on media now n same v file on is =
+    ap (λ m. list_at m n) (same ∙ on.is) ∙ sym (ap (λ (f : DiskFile). f.segments) (on.vol.sound.shows.shown n file is))
 
 pub fd_of : (media : Option (List ℕ)) (n : ℕ) (bytes : List ℕ) (fd : Fd) → bytes ≡ sector_at media n → IsReadFrom bytes fd → OnFile media n (λ file. IsFdOf file fd)
 fd_of media n bytes fd are read v file on is =

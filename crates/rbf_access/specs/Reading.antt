@@ -1,13 +1,15 @@
 -- Reads of a file.
-use Rattle.std.specs.Prelude.{◌≡◌, true, ℕ, ◌+◌, ◌-◌, ◌*◌, ◌/◌, ◌^◌, ◌<◌, ◌≤◌, Option, Some, List, ◌++◌, length, min, drop, Result, OnOk}
-use Rattle.os9_outer.specs.Drive.{sector_count as drive_sectors}
+use Rattle.std.specs.Prelude.{◌≡◌, true, ℕ, ◌+◌, ◌-◌, ◌*◌, ◌/◌, ◌^◌, ◌<◌, ◌≤◌, Option, Some, List, [], ◌∷◌, ◌++◌, length, min, drop, Result, OnOk}
+use Rattle.os9_outer.specs.Drive.{sector_count as drive_sectors, sector_at}
+use Rattle.rbf_model.specs.Fields.{segments_field}
 use Rattle.rbf_model.specs.Segments.{has, sectors_of}
-use Rattle.rbf_model.specs.File.{DiskFile}
+use Rattle.rbf_model.specs.File.{DiskFile, segment_bytes}
 use Rattle.rbf_model.specs.Volume.{DiskVolume}
 use Rattle.rbf_sector.specs.declared.fd.Fd.{Fd}
+use Rattle.rbf_sector.specs.declared.run.Run.{Run}
 use Rattle.rbf_change.specs.Contents.{bytes_from, sector_span}
 use Rattle.sector_cache.specs.declared.sector.Sector.{Sector}
-use Rattle.rbf_access.specs.Cached.{AreHeld, IsHeld}
+use Rattle.rbf_access.specs.Cached.{AreHeld, IsCacheOf, IsHeld}
 use Rattle.rbf_access.specs.Mounted.{Represents}
 
 -- the fields of a descriptor are those of a file
@@ -54,6 +56,27 @@ pub record HaveBytes (media : Option (List ℕ)) (segments : List (ℕ × ℕ)) 
   pub on_drive : AreOnDrive media (sectors_of segments)
   pub within : count ≤ 256 * length (sectors_of segments) - at
   pub fits : at + count < 2 ^ 32
+
+-- the segment list of the descriptor in this sector of the media
+abbrev pub list_at : Option (List ℕ) → ℕ → List (ℕ × ℕ)
+list_at media fd = segments_field (sector_at media fd)
+
+-- the segment list that has a run alone
+abbrev pub run_list : Run → List (ℕ × ℕ)
+run_list run = (run.lsn, run.count) ∷ []
+
+-- the bytes of the sectors of a list from place `at` on that fill a buffer
+abbrev pub bytes_for : Option (List ℕ) → List (ℕ × ℕ) → ℕ → List ℕ → List ℕ
+bytes_for media segments at buffer = bytes_from (segment_bytes (sector_at media) segments) at (length buffer)
+
+-- the number of sectors that have these bytes
+abbrev pub span_for : ℕ → List ℕ → ℕ
+span_for at buffer = sector_span at (at + length buffer)
+
+-- the sectors in a cache are the media's, and this sector is one of them
+pub record IsCacheWith (media : Option (List ℕ)) (held : List Sector) (lsn : ℕ) : Type 0 where
+  pub cached : IsCacheOf media held
+  pub here : IsHeld held lsn
 
 -- all sectors of a read are cached: the descriptor, and those of which it reads a byte
 pub record AreCached (held : List Sector) (fd : ℕ) (file : DiskFile) (at room : ℕ) : Type 0 where

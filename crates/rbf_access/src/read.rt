@@ -1,7 +1,9 @@
-ghost use Rattle.std.specs.Prelude.{◌≡◌, ◌+◌, ◌-◌, ◌*◌, ◌/◌, ◌^◌, ◌<◌, ◌++◌, ℕ, List, IfOk, IsSome, OnOk, OnErr, drop, length, max, min, take};
+ghost use Rattle.std.specs.Prelude.{◌≡◌, ◌+◌, ◌-◌, ◌*◌, ◌/◌, ◌%◌, ◌^◌, ◌<◌, ◌≤◌, ◌++◌, ℕ, List, IfOk, IfSome, IsSome, OnOk, OnErr, drop, length, max, min, take};
 ghost use Rattle.os9_outer.specs.Drive.{sector_at};
+ghost use Rattle.rbf_model.specs.Fields.{segments_field};
 ghost use Rattle.rbf_model.specs.File.{segment_bytes};
 ghost use Rattle.rbf_model.specs.Volume.{DiskVolume, Vol};
+ghost use Rattle.rbf_sector.specs.Run.{IsRunAt};
 ghost use Rattle.rbf_map.specs.Map.{map_free_clusters};
 ghost use Rattle.rbf_change.specs.Calls.{free_total, shape};
 ghost use Rattle.rbf_change.specs.Agrees.{Agrees};
@@ -10,12 +12,12 @@ ghost use Rattle.rbf_access.specs.Cached.{IsCacheOf, IsHeld, IsUsed, StayHeld, U
 ghost use Rattle.rbf_access.specs.Drive.{Counts};
 ghost use Rattle.rbf_access.specs.Faults.{file_fault};
 ghost use Rattle.rbf_access.specs.Mounted.{kept, HasFile, IsMounted, Represents};
-ghost use Rattle.rbf_access.specs.Reading.{HaveBytes, IsFdOf, IsRead, OnFile, UsesCache, read_calls};
+ghost use Rattle.rbf_access.specs.Reading.{HaveBytes, IsCacheWith, IsFdOf, IsRead, OnFile, UsesCache, bytes_for, list_at, read_calls, run_list, span_for};
 
 use crate::faults::FileFault;
 use crate::volume::Volume;
 use os9_outer::drive::BlockDriver;
-use rbf_sector::{Fd, read_fd, read_size};
+use rbf_sector::{Fd, Run, read_fd, read_segs, read_size, run_at};
 use rbf_segs::Segs;
 
 impl Volume {
@@ -112,10 +114,72 @@ impl Volume {
             (file_fault result) (read_calls file at (length into.old)) d.old d.new) }
     {
         self.bring(d, fd)?;
-        let file = read_fd(self.sector(fd));
-        let count = readable(file.size, at, into.len());
-        self.read_bytes(d, &file.segs, at, &mut into[..count])?;
+        let count = readable(read_size(self.sector(fd)), at, into.len());
+        self.read_contents(d, fd, at, &mut into[..count])?;
         Ok(count as u32)
+    }
+
+    // Reads the bytes from `at` on of the sectors that a descriptor in the cache lists.
+    fn read_contents(
+        &mut self,
+        d: &mut dyn BlockDriver,
+        fd: u32,
+        at: u32,
+        into: &mut [u8],
+    ) -> Result<(), FileFault>
+        requires cached { IsCacheWith (media d.old) self.old.cache fd }
+        requires bytes { HaveBytes (media d.old) (list_at (media d.old) fd) at (length into.old) }
+        ensures bytes { OnOk result
+            (into.new ≡ bytes_for (media d.old) (list_at (media d.old) fd) at into.old) }
+        ensures device { OnErr result (IsSome (file_fault result)) }
+        ensures media_kept { media d.new ≡ media d.old }
+        ensures volume_kept { kept self.new ≡ kept self.old }
+        ensures cached { IsCacheOf (media d.new) self.new.cache }
+        ensures cache { UsesSectors (list_at (media d.old) fd) (at / 256) (span_for at into.old)
+            result self.old.cache self.new.cache (drive_calls d.old) (drive_calls d.new) }
+        ensures counts { Counts BlockDriver-dyn
+            (file_fault result) (span_for at into.old) d.old d.new }
+    {
+        match run_with(self.sector(fd), at, into.len()) {
+            Some(run) => self.read_run(d, &run, at % 256, into),
+            None => {
+                let segs = read_segs(self.sector(fd));
+                self.read_bytes(d, &segs, at, into)
+            }
+        }
+    }
+
+    // Reads the bytes of a run's sectors from `at` on, up to the room of `into`.
+    fn read_run(
+        &mut self,
+        d: &mut dyn BlockDriver,
+        run: &Run,
+        at: u32,
+        into: &mut [u8],
+    ) -> Result<(), FileFault>
+        requires cached { IsCacheOf (media d.old) self.old.cache }
+        requires bytes { HaveBytes (media d.old) (run_list run.now) at (length into.old) }
+        ensures bytes { OnOk result
+            (into.new ≡ bytes_for (media d.old) (run_list run.now) at into.old) }
+        ensures device { OnErr result (IsSome (file_fault result)) }
+        ensures media_kept { media d.new ≡ media d.old }
+        ensures volume_kept { kept self.new ≡ kept self.old }
+        ensures cached { IsCacheOf (media d.new) self.new.cache }
+        ensures cache { UsesSectors (run_list run.now) (at / 256) (span_for at into.old)
+            result self.old.cache self.new.cache (drive_calls d.old) (drive_calls d.new) }
+        ensures counts { Counts BlockDriver-dyn
+            (file_fault result) (span_for at into.old) d.old d.new }
+    {
+        if into.is_empty() {
+            return Ok(());
+        }
+        let end = (at as usize + into.len()).div_ceil(256) as u32;
+        for place in at / 256..end {
+            let lsn = run.lsn + place;
+            self.bring(d, lsn)?;
+            copy_piece(self.sector(lsn), 256 * place as usize, at as usize, into);
+        }
+        Ok(())
     }
 
     // Reads the bytes of a file's sectors from `at` on, up to the room of `into`.
@@ -157,6 +221,20 @@ fn readable(size: u32, at: u32, room: usize) -> usize
     ensures { result ≡ min room (size - at) }
 {
     room.min(size.saturating_sub(at) as usize)
+}
+
+// The run from the sector with the byte at `at` on, if it has `count` bytes from there.
+fn run_with(descriptor: &[u8; 256], at: u32, count: usize) -> Option<Run>
+    requires { at + count < 2 ^ 32 }
+    ensures run { IfSome result (IsRunAt (segments_field descriptor.now) (at / 256)) }
+    ensures within { IfSome result (λ run. at % 256 + count ≤ 256 * run.count) }
+{
+    let run = run_at(descriptor, at / 256)?;
+    if at as usize % 256 + count <= 256 * run.count as usize {
+        Some(run)
+    } else {
+        None
+    }
 }
 
 // Copies the bytes of the file from `at` on that are in the sector at byte `first` of the file.

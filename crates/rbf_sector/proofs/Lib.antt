@@ -1,3 +1,4 @@
 pub mod Pairs
 pub mod SegmentList
 pub mod Written
+pub mod RunAt

@@ -113,8 +113,8 @@ fn put_pair(b: &mut [u8; 256], i: usize, lsn: u32, count: u16)
     put_u16(b, at + 3, count);
 }
 
-// The segment list of a file descriptor.
-fn read_segs(b: &[u8; 256]) -> Segs
+/// The segment list of a file descriptor; it ends before the first count of 0.
+pub fn read_segs(b: &[u8; 256]) -> Segs
     ensures { result ≡ segments_field b.now }
 {
     let mut segs = Segs::empty();
