@@ -1,5 +1,5 @@
 -- The library's calendar and ours count the same days.
-use Rattle.std.proofs.Common.{◌≡◌, ◌≤◌, ◌<◌, ℕ, zero, suc, ◌+◌, ◌-◌, ◌*◌, ◌&&◌, true, false, nat_le, ℤ, pos, negsuc, neg_ℤ, ◌+ℤ◌, ◌-ℤ◌, ◌*ℤ◌, ◌≤ℤ◌, unsigned_abs, refl, ap, subst, ◌∙◌, ◌^◌, arith, inl, if◌then◌else◌}
+use Rattle.std.proofs.Common.{◌≡◌, ◌≤◌, ◌<◌, ℕ, zero, suc, ◌+◌, ◌-◌, ◌*◌, ◌%◌, ◌&&◌, true, false, nat_le, ℤ, pos, negsuc, neg_ℤ, ◌+ℤ◌, ◌-ℤ◌, ◌*ℤ◌, ◌≤ℤ◌, unsigned_abs, refl, ap, subst, ◌∙◌, ◌^◌, arith, inl, if◌then◌else◌}
 use Rattle.std.proofs.lemmas.Bool.{and_parts, and_from, le-leb, leb-true}
 use Rattle.jiff_core.specs.declared.civil.datetime.DateTime.{DateTime}
 use Rattle.jiff_core.specs.Calendar.{IsDate, day_count, days_in_month, days_of_months as jiff_days_of_months}
@@ -206,4 +206,17 @@ after-is t seconds a b packet date time later given =
       civil = civil_of-is b from_b;
       later = seconds-between a b seconds from_a from_b whole later ∙ ap (λ c. second_number c + seconds) (civil_of-packet t a date time);
       given = given;
+    }
+
+-- the packet of the time that a packet gives is that packet
+pub same_packet : (t : TimePacket) → t.year ≤ 255 → t ≡ time_packet (packet_time t)
+same_packet t fits =
+    let year : t.year ≡ t.year % 256 = omega arith in
+    λ i. record {
+      year = year i;
+      month = t.month;
+      day = t.day;
+      hour = t.hour;
+      minute = t.minute;
+      second = t.second;
     }

@@ -1,5 +1,5 @@
-ghost use Rattle.std.specs.Prelude.{◌≡◌, ◌<◌, ◌+◌, ◌%◌, true, pos, ◌≤ℤ◌};
-ghost use Rattle.civil_time.specs.CivilTime.{is_time_packet, IsAfter, month_days as month_days_lem, is_leap as is_leap_lem, time_packet};
+ghost use Rattle.std.specs.Prelude.{◌≡◌, ◌<◌, ◌+◌, ◌*◌, ◌%◌, true, pos, ◌≤ℤ◌};
+ghost use Rattle.civil_time.specs.CivilTime.{day_number, is_time_packet, IsAfter, month_days as month_days_lem, is_leap as is_leap_lem, packet_time, second_number, time_packet};
 ghost use Rattle.os9_clock.specs.JiffTime.{civil_of};
 ghost use Rattle.jiff.specs.Words.{IsYmd, IsHms};
 
@@ -9,6 +9,9 @@ use os9_base::registers::TimePacket;
 
 /// The year from which packets count.
 const FIRST_YEAR: i16 = 1900;
+
+/// The seconds of a day.
+const SECONDS_PER_DAY: u64 = 86_400;
 
 /// Is the packet a civil date and time of a year from 1900 to 2155?
 pub fn is_time(t: TimePacket) -> bool
@@ -26,6 +29,41 @@ pub fn is_time(t: TimePacket) -> bool
 /// The packet of the civil time `seconds` seconds after another packet's (System Programmer's
 /// Manual, F$Time). Its year counts from 1900 and wraps around after 2155 (this project's own).
 pub fn time_at(base: TimePacket, seconds: u32) -> TimePacket
+    requires { is_time_packet base ≡ true }
+    ensures { IsAfter base seconds result }
+{
+    let second = second_of_day(base) + u64::from(seconds);
+    if second < SECONDS_PER_DAY {
+        return on_day(base, second);
+    }
+    on_later_day(base, seconds)
+}
+
+// The number of seconds from the beginning of its day to a packet's time.
+fn second_of_day(t: TimePacket) -> u64
+    ensures { result ≡ t.hour * 3600 + t.minute * 60 + t.second }
+{
+    3600 * u64::from(t.hour) + 60 * u64::from(t.minute) + u64::from(t.second)
+}
+
+// The packet of this second of the day of another packet.
+fn on_day(base: TimePacket, second: u64) -> TimePacket
+    requires civil { is_time_packet base ≡ true }
+    requires within { second < 86400 }
+    ensures civil { is_time_packet result ≡ true }
+    ensures second { second_number (packet_time result)
+        ≡ day_number (packet_time base) * 86400 + second }
+{
+    TimePacket {
+        hour: (second / 3600) as u8,
+        minute: (second / 60 % 60) as u8,
+        second: (second % 60) as u8,
+        ..base
+    }
+}
+
+// `time_at` for a time of a later day.
+fn on_later_day(base: TimePacket, seconds: u32) -> TimePacket
     requires { is_time_packet base ≡ true }
     ensures { IsAfter base seconds result }
 {
