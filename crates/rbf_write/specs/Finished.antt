@@ -33,3 +33,8 @@ pub record MayFinish (media : Option (List ℕ)) (loaded : Loaded) (segments : L
   pub list : segments_field loaded.descriptor ≡ loaded.file.segs
   pub same : length (sectors_of segments) ≡ length (sectors_of loaded.file.segs) → segments ≡ loaded.file.segs
   pub sound : (after : Option (List ℕ)) → written after → IsSound after
+
+-- the same with the segments of the file; the descriptor has the fields that were read
+pub record MayResize (media : Option (List ℕ)) (loaded : Loaded) (written : Option (List ℕ) → Type 0) : Type 0 where
+  pub may : MayFinish media loaded loaded.file.segs written
+  pub fields : HasFields loaded.file loaded.descriptor

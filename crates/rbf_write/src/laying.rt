@@ -10,6 +10,7 @@ ghost use Rattle.rbf_write.specs.Outcomes.{IsRefusal, OnMarked, laying_calls};
 
 use crate::clusters::clusters_for;
 use crate::loaded::Loaded;
+use crate::resized::resize;
 use crate::{fill, minute, with_descriptor};
 use os9_base::registers::TimePacket;
 use os9_outer::drive::BlockDriver;
@@ -53,7 +54,7 @@ pub fn lay_over(
         return lay_longer(volume, d, loaded, count, at, from, now);
     }
     fill(volume, d, &loaded.file.segs, loaded.file.size, at, from)?;
-    finish(volume, d, loaded, &loaded.file.segs, end as u32, now)?;
+    resize(volume, d, loaded, end as u32, now)?;
     Ok(())
 }
 

@@ -15,6 +15,7 @@ mod descriptor;
 mod kept;
 mod laying;
 mod loaded;
+mod resized;
 mod sector;
 mod shorter;
 mod size;

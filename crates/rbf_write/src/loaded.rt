@@ -1,5 +1,5 @@
-ghost use Rattle.std.specs.Prelude.{◌≡◌, IfOk, OnErr, IsSome};
-ghost use Rattle.rbf_access.specs.Cached.{IsCacheOf};
+ghost use Rattle.std.specs.Prelude.{◌≡◌, ℕ, List, Option, IfOk, OnErr, IsSome};
+ghost use Rattle.rbf_access.specs.Cached.{IsCacheOf, IsHeld};
 ghost use Rattle.rbf_access.specs.Drive.{Counts};
 ghost use Rattle.rbf_access.specs.Faults.{file_fault};
 ghost use Rattle.rbf_access.specs.Mounted.{HasFile, kept};
@@ -33,10 +33,20 @@ pub fn load_file(volume: &mut Volume, d: &mut dyn BlockDriver, fd: u32) -> Resul
     ensures counts { Counts BlockDriver-dyn (file_fault result) 1 d.old d.new }
 {
     volume.bring(d, fd)?;
+    Ok(held_file(volume, fd))
+}
+
+// The file of a descriptor that is in the cache. It is built where it is used, not copied there.
+#[inline(always)]
+pub fn held_file(volume: &Volume, fd: u32) -> Loaded
+    requires { IsHeld volume.now.cache fd }
+    ensures { (media : Option (List ℕ)) → IsCacheOf media volume.now.cache
+        → IsLoaded media fd result }
+{
     let bytes = volume.sector(fd);
-    Ok(Loaded {
+    Loaded {
         number: fd,
         descriptor: *bytes,
         file: read_fd(bytes),
-    })
+    }
 }

@@ -6,7 +6,7 @@ ghost use Rattle.rbf_write.specs.Files.{HasDataFile, OnVolumeFile};
 ghost use Rattle.rbf_write.specs.Outcomes.{AnswersWrite, IsRefusal, OnMarked, write_calls};
 
 use crate::laying::lay_over;
-use crate::loaded::load_file;
+use crate::loaded::held_file;
 use os9_base::registers::TimePacket;
 use os9_outer::drive::BlockDriver;
 use rbf_access::{FileFault, Volume};
@@ -45,7 +45,8 @@ pub fn write_at(
     if from.is_empty() {
         return Ok(());
     }
-    let loaded = load_file(volume, d, fd)?;
+    volume.bring(d, fd)?;
+    let loaded = held_file(volume, fd);
     lay_over(volume, d, &loaded, at, from, now)?;
     Ok(())
 }
