@@ -1,5 +1,5 @@
 -- What a process waits for since an attempt of its call.
-use Rattle.std.proofs.Common.{◌≡◌, ◌∙◌, ℕ, ◌<◌, Bool, true, false, Option, Some, None, is_some, length, refl, sym, ap, inl, inr}
+use Rattle.std.proofs.Common.{◌≡◌, ◌∙◌, ℕ, ◌<◌, Bool, true, false, Option, Some, None, is_some, length, refl, sym, ap, subst, inl, inr}
 use Rattle.std.specs.Prelude.{IfSome}
 use Rattle.std.proofs.lemmas.Bool.{cases_lt, false≢true}
 use Rattle.std.proofs.lemmas.List.{get_or-set_same, get_or_past}
@@ -68,3 +68,9 @@ records-kept m p effect processes came = by effect.end came
     by (answers regs) came = let e : Wait ≡ Done = came.0 in cc
     by (fails number) came = let e : Wait ≡ Error number = came.0 in cc
     by (keeps kept) came = sym (ap (λ (m : Inner). m.records) came.1.is)
+
+-- what is told is what is waited for
+pub told-so : (wait : Option Waiting) (told : Waiting) → IfSome wait (λ wait. told ≡ wait) → (Told : Waiting → Type 0)
+    → Told told → IfSome wait Told
+told-so None told is Told so = tt
+told-so (Some wait) told is Told so = subst Told is so

@@ -1,6 +1,6 @@
 //! Who is Ready: whom a choice looks at.
 
-ghost use Rattle.std.specs.Prelude.{◌≡◌, ◌<◌, ◌^◌, ℕ, true, option_and_then, slice_index_or};
+ghost use Rattle.std.specs.Prelude.{◌≡◌, ◌<◌, ◌^◌, ℕ, true, IfNone, IfSome, option_and_then, slice_index_or};
 ghost use Rattle.call_rules.specs.Inner.{no_own};
 ghost use Rattle.call_rules.specs.IoReady.{has_io};
 ghost use Rattle.file_rules.specs.Locking.{files_may_go};
@@ -40,7 +40,8 @@ impl Kernel {
     }
 
     /// Whose waiting calls on paths may go on in this tick. Only those are asked whom the attempts
-    /// since the last look concern, unless this tick ends a wait for a record.
+    /// since the last look concern, unless this tick ends a wait for a record. If nobody waits,
+    /// everyone is marked, so that no attempt looks up whom it concerns.
     fn asked(&self) -> Known
         ensures may_go { IsKnown self.now → (p : ℕ) → p < 33
             → has_io result.ready p ≡ may_go_in self.now.files (ticks self.now) p }
@@ -50,16 +51,18 @@ impl Kernel {
     {
         let mut ready = IoReady::none();
         let mut until = u32::MAX;
+        let mut marks = Marks::Everyone;
         for number in 0..PROCESS_PLACES {
             let p = Pid(number);
             let wait = self.files.waits_for(p);
             ready = with(ready, p, self.goes(p, wait));
             until = until.min(later(self.processes.tick, until_of(wait)));
+            marks = marks_beside(marks, wait);
         }
         Known {
             ready,
             until,
-            marks: Marks::Nobody,
+            marks,
         }
     }
 
@@ -109,6 +112,17 @@ impl Kernel {
             least = least.min(later(self.processes.tick, end));
         }
         least
+    }
+}
+
+/// The marks of a look, after a process that waits for this: nobody's, as soon as one waits.
+fn marks_beside(marks: Marks, wait: Option<Wait>) -> Marks
+    ensures none { IfNone wait (result ≡ marks) }
+    ensures some { IfSome wait (λ wait. result ≡ Marks.Nobody) }
+{
+    match wait {
+        None => marks,
+        Some(_) => Marks::Nobody,
     }
 }
 

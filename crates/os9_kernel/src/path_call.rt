@@ -1,6 +1,6 @@
 //! Attempts of calls on paths, files and directories.
 
-ghost use Rattle.std.specs.Prelude.{◌≡◌, ◌<◌, true, IfSome, vec_len};
+ghost use Rattle.std.specs.Prelude.{◌≡◌, ◌<◌, ℕ, true, Some, IfSome, vec_len};
 ghost use Rattle.proc_calls.specs.Telling.{LivesOn, WaitsFor};
 ghost use Rattle.proc_state.specs.Tie.{Comes, Represents};
 ghost use Rattle.call_rules.specs.Attempts.{after_attempt, attempt_end};
@@ -15,10 +15,11 @@ ghost use Rattle.io_model.specs.Path.{ArePaths};
 ghost use Rattle.os9_base.specs.declared.registers.TimePacket.{TimePacket as TimePacketModel};
 ghost use Rattle.os9_kernel.specs.Calls.{HasEvent};
 ghost use Rattle.os9_kernel.specs.Causes.{awaited};
-ghost use Rattle.os9_kernel.specs.Marks.{named_cause};
+ghost use Rattle.os9_kernel.specs.Marks.{Concerns, named_cause};
 ghost use Rattle.os9_kernel.specs.Next.{DoesNext};
 ghost use Rattle.os9_kernel.specs.Outside.{OnDevices, outside};
 ghost use Rattle.os9_kernel.specs.Tie.{Stands, executed, pending};
+ghost use Rattle.os9_sched.specs.declared.member.Cause.{Cause as CauseModel};
 ghost use Rattle.proc_rules.specs.Records.{IsLiving};
 ghost use Rattle.time_rules.specs.Clock.{IsClock, IsNow};
 ghost use Rattle.file_laws.specs.Devices.{number_in as number_in_lem};
@@ -27,6 +28,7 @@ ghost use Rattle.wake_laws.specs.Touches.{cause_on as cause_on_lem};
 use crate::act::Act;
 use crate::calls::event_end;
 use crate::kernel::Kernel;
+use crate::marks::Marks;
 use device_table::devices::Devices;
 use event_rules::ends::EventEnd;
 use file_dispatch::calls::{attempt, sets_date};
@@ -70,14 +72,36 @@ impl Kernel {
         ensures terminals { vec_len devices.new.terms ≡ vec_len devices.old.terms }
         ensures drives { vec_len devices.new.drives ≡ vec_len devices.old.drives }
     {
-        let cause = self.cause_named(p, call);
+        self.known.marks = self.marks_with(p, call);
         let time = self.time_for(call);
         let end = attempt(&mut self.processes, &mut self.files, p, call, time, devices);
         forget_request(&mut self.files.records, p, end);
         self.tell_end(p, end);
         self.looked_until = 0;
-        self.known.marks = self.known.marks.add(p, cause);
         event_end(end)
+    }
+
+    /// The marks, and whom an attempt of this call of a process concerns. The path of the call is
+    /// looked up only if not everyone is marked.
+    fn marks_with(&self, p: Pid, call: PathCall) -> Marks
+        requires { IsLiving self.now.processes.table p.0 }
+        ensures kept { (q : ℕ) (cause : CauseModel) → Concerns self.now.known.marks q cause
+            → Concerns result q cause }
+        ensures own { (cause : CauseModel) → Concerns result p.0 cause }
+        ensures waiters { (m : Inner) (now : TimePacketModel) (q : ℕ) (cause : CauseModel)
+            → Represents self.now.processes m
+            → named_cause self.now.files.io p.0 (number_in_lem call (asker_of m p.0 now)) ≡ Some cause
+            → Concerns result q cause }
+        ensures paths { ArePaths self.now.files.io.paths }
+    {
+        // Each path that a number names is there.
+        prove!(self.files.io.kept(p).is_none() || self.files.io.kept(p).is_some());
+        match self.known.marks {
+            Marks::Everyone => Marks::Everyone,
+            Marks::Nobody | Marks::Waiters { .. } => {
+                self.known.marks.add(p, self.cause_named(p, call))
+            }
+        }
     }
 
     /// What calls wait for on the path that a call of a process names by its number.
@@ -85,10 +109,7 @@ impl Kernel {
         requires { IsLiving self.now.processes.table p.0 }
         ensures is { (m : Inner) (now : TimePacketModel) → Represents self.now.processes m
             → result ≡ named_cause self.now.files.io p.0 (number_in_lem call (asker_of m p.0 now)) }
-        ensures paths { ArePaths self.now.files.io.paths }
     {
-        // Each path that a number names is there.
-        prove!(self.files.io.kept(p).is_none() || self.files.io.kept(p).is_some());
         let number = number_in(call, self.processes.regs(p));
         let (_, desc) = self.files.io.open_path(p, number)?;
         cause_on(desc.target)
@@ -123,8 +144,19 @@ impl Kernel {
         ensures chosen { self.new.chosen ≡ self.old.chosen }
         ensures executed { executed self.new ≡ executed self.old }
     {
-        let wait = self.files.waits_for(p).unwrap_or(NO_WAIT);
+        let wait = self.wait_at(p, end);
         tell(&mut self.processes, p, end, wait);
+    }
+
+    /// What a process waits for, if its call ended so that it waits.
+    fn wait_at(&self, p: Pid, end: CallEnd) -> Wait
+        requires { p.0 < 33 }
+        ensures { end ≡ CallEnd.Wait → IfSome (awaited self.now.files p.0) (λ wait. result ≡ wait) }
+    {
+        match end {
+            CallEnd::Wait => self.files.waits_for(p).unwrap_or(NO_WAIT),
+            CallEnd::Done | CallEnd::Error(_) | CallEnd::Ended | CallEnd::NoMemory => NO_WAIT,
+        }
     }
 }
 

@@ -6,6 +6,7 @@ use Rattle.os9_base.specs.declared.call.CallEnd.{CallEnd}
 use Rattle.os9_base.specs.declared.call.CallEnd.TheVariants.{NoMemory, Wait}
 use Rattle.os9_outer.specs.TerminalState.{TerminalState}
 use Rattle.os9_sched.specs.Members.{member_of, wait_at}
+use Rattle.os9_sched.specs.declared.member.Cause.{Cause}
 use Rattle.call_rules.specs.Attempts.{after_attempt}
 use Rattle.call_rules.specs.CallResult.{CallResult}
 use Rattle.call_rules.specs.Inner.{Inner, no_own}
@@ -91,8 +92,7 @@ returns-clause-event g c =
     c.tell_end.ensures.files ∙ ap (λ (records : Records). let files : FileState = record c.attempt-end.new.files { records = records } in files) c.forget_request.ensures in
     let (s0, tied0) = c.requires.stands in
     let (time, is_time) = time-shown old before s0 tied0 in
-    let fits = time-for old.clock old.processes.tick c.args.call made time c.time_for-time.ensures is_time in
-    let marked : Kernel → Kernel = (λ kernel. record kernel { known = record kernel.known { marks = c.add-self.result } }) in record {
+    let fits = time-for old.clock old.processes.tick c.args.call made time c.time_for-time.ensures is_time in record {
       step = λ ran s tied.
           let it = ((c.attempt-end.ensures.call time fits s.inner s.files tied.inner tied.files tied.run.locked.state.running.kinds).attempted (other ran)).attempts in
           let (there, same) = c.tell_end.ensures.told s.inner it.result it.comes in
@@ -107,17 +107,19 @@ returns-clause-event g c =
           ∙ ap (λ (m : Inner). m.tick) tied.inner.is in
           let lives : IsLiving t.inner.records p.0 = subst (λ (m : Inner). IsLiving m.records p.0) (sym there.is)
           (path-lives c.attempt-end.result c.args.call s.inner s.files time p.0 it.result it.left s.terms after.terms attempt same new.processes.table c.tell_end.ensures.lives) in
-          let known-then : Event s c.event_end.result t → IsKnown (marked new) = (λ event.
+          let marked : (q : ℕ) (cause : Cause) → Concerns c.marks_with-self.result q cause → Concerns new.known.marks q cause =
+          (λ q cause. subst (λ (known : Known). Concerns known.marks q cause) (sym c.tell_end.ensures.known)) in
+          let known-then : Event s c.event_end.result t → IsKnown new = (λ event.
           known-after s t c.event_end.result p.0 c.args.code c.args.call tied.run event (chosen-is old p act next before s tied)
-          (acts-so old p act next before s tied) c.requires.serves lives old (marked new) tied.files.io tied.files.records stands.io stands.records
-          (subst (λ (io : Io). ArePaths io.paths) (sym tied.files.io) c.cause_named-cause.ensures.paths)
+          (acts-so old p act next before s tied) c.requires.serves lives old new tied.files.io tied.files.records stands.io stands.records
+          (subst (λ (io : Io). ArePaths io.paths) (sym tied.files.io) c.marks_with-self.ensures.paths)
           (ap (λ (known : Known). known.ready) c.tell_end.ensures.known) (ap (λ (known : Known). known.until) c.tell_end.ensures.known) ticks_kept
-          (λ q cause concerned. c.add-self.ensures.kept q cause (subst (λ (known : Known). Concerns known.marks q cause) (sym c.tell_end.ensures.known) concerned))
-          c.add-self.ensures.own
-          (λ q cause now named. c.add-self.ensures.waiters q cause (c.cause_named-cause.ensures.is s.inner now tied.inner
-          ∙ ap (λ (io : Io). named_cause io p.0 (number_in c.args.call (asker_of s.inner p.0 now))) (sym tied.files.io) ∙ named))
+          (λ q cause concerned. marked q cause (c.marks_with-self.ensures.kept q cause concerned))
+          (λ cause. marked p.0 cause (c.marks_with-self.ensures.own cause))
+          (λ q cause now named. marked q cause (c.marks_with-self.ensures.waiters s.inner now q cause tied.inner
+          (ap (λ (io : Io). named_cause io p.0 (number_in c.args.call (asker_of s.inner p.0 now))) (sym tied.files.io) ∙ named)))
           tied.known) in
-          event-then old p act next before s tied (marked new) after _ (after_attempt s.inner p.0 it.result) it.left s.clock
+          event-then old p act next before s tied new after _ (after_attempt s.inner p.0 it.result) it.left s.clock
           after.terms c.tell_end.ensures.chosen there stands (clock-is old p act next before s tied ∙ sym
           c.tell_end.ensures.clock) refl
           (λ event. known-then event) (
