@@ -72,7 +72,7 @@ IsSchedule-last order left more members t is_left is has s = rw (is, is_left) (r
 })
 
 -- there are at most 33 turns
-length-order : (order : List Turn) (members : List (Option Member)) → IsSchedule (record { order = order; members = members }) → length order ≤ 33
+pub length-order : (order : List Turn) (members : List (Option Member)) → IsSchedule (record { order = order; members = members }) → length order ≤ 33
 length-order order members s =
     length-turns 33 order s.once (λ p h. grind (arith, s.same p, s.places, get_or_past members p None))
 

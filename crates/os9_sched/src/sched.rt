@@ -1,4 +1,4 @@
-ghost use Rattle.std.specs.Prelude.{◌≡◌, ◌<◌, ◌≤◌, ◌++◌, ◌∷◌, [], None, Some, IfOk, IfSome, IfNone, replicate, slice_set, vec_len};
+ghost use Rattle.std.specs.Prelude.{◌≡◌, ◌<◌, ◌≤◌, ◌++◌, ◌∷◌, [], None, Some, IfOk, IfSome, IfNone, length, replicate, slice_set, vec_len};
 ghost use Rattle.std.specs.Vec.{vec_capacity};
 ghost use Rattle.proc_rules.specs.Records.{IsProcess};
 ghost use Rattle.proc_rules.specs.Turns.{age_in as age_in_lem, without_turn};
@@ -96,6 +96,14 @@ impl Sched {
         ensures shape { IsSchedule self.now }
     {
         age_in(&self.order, p).unwrap()
+    }
+
+    /// The number of processes in it.
+    pub fn count(&self) -> u8
+        ensures count { result ≡ length self.now.order }
+        ensures shape { IsSchedule self.now }
+    {
+        self.order.len() as u8
     }
 
     /// Puts a process to rest: it waits for this, until this tick if there is one.

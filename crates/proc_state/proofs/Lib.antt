@@ -4,6 +4,7 @@ pub mod Entered
 pub mod First
 mod Leaving
 pub mod Living
+mod LivingTurns
 pub mod Primaries
 mod Sleeps
 pub mod UserBytes

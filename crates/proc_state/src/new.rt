@@ -1,9 +1,8 @@
 //! The processes of a machine before the first one begins, and the number of living ones.
 
-ghost use Rattle.std.specs.Prelude.{◌≡◌, ◌≤◌, IfOk, length, replicate, vec_len};
-ghost use Rattle.proc_rules.specs.Records.{is_living};
+ghost use Rattle.std.specs.Prelude.{◌≡◌, ◌≤◌, IfOk, replicate, vec_len};
 ghost use Rattle.call_rules.specs.Inner.{Inner, no_own};
-ghost use Rattle.proc_state.specs.First.{first_inner, living_count as living_count_lem};
+ghost use Rattle.proc_state.specs.First.{first_inner, living_count};
 ghost use Rattle.proc_state.specs.Tie.{Represents};
 
 use crate::ends::NO_OWN;
@@ -11,10 +10,8 @@ use crate::state::ProcState;
 use guest_memory::memory::Memory;
 use os9_base::call::OutOfMemory;
 use os9_base::limits::PROCESS_PLACES;
-use os9_base::registers::Pid;
 use os9_sched::Sched;
 use proc_rules::own::Own;
-use proc_rules::record::Life;
 use process_table::Table;
 use std::alloc::{AllocError, Global};
 
@@ -41,10 +38,10 @@ impl ProcState {
 
     /// The number of living processes.
     pub fn living(&self) -> u8
-        ensures here { result ≡ living_count_lem self.now.table }
-        ensures tied { (m : Inner) → Represents self.now m → result ≡ living_count_lem m.records }
+        ensures here { result ≡ living_count self.now.table }
+        ensures tied { (m : Inner) → Represents self.now m → result ≡ living_count m.records }
     {
-        living_count(&self.table)
+        self.sched.count()
     }
 }
 
@@ -57,28 +54,4 @@ fn empty_places(alloc: Global) -> Result<Vec<Own>, AllocError>
         places.push(NO_OWN)?;
     }
     Ok(places)
-}
-
-/// The number of living processes in a table.
-fn living_count(table: &Table) -> u8
-    requires { length table.now ≡ PROCESS_PLACES }
-    ensures { result ≡ living_count_lem table.now }
-{
-    let mut count = 0;
-    for number in 0..PROCESS_PLACES {
-        if lives(table, Pid(number)) {
-            count += 1;
-        }
-    }
-    count
-}
-
-/// Does a process live?
-fn lives(table: &Table, p: Pid) -> bool
-    ensures { result ≡ is_living table.now p.0 }
-{
-    match table.life(p) {
-        Some(Life::Running) | Some(Life::Waiting) => true,
-        Some(Life::Ended(_)) | None => false,
-    }
 }
