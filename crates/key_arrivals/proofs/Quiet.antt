@@ -40,12 +40,12 @@ answer changed = Ok changed
 pub same-ok : (changed : Bool) → answer changed ≡ Ok false → changed ≡ false
 same-ok changed is = cc
 
--- nothing changed at one terminal, nor at the others
-pub either-quiet : (here later : Bool) (s between new : ProcState) (io now last : Io)
-    → (answer here ≡ Ok false → (between ≡ s) × (now ≡ io))
-    → (answer later ≡ Ok false → (new ≡ between) × (last ≡ now)) → answer (here || later) ≡ Ok false
+-- nothing changed at the terminals so far, nor at one more
+pub either-quiet : (before here : Bool) (s between new : ProcState) (io now last : Io)
+    → (before ≡ false → (between ≡ s) × (now ≡ io))
+    → (answer here ≡ Ok false → (new ≡ between) × (last ≡ now)) → (before || here) ≡ false
     → (new ≡ s) × (last ≡ io)
-either-quiet true later s between new io now last first others is = absurd (false≢true (sym (same-ok true is)))
-either-quiet false true s between new io now last first others is = absurd (false≢true (sym (same-ok true is)))
-either-quiet false false s between new io now last first others is =
-    ((others refl).0 ∙ (first refl).0, (others refl).1 ∙ (first refl).1)
+either-quiet true here s between new io now last first one is = absurd (false≢true (sym is))
+either-quiet false true s between new io now last first one is = absurd (false≢true (sym is))
+either-quiet false false s between new io now last first one is =
+    ((one refl).0 ∙ (first refl).0, (one refl).1 ∙ (first refl).1)

@@ -1,10 +1,10 @@
 //! Keys that arrive.
 
-ghost use Rattle.std.specs.Prelude.{◌≡◌, ◌-◌, ◌<◌, ◌≤◌, ◌||◌, false, None, Ok, IsErr, IsOk, vec_len};
+ghost use Rattle.std.specs.Prelude.{◌≡◌, ◌<◌, ◌≤◌, ◌||◌, false, None, Ok, IsErr, IsOk, vec_len};
 ghost use Rattle.os9_outer.specs.TerminalState.{terminal_states};
 ghost use Rattle.call_rules.specs.Inner.{Inner};
 ghost use Rattle.io_rules.specs.Arrivals.{after_key_signal, after_signal_to};
-ghost use Rattle.key_arrivals.specs.Keys.{KeysArrive, KeysArriveAt, KeysArriveFrom, KeysBreak, KeysBreakAt};
+ghost use Rattle.key_arrivals.specs.Keys.{KeysArrive, KeysArriveAt, KeysBreak, KeysBreakAt};
 ghost use Rattle.proc_state.specs.Tie.{Represents};
 
 use device_table::devices::Devices;
@@ -44,42 +44,19 @@ pub fn arrive_keys(
     ensures drives { devices.new.drives ≡ devices.old.drives }
     ensures count { vec_len devices.new.terms ≡ vec_len devices.old.terms }
 {
-    arrive_from(s, io, 0, devices)
-}
-
-/// As `arrive_keys`, from a terminal on.
-fn arrive_from(
-    s: &mut ProcState,
-    io: &mut IoState,
-    n: u8,
-    devices: &mut Devices,
-) -> Result<bool, OutOfMemory>
-    requires { vec_len devices.old.terms ≤ 4 }
-    ensures arrived { IsOk result → KeysArriveFrom s.old io.old
-        (terminal_states ⟦<dyn CharDriver as CharDriver>⟧ devices.old.terms.items) s.new io.new
-        (terminal_states ⟦<dyn CharDriver as CharDriver>⟧ devices.new.terms.items) n
-        (vec_len devices.old.terms - n) }
-    ensures broken { IsErr result → KeysBreak s.old io.old
-        (terminal_states ⟦<dyn CharDriver as CharDriver>⟧ devices.old.terms.items) s.new io.new
-        (terminal_states ⟦<dyn CharDriver as CharDriver>⟧ devices.new.terms.items) n }
-    ensures quiet { result ≡ Ok false → (s.new ≡ s.old) × (io.new ≡ io.old) }
-    ensures tick { s.new.tick ≡ s.old.tick }
-    ensures drives { devices.new.drives ≡ devices.old.drives }
-    ensures count { vec_len devices.new.terms ≡ vec_len devices.old.terms }
-{
-    if n as usize >= devices.terms.len() {
-        return Ok(false);
+    let mut changed = false;
+    for n in 0..devices.terms.len() {
+        let here = arrive_on(s, io, n as u8, devices)?;
+        changed = either(changed, here);
     }
-    let here = arrive_on(s, io, n, devices)?;
-    let later = arrive_from(s, io, n + 1, devices)?;
-    Ok(either(here, later))
+    Ok(changed)
 }
 
 /// Is one of them true?
-fn either(here: bool, later: bool) -> bool
-    ensures { result ≡ (here || later) }
+fn either(before: bool, here: bool) -> bool
+    ensures { result ≡ (before || here) }
 {
-    here || later
+    before || here
 }
 
 /// As `arrive_keys`, at one terminal.
