@@ -1,7 +1,7 @@
 //! Images that are moved into drives and out of them.
 
 ghost use Rattle.std.specs.Prelude.{◌≡◌, ◌<◌, ◌≤◌, None, Some, IfSome, length, slice_get, slice_set, vec_len};
-ghost use Rattle.file_drives.specs.Drives.{ChangesOneDrive, DriveView, drive_views};
+ghost use Rattle.file_drives.specs.Drives.{ChangesOneDrive, DriveView, drives_seen};
 ghost use Rattle.boot_images.specs.Drives.{holding, HaveRoom, IsEmpty, TakesImages};
 ghost use Rattle.boot_images.specs.DriveChanges.{IsInserted, IsEjected};
 
@@ -35,12 +35,10 @@ fn insert_in_box(drive: &mut Box<dyn BlockDriver>, image: Vec<u8>)
 /// Puts an image in the drive of this number, which has none.
 fn insert_on(devices: &mut Devices, number: u8, image: Vec<u8>)
     requires within { number < vec_len devices.old.drives }
-    requires empty { (drive : DriveView)
-        → slice_get (drive_views ⟦<dyn BlockDriver as BlockDriver>⟧ devices.old.drives.items)
+    requires empty { (drive : DriveView) → slice_get (drives_seen BlockDriver-box devices.old)
         number ≡ Some drive → IsEmpty drive }
     ensures drive { ChangesOneDrive (IsInserted image.items) number
-        (drive_views ⟦<dyn BlockDriver as BlockDriver>⟧ devices.old.drives.items)
-        (drive_views ⟦<dyn BlockDriver as BlockDriver>⟧ devices.new.drives.items) }
+        (drives_seen BlockDriver-box devices.old) (drives_seen BlockDriver-box devices.new) }
     ensures drives { vec_len devices.new.drives ≡ vec_len devices.old.drives }
     ensures terms_kept { devices.new.terms ≡ devices.old.terms }
 {
@@ -76,8 +74,7 @@ fn eject_from_box(alloc: Global, drive: &mut Box<dyn BlockDriver>) -> Vec<u8>
 fn eject_from(alloc: Global, devices: &mut Devices, number: usize) -> Vec<u8>
     requires { number < vec_len devices.old.drives }
     ensures drive { ChangesOneDrive (IsEjected result.items) number
-        (drive_views ⟦<dyn BlockDriver as BlockDriver>⟧ devices.old.drives.items)
-        (drive_views ⟦<dyn BlockDriver as BlockDriver>⟧ devices.new.drives.items) }
+        (drives_seen BlockDriver-box devices.old) (drives_seen BlockDriver-box devices.new) }
     ensures drives { vec_len devices.new.drives ≡ vec_len devices.old.drives }
     ensures terms_kept { devices.new.terms ≡ devices.old.terms }
 {
@@ -86,11 +83,9 @@ fn eject_from(alloc: Global, devices: &mut Devices, number: usize) -> Vec<u8>
 
 /// Moves the images into the drives, the first into D0. No image is copied.
 pub fn insert_images(alloc: Global, images: &mut Images, devices: &mut Devices)
-    requires { HaveRoom (length images.old)
-        (drive_views ⟦<dyn BlockDriver as BlockDriver>⟧ devices.old.drives.items) }
-    ensures held { drive_views ⟦<dyn BlockDriver as BlockDriver>⟧ devices.new.drives.items
-        ≡ holding images.old
-        (drive_views ⟦<dyn BlockDriver as BlockDriver>⟧ devices.old.drives.items) }
+    requires { HaveRoom (length images.old) (drives_seen BlockDriver-box devices.old) }
+    ensures held { drives_seen BlockDriver-box devices.new ≡ holding images.old
+        (drives_seen BlockDriver-box devices.old) }
     ensures count { length images.new ≡ length images.old }
     ensures drives { vec_len devices.new.drives ≡ vec_len devices.old.drives }
     ensures terms_kept { devices.new.terms ≡ devices.old.terms }
@@ -114,9 +109,8 @@ fn put_back(images: &mut Images, number: usize, image: Vec<u8>)
 /// starting with D0.
 pub fn eject_images(alloc: Global, images: &mut Images, devices: &mut Devices)
     requires { length images.old ≤ vec_len devices.old.drives }
-    ensures taken { TakesImages images.new
-        (drive_views ⟦<dyn BlockDriver as BlockDriver>⟧ devices.old.drives.items)
-        (drive_views ⟦<dyn BlockDriver as BlockDriver>⟧ devices.new.drives.items) }
+    ensures taken { TakesImages images.new (drives_seen BlockDriver-box devices.old)
+        (drives_seen BlockDriver-box devices.new) }
     ensures count { length images.new ≡ length images.old }
     ensures drives { vec_len devices.new.drives ≡ vec_len devices.old.drives }
     ensures terms_kept { devices.new.terms ≡ devices.old.terms }

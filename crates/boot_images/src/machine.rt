@@ -46,15 +46,13 @@ pub fn run_images<H: Host>(
     host: &mut H,
     devices: &mut Devices,
 ) -> RunOutcome
-    requires devices { AreFree (length images.old) (outside ⟦<dyn BlockDriver as BlockDriver>⟧
-        devices.old.drives.items ⟦<dyn CharDriver as CharDriver>⟧ devices.old.terms.items) }
+    requires devices { AreFree (length images.old)
+        (outside BlockDriver-box CharDriver-box devices.old) }
     requires start { CanStart start.now }
     requires volumes { All IsVolume images.old }
-    ensures run { OnWorld
-        (λ before after. RunsImages (setup_of start.now images.old) images.new
+    ensures run { OnWorld (λ before after. RunsImages (setup_of start.now images.old) images.new
         (history_left result.records) before after result.end) H.Host host.old host.new
-        ⟦<dyn BlockDriver as BlockDriver>⟧ devices.old.drives.items devices.new.drives.items
-        ⟦<dyn CharDriver as CharDriver>⟧ devices.old.terms.items devices.new.terms.items }
+        BlockDriver-box CharDriver-box devices.old devices.new }
     ensures count { length images.new ≡ length images.old }
     ensures notes_kept { notes_of H.Host host.new ≡ notes_of H.Host host.old }
     ensures terminals { vec_len devices.new.terms ≡ vec_len devices.old.terms }

@@ -14,7 +14,7 @@ use Rattle.boot_run.specs.Loaded.{keys_for, loaded, loaded_from, with_keys, AreU
 use Rattle.lock_model.specs.declared.history.Entry.{Entry}
 use Rattle.rbf_model.specs.Volume.{DiskVolume}
 use Rattle.file_rules.specs.Files.{DriveState, NoneFailed}
-use Rattle.file_drives.specs.Drives.{DriveView, boxed_drive_view, drive_states, drive_views, media_at, media_of, unused_drive}
+use Rattle.file_drives.specs.Drives.{DriveView, boxed_seen, drive_states, drive_views, media_at, media_of, unused_drive}
 use Rattle.file_drives.specs.Mounted.{DriveHolds}
 use Rattle.file_state.specs.Tie.{StandsFor}
 use Rattle.file_start.proofs.FirstLemmas.{some-volume}
@@ -78,13 +78,13 @@ pub drives-started : {A : Type 0} (drives : ℕ) (result : Result A StartFault) 
     → HaveVolumes drives before → StartsDrives drives result before after → length after ≡ length before
 drives-started drives result before after have started = (started.reads have.volumes have.as_many have.hold).as_many
 
-pub drives-counted : {A Table : Type 0} {Driver : Table → Type 0} (members : (table : Table) → Ghosts (Driver table))
+pub drives-counted : {A Table : Type 0} {Driver : Table → Type 0} (members : (drive : DynBox Table Global Driver) → Ghosts (Driver drive.vtable))
     (drives : ℕ) (result : Result A StartFault) (before after : List (DynBox Table Global Driver))
     → HaveVolumes drives (drive_views members before) → StartsDrives drives result (drive_views members before)
     (drive_views members after) → length after ≡ length before
 drives-counted members drives result before after have started =
-    sym (length-map after (boxed_drive_view members)) ∙ drives-started drives result (drive_views members before)
-    (drive_views members after) have started ∙ length-map before (boxed_drive_view members)
+    sym (length-map after (boxed_seen members)) ∙ drives-started drives result (drive_views members before)
+    (drive_views members after) have started ∙ length-map before (boxed_seen members)
 
 -- the images are as they were, if those of each number are, in as many drives
 pub media-kept : (before after : List DriveView) → length after ≡ length before → ((n : ℕ) → media_at after n ≡ media_at before n) → media_of after ≡ media_of before

@@ -7,6 +7,7 @@ use Rattle.os9_outer.specs.Host.{Files}
 use Rattle.os9_outer.specs.declared.drive.BlockDriver.{Ghosts as DriveGhosts}
 use Rattle.os9_outer.specs.declared.host.Host.{Ghosts}
 use Rattle.os9_outer.specs.declared.terminal.CharDriver.{Ghosts as TerminalGhosts}
+use Rattle.device_table.specs.declared.devices.DeviceTable.{DeviceTable}
 use Rattle.os9_kernel.specs.Outside.{OnDevices, Outside}
 
 pub record World : Type 0 where
@@ -28,18 +29,17 @@ world_of members host devices = record {
   devices = devices;
 }
 
--- what holds between the worlds before a call and after it, of a host and of the devices in these boxes, as
--- `OnWorld (PassesBytes result) H.Host host.old host.new
--- ⟦<dyn BlockDriver as BlockDriver>⟧ devices.old.drives.items devices.new.drives.items
--- ⟦<dyn CharDriver as CharDriver>⟧ devices.old.terms.items devices.new.terms.items`
+-- what holds between the worlds before a call and after it, of a host and of the devices, as
+-- `OnWorld (PassesBytes result) H.Host host.old host.new BlockDriver-box CharDriver-box devices.old devices.new`
 abbrev pub OnWorld : {Host Disk Line : Type 0} {Drive : Disk → Type 0} {Terminal : Line → Type 0}
     → (World → World → Type 0) → Ghosts Host → Host → Host
-    → ((table : Disk) → DriveGhosts (Drive table)) → List (DynBox Disk Global Drive) → List (DynBox Disk Global Drive)
-    → ((table : Line) → TerminalGhosts (Terminal table)) → List (DynBox Line Global Terminal)
-    → List (DynBox Line Global Terminal) → Type 0
-OnWorld fact members host host_after of_drives drives drives_after of_terms terms terms_after =
+    → ((drive : DynBox Disk Global Drive) → DriveGhosts (Drive drive.vtable))
+    → ((terminal : DynBox Line Global Terminal) → TerminalGhosts (Terminal terminal.vtable))
+    → DeviceTable (DynBox Disk Global Drive) (DynBox Line Global Terminal)
+    → DeviceTable (DynBox Disk Global Drive) (DynBox Line Global Terminal) → Type 0
+OnWorld fact members host host_after of_drives of_terms devices devices_after =
     OnDevices (λ before after. fact (world_of members host before) (world_of members host_after after))
-    of_drives drives drives_after of_terms terms terms_after
+    of_drives of_terms devices devices_after
 
 -- the host did not fail
 abbrev pub HasNoFault : World → World → Type 0

@@ -1,6 +1,7 @@
 ghost use Rattle.std.specs.Prelude.{◌≡◌, ◌≢◌, ◌<◌, IfSome, OnErr, [], vec_len};
 ghost use Rattle.os9_outer.specs.Stream.{emptied};
-ghost use Rattle.os9_outer.specs.TerminalState.{terminal_states, ChangesOneTerminal};
+ghost use Rattle.os9_outer.specs.TerminalState.{ChangesOneTerminal};
+ghost use Rattle.device_table.specs.Seen.{terminals_seen};
 ghost use Rattle.os9_words.specs.Notes.{notes_of};
 ghost use Rattle.os9_words.specs.Streams.{WritesOut};
 ghost use Rattle.boot_run.specs.Console.{TakesBytes};
@@ -36,8 +37,7 @@ fn take_from_box(term: &mut Box<dyn CharDriver>) -> Vec<u8>
 fn take_from(devices: &mut Devices, n: usize) -> Vec<u8>
     requires { n < vec_len devices.old.terms }
     ensures terminal { ChangesOneTerminal (TakesBytes result.items) n
-        (terminal_states ⟦<dyn CharDriver as CharDriver>⟧ devices.old.terms.items)
-        (terminal_states ⟦<dyn CharDriver as CharDriver>⟧ devices.new.terms.items) }
+        (terminals_seen CharDriver-box devices.old) (terminals_seen CharDriver-box devices.new) }
     ensures terminals { vec_len devices.new.terms ≡ vec_len devices.old.terms }
     ensures drives_kept { devices.new.drives ≡ devices.old.drives }
 {
@@ -51,8 +51,7 @@ fn take_from(devices: &mut Devices, n: usize) -> Vec<u8>
 /// The output has gained a prefix of these bytes.
 pub fn pass_on<H: Host>(devices: &mut Devices, host: &mut H) -> Result<(), HostFault>
     ensures passed { OnWorld (PassesBytes result) H.Host host.old host.new
-        ⟦<dyn BlockDriver as BlockDriver>⟧ devices.old.drives.items devices.new.drives.items
-        ⟦<dyn CharDriver as CharDriver>⟧ devices.old.terms.items devices.new.terms.items }
+        BlockDriver-box CharDriver-box devices.old devices.new }
     ensures notes_kept { notes_of H.Host host.new ≡ notes_of H.Host host.old }
     ensures terminals { vec_len devices.new.terms ≡ vec_len devices.old.terms }
     ensures drives_kept { devices.new.drives ≡ devices.old.drives }

@@ -1,7 +1,8 @@
 ghost use Rattle.std.specs.Prelude.{◌≡◌, ◌<◌, ◌≤◌, All, IfOk, OnOk, OnErr, [], vec_len};
 ghost use Rattle.os9_outer.specs.Terminal.{due_byte, keys_after};
 ghost use Rattle.os9_base.specs.Count.{Rose};
-ghost use Rattle.os9_outer.specs.TerminalState.{terminal_states, ChangesOneTerminal};
+ghost use Rattle.os9_outer.specs.TerminalState.{ChangesOneTerminal};
+ghost use Rattle.device_table.specs.Seen.{terminals_seen};
 ghost use Rattle.boot_run.specs.Dropped.{DropsAll, DropsKeys, CanBeTaken};
 
 use device_table::devices::Devices;
@@ -58,8 +59,7 @@ fn drop_keys_in(term: &mut Box<dyn CharDriver>) -> Result<(), TermFault>
 fn drop_keys_at(devices: &mut Devices, n: usize) -> Result<(), TermFault>
     requires { n < vec_len devices.old.terms }
     ensures terminal { ChangesOneTerminal (DropsKeys result) n
-        (terminal_states ⟦<dyn CharDriver as CharDriver>⟧ devices.old.terms.items)
-        (terminal_states ⟦<dyn CharDriver as CharDriver>⟧ devices.new.terms.items) }
+        (terminals_seen CharDriver-box devices.old) (terminals_seen CharDriver-box devices.new) }
     ensures terminals { vec_len devices.new.terms ≡ vec_len devices.old.terms }
     ensures drives_kept { devices.new.drives ≡ devices.old.drives }
 {
@@ -73,9 +73,8 @@ fn drop_keys_at(devices: &mut Devices, n: usize) -> Result<(), TermFault>
 /// The number of the first terminal that failed.
 pub fn drop_keys(devices: &mut Devices) -> Result<(), KeysFault>
     requires { vec_len devices.old.terms ≤ 4 }
-    ensures dropped { DropsAll result
-        (terminal_states ⟦<dyn CharDriver as CharDriver>⟧ devices.old.terms.items)
-        (terminal_states ⟦<dyn CharDriver as CharDriver>⟧ devices.new.terms.items) }
+    ensures dropped { DropsAll result (terminals_seen CharDriver-box devices.old)
+        (terminals_seen CharDriver-box devices.new) }
     ensures terminals { vec_len devices.new.terms ≡ vec_len devices.old.terms }
     ensures drives_kept { devices.new.drives ≡ devices.old.drives }
 {

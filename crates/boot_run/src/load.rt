@@ -1,5 +1,6 @@
 ghost use Rattle.std.specs.Prelude.{◌≡◌, ◌<◌, ◌≤◌, [], IfOk, OnOk, OnErr, Some, All, slice_get, vec_len};
-ghost use Rattle.os9_outer.specs.TerminalState.{TerminalState, terminal_states, ChangesOneTerminal};
+ghost use Rattle.os9_outer.specs.TerminalState.{TerminalState, ChangesOneTerminal};
+ghost use Rattle.device_table.specs.Seen.{terminals_seen};
 ghost use Rattle.boot_run.specs.Loaded.{keys_for, loaded, LoadsFrom, HasNoKeys, IsLoaded};
 
 use device_table::devices::Devices;
@@ -14,12 +15,9 @@ use std::alloc::{AllocError, Global};
 ///
 /// Out of memory. No terminal changes then.
 pub fn load_keys(alloc: Global, devices: &mut Devices, keys: &[ScriptKey]) -> Result<(), AllocError>
-    requires { All HasNoKeys
-        (terminal_states ⟦<dyn CharDriver as CharDriver>⟧ devices.old.terms.items) }
-    ensures loaded { OnOk result
-        (terminal_states ⟦<dyn CharDriver as CharDriver>⟧ devices.new.terms.items
-        ≡ loaded keys.now
-        (terminal_states ⟦<dyn CharDriver as CharDriver>⟧ devices.old.terms.items)) }
+    requires { All HasNoKeys (terminals_seen CharDriver-box devices.old) }
+    ensures loaded { OnOk result (terminals_seen CharDriver-box devices.new ≡ loaded keys.now
+        (terminals_seen CharDriver-box devices.old)) }
     ensures kept { OnErr result (devices.new ≡ devices.old) }
     ensures terminals { vec_len devices.new.terms ≡ vec_len devices.old.terms }
     ensures drives_kept { devices.new.drives ≡ devices.old.drives }
@@ -36,12 +34,9 @@ fn load_from(
     keys: &[ScriptKey],
 ) -> Result<(), AllocError>
     requires within { number ≤ vec_len devices.old.terms }
-    requires unloaded { All HasNoKeys
-        (terminal_states ⟦<dyn CharDriver as CharDriver>⟧ devices.old.terms.items) }
-    ensures loaded { OnOk result
-        (LoadsFrom number keys.now
-        (terminal_states ⟦<dyn CharDriver as CharDriver>⟧ devices.old.terms.items)
-        (terminal_states ⟦<dyn CharDriver as CharDriver>⟧ devices.new.terms.items)) }
+    requires unloaded { All HasNoKeys (terminals_seen CharDriver-box devices.old) }
+    ensures loaded { OnOk result (LoadsFrom number keys.now
+        (terminals_seen CharDriver-box devices.old) (terminals_seen CharDriver-box devices.new)) }
     ensures kept { OnErr result (devices.new ≡ devices.old) }
     ensures terminals { vec_len devices.new.terms ≡ vec_len devices.old.terms }
     ensures drives_kept { devices.new.drives ≡ devices.old.drives }
@@ -76,11 +71,10 @@ fn keys_of_terminal(
 fn load_on(devices: &mut Devices, n: usize, keys: Vec<Key>)
     requires within { n < vec_len devices.old.terms }
     requires unloaded { (terminal : TerminalState)
-        → slice_get (terminal_states ⟦<dyn CharDriver as CharDriver>⟧ devices.old.terms.items) n
+        → slice_get (terminals_seen CharDriver-box devices.old) n
         ≡ Some terminal → HasNoKeys terminal }
     ensures terminal { ChangesOneTerminal (IsLoaded keys.items) n
-        (terminal_states ⟦<dyn CharDriver as CharDriver>⟧ devices.old.terms.items)
-        (terminal_states ⟦<dyn CharDriver as CharDriver>⟧ devices.new.terms.items) }
+        (terminals_seen CharDriver-box devices.old) (terminals_seen CharDriver-box devices.new) }
     ensures terminals { vec_len devices.new.terms ≡ vec_len devices.old.terms }
     ensures drives_kept { devices.new.drives ≡ devices.old.drives }
 {

@@ -71,13 +71,10 @@ pub fn run_machine<H: Host>(
     host: &mut H,
     devices: &mut Devices,
 ) -> RunOutcome
-    requires { CanRun config slices.now
-        (outside ⟦<dyn BlockDriver as BlockDriver>⟧ devices.old.drives.items
-        ⟦<dyn CharDriver as CharDriver>⟧ devices.old.terms.items) }
+    requires { CanRun config slices.now (outside BlockDriver-box CharDriver-box devices.old) }
     ensures call { OnWorld (MachineRuns config file.now keys.now slices.now result.end
         (history_left result.records)) H.Host host.old host.new
-        ⟦<dyn BlockDriver as BlockDriver>⟧ devices.old.drives.items devices.new.drives.items
-        ⟦<dyn CharDriver as CharDriver>⟧ devices.old.terms.items devices.new.terms.items }
+        BlockDriver-box CharDriver-box devices.old devices.new }
     ensures notes_kept { notes_of H.Host host.new ≡ notes_of H.Host host.old }
     ensures terminals { vec_len devices.new.terms ≡ vec_len devices.old.terms }
     ensures drives { vec_len devices.new.drives ≡ vec_len devices.old.drives }

@@ -35,13 +35,9 @@ pub fn run_slices<H: Host>(
     devices: &mut Devices,
 ) -> Result<(), RunFault>
     requires few { ticks kernel.old + length slices.now < LAST_TICK }
-    requires stands { Stands kernel.old (outside
-        ⟦<dyn BlockDriver as BlockDriver>⟧ devices.old.drives.items
-        ⟦<dyn CharDriver as CharDriver>⟧ devices.old.terms.items) }
+    requires stands { Stands kernel.old (outside BlockDriver-box CharDriver-box devices.old) }
     ensures ran { OnWorld (RunsSlices slices.now kernel.old kernel.new result)
-        H.Host host.old host.new
-        ⟦<dyn BlockDriver as BlockDriver>⟧ devices.old.drives.items devices.new.drives.items
-        ⟦<dyn CharDriver as CharDriver>⟧ devices.old.terms.items devices.new.terms.items }
+        H.Host host.old host.new BlockDriver-box CharDriver-box devices.old devices.new }
     ensures notes_kept { notes_of H.Host host.new ≡ notes_of H.Host host.old }
     ensures terminals { vec_len devices.new.terms ≡ vec_len devices.old.terms }
     ensures drives { vec_len devices.new.drives ≡ vec_len devices.old.drives }

@@ -3,9 +3,9 @@ ghost use Rattle.boot_images.specs.Ready.{AreFree};
 ghost use Rattle.os9_kernel.specs.Outside.{outside};
 ghost use Rattle.file_drives.specs.Drives.{drive_views};
 ghost use Rattle.boot_run.specs.Loaded.{HasNoKeys};
-ghost use Rattle.os9_outer.specs.TerminalState.{terminal_states};
 ghost use Rattle.std.specs.Prelude.{◌≡◌, ◌+◌, true, All, OnOk, bytes_eq, length, []};
 ghost use Rattle.std.specs.Bool.{OnTrue};
+ghost use Rattle.device_table.specs.Seen.{terminal_states};
 
 use crate::answering::are_answering;
 use crate::disk::Disk;
@@ -141,7 +141,7 @@ fn run_with(
     row: &Row,
     drives: Vec<Box<dyn BlockDriver>>,
 ) -> Result<Shown, AllocError>
-    requires { HaveRoom 4 (drive_views ⟦<dyn BlockDriver as BlockDriver>⟧ drives.items) }
+    requires { HaveRoom 4 (drive_views BlockDriver-box drives.items) }
 {
     let calls = row.terminals.as_slice();
     let mut terms = Vec::new(alloc);
@@ -157,11 +157,9 @@ fn add_terminal(
     terms: &mut Vec<Box<dyn CharDriver>>,
     term: Box<dyn CharDriver>,
 ) -> Result<(), AllocError>
-    requires keys { All HasNoKeys
-        (terminal_states ⟦<dyn CharDriver as CharDriver>⟧ terms.old.items) }
+    requires keys { All HasNoKeys (terminal_states CharDriver-box terms.old.items) }
     requires term { keys_left term ≡ [] }
-    ensures keys { OnOk result
-        (All HasNoKeys (terminal_states ⟦<dyn CharDriver as CharDriver>⟧ terms.new.items)) }
+    ensures keys { OnOk result (All HasNoKeys (terminal_states CharDriver-box terms.new.items)) }
     ensures count { OnOk result (length terms.new.items ≡ length terms.old.items + 1) }
 {
     terms.push(term)?;
@@ -170,8 +168,7 @@ fn add_terminal(
 
 /// The same on these devices.
 fn run_on(alloc: Global, row: &Row, devices: Devices) -> Result<Shown, AllocError>
-    requires { AreFree 4 (outside ⟦<dyn BlockDriver as BlockDriver>⟧ devices.drives.items
-        ⟦<dyn CharDriver as CharDriver>⟧ devices.terms.items) }
+    requires { AreFree 4 (outside BlockDriver-box CharDriver-box devices) }
 {
     let words = words(alloc, row)?;
     let failing = Vec::from_slice(alloc, row.host.as_slice())?;

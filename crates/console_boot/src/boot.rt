@@ -7,12 +7,13 @@ ghost use Rattle.command_files.specs.Noted.{NotesFiles};
 ghost use Rattle.console_boot.specs.Call.{ConsoleCall};
 ghost use Rattle.session_text.specs.Typed.{IsUntyped};
 ghost use Rattle.console_run.specs.Keyboard.{keyboard_state};
-ghost use Rattle.console_run.specs.Seen.{devices_seen, OnCall};
 ghost use Rattle.file_drives.specs.Drives.{drives_seen};
+ghost use Rattle.os9_kernel.specs.Outside.{outside};
 ghost use Rattle.os9_boot.specs.FileNames.{BootWrites};
 ghost use Rattle.os9_boot.specs.History.{outputs_of};
 ghost use Rattle.os9_words.specs.Command.{IsBoot};
 ghost use Rattle.os9_words.specs.Notes.{notes_of};
+ghost use Rattle.boot_run.specs.World.{OnWorld};
 
 use crate::images::run_on_images;
 use boot_images::machine::Start;
@@ -38,9 +39,9 @@ pub(crate) fn boot_console<H: Host, K: Keyboard<H> + Drop>(
 ) -> End
     requires untyped { IsUntyped console.old.typed }
     requires devices { AreFree (length boot.now.files)
-        (devices_seen BlockDriver-box CharDriver-box devices.old) }
+        (outside BlockDriver-box CharDriver-box devices.old) }
     requires words { IsBoot boot.now }
-    ensures call { OnCall (ConsoleCall boot.now console.new.typed result
+    ensures call { OnWorld (ConsoleCall boot.now console.new.typed result
         (keyboard_state K.Keyboard console.old.keyboard)
         (keyboard_state K.Keyboard console.new.keyboard))
         H.Host host.old host.new BlockDriver-box CharDriver-box devices.old devices.new }

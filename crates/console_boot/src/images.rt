@@ -1,13 +1,14 @@
 //! A session with images in the drives.
 
 ghost use Rattle.std.specs.Prelude.{◌≡◌, All, length};
+ghost use Rattle.os9_kernel.specs.Outside.{outside};
 ghost use Rattle.boot_images.specs.BootFile.{IsVolume};
 ghost use Rattle.boot_images.specs.Ready.{AreFree, CanStart};
 ghost use Rattle.boot_run.specs.Machine.{history_left};
+ghost use Rattle.boot_run.specs.World.{OnWorld};
 ghost use Rattle.console_boot.specs.Images.{session_setup, RunsConsole};
 ghost use Rattle.session_text.specs.Typed.{IsUntyped};
 ghost use Rattle.console_run.specs.Keyboard.{keyboard_state};
-ghost use Rattle.console_run.specs.Seen.{devices_seen, OnCall};
 ghost use Rattle.os9_words.specs.Notes.{notes_of};
 
 use boot_images::drives::{eject_images, insert_images};
@@ -32,10 +33,10 @@ pub(crate) fn run_on_images<H: Host, K: Keyboard<H> + Drop>(
 ) -> SessionOutcome
     requires untyped { IsUntyped console.old.typed }
     requires devices { AreFree (length images.old)
-        (devices_seen BlockDriver-box CharDriver-box devices.old) }
+        (outside BlockDriver-box CharDriver-box devices.old) }
     requires start { CanStart start.now }
     requires volumes { All IsVolume images.old }
-    ensures run { OnCall (RunsConsole (session_setup start.now images.old console.new.typed)
+    ensures run { OnWorld (RunsConsole (session_setup start.now images.old console.new.typed)
         console.new.typed images.new (history_left result.records) result.end
         (keyboard_state K.Keyboard console.old.keyboard)
         (keyboard_state K.Keyboard console.new.keyboard))

@@ -6,8 +6,9 @@ ghost use Rattle.console_boot.specs.TopCall.{ConsoleReport, TopConsole};
 ghost use Rattle.console_boot.specs.Words.{drives_for};
 ghost use Rattle.session_text.specs.Typed.{IsUntyped};
 ghost use Rattle.console_run.specs.Keyboard.{keyboard_state};
-ghost use Rattle.console_run.specs.Seen.{devices_seen, OnNotedCall};
+ghost use Rattle.console_run.specs.Seen.{OnNotedCall};
 ghost use Rattle.file_drives.specs.Drives.{drives_seen};
+ghost use Rattle.os9_kernel.specs.Outside.{outside};
 ghost use Rattle.os9_words.specs.Command.{IsBoot};
 
 use crate::boot::boot_console;
@@ -57,7 +58,7 @@ pub fn console_main<H: Host, K: Keyboard<H> + Drop>(
 ) -> u8
     requires untyped { IsUntyped console.old.typed }
     requires devices { AreFree (drives_for (map string_bytes words.now))
-        (devices_seen BlockDriver-box CharDriver-box devices.old) }
+        (outside BlockDriver-box CharDriver-box devices.old) }
     ensures call { OnNotedCall (λ before after noted notes. TopConsole (map string_bytes words.now)
         (keyboard_state K.Keyboard console.old.keyboard)
         (keyboard_state K.Keyboard console.new.keyboard) before after noted notes result)
@@ -87,7 +88,7 @@ fn do_console<H: Host, K: Keyboard<H> + Drop>(
 ) -> u8
     requires untyped { IsUntyped console.old.typed }
     requires devices { AreFree (length words.now.boot.files)
-        (devices_seen BlockDriver-box CharDriver-box devices.old) }
+        (outside BlockDriver-box CharDriver-box devices.old) }
     requires words { IsBoot words.now.boot }
     ensures call { OnNotedCall (λ before after noted notes. ConsoleReport words.now
         (keyboard_state K.Keyboard console.old.keyboard)

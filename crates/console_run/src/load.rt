@@ -1,10 +1,10 @@
 //! Keys are loaded.
 
 ghost use Rattle.std.specs.Prelude.{◌≡◌, ◌<◌, ◌∷◌, [], IfOk, OnErr, OnOk, IsFalse, IsTrue, length, map, vec_len};
+ghost use Rattle.device_table.specs.Seen.{terminals_seen};
 ghost use Rattle.run_laws.specs.Session.{keys_loaded};
 ghost use Rattle.session_text.specs.Typed.{keys_typed, part_bytes};
 ghost use Rattle.console_run.specs.Kept.{IsKept};
-ghost use Rattle.console_run.specs.Seen.{terms_seen};
 ghost use Rattle.console_run.specs.Turn.{LoadsKeys};
 ghost use Rattle.console_run.specs.Waiting.{term_keys};
 
@@ -30,10 +30,10 @@ pub(crate) fn load_part(
     devices: &mut Devices,
 ) -> Result<(), AllocError>
     requires some { 0 < vec_len devices.old.terms }
-    requires none_left { term_keys (terms_seen CharDriver-box devices.old) ≡ [] }
+    requires none_left { term_keys (terminals_seen CharDriver-box devices.old) ≡ [] }
     requires bytes { 0 < length bytes.now }
     ensures loaded { OnOk result (LoadsKeys (keys_typed tick bytes.now) typed.old typed.new
-        (terms_seen CharDriver-box devices.old) (terms_seen CharDriver-box devices.new)) }
+        (terminals_seen CharDriver-box devices.old) (terminals_seen CharDriver-box devices.new)) }
     ensures typed_kept { OnErr result (IsKept typed.old typed.new) }
     ensures devices_kept { OnErr result (devices.new ≡ devices.old) }
     ensures terminals { vec_len devices.new.terms ≡ vec_len devices.old.terms }
@@ -76,9 +76,9 @@ fn keys_of_bytes(alloc: Global, bytes: &[u8], tick: u32) -> Result<Vec<Key>, All
 /// Loads TERM, which has no keys left, with these.
 fn load_term(devices: &mut Devices, keys: Vec<Key>)
     requires some { 0 < vec_len devices.old.terms }
-    requires none_left { term_keys (terms_seen CharDriver-box devices.old) ≡ [] }
-    ensures loaded { terms_seen CharDriver-box devices.new
-        ≡ keys_loaded (terms_seen CharDriver-box devices.old) (keys.items ∷ []) }
+    requires none_left { term_keys (terminals_seen CharDriver-box devices.old) ≡ [] }
+    ensures loaded { terminals_seen CharDriver-box devices.new
+        ≡ keys_loaded (terminals_seen CharDriver-box devices.old) (keys.items ∷ []) }
     ensures terminals { vec_len devices.new.terms ≡ vec_len devices.old.terms }
     ensures drives_kept { devices.new.drives ≡ devices.old.drives }
 {
@@ -88,9 +88,10 @@ fn load_term(devices: &mut Devices, keys: Vec<Key>)
 /// Has TERM no keys left? A terminal takes keys exactly then, be they none.
 pub(crate) fn has_no_keys(alloc: Global, devices: &mut Devices) -> bool
     requires some { 0 < vec_len devices.old.terms }
-    ensures none { IsTrue result → term_keys (terms_seen CharDriver-box devices.old) ≡ [] }
-    ensures left { IsFalse result → ¬ (term_keys (terms_seen CharDriver-box devices.old) ≡ []) }
-    ensures kept { terms_seen CharDriver-box devices.new ≡ terms_seen CharDriver-box devices.old }
+    ensures none { IsTrue result → term_keys (terminals_seen CharDriver-box devices.old) ≡ [] }
+    ensures left { IsFalse result → ¬ (term_keys (terminals_seen CharDriver-box devices.old) ≡ []) }
+    ensures kept { terminals_seen CharDriver-box devices.new
+        ≡ terminals_seen CharDriver-box devices.old }
     ensures terminals { vec_len devices.new.terms ≡ vec_len devices.old.terms }
     ensures drives_kept { devices.new.drives ≡ devices.old.drives }
 {

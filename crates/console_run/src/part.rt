@@ -1,8 +1,8 @@
 //! Lines are typed in parts.
 
 ghost use Rattle.std.specs.Prelude.{◌≡◌, ◌≢◌, ◌<◌, ◌≤◌, ◌+◌, [], OnErr, OnOk, vec_len};
+ghost use Rattle.device_table.specs.Seen.{terminals_seen};
 ghost use Rattle.console_run.specs.Kept.{IsKept};
-ghost use Rattle.console_run.specs.Seen.{terms_seen};
 ghost use Rattle.console_run.specs.Turn.{rest_of, TypesRest};
 ghost use Rattle.console_run.specs.Waiting.{term_keys};
 
@@ -27,11 +27,11 @@ pub(crate) fn type_part<K: Drop>(
     devices: &mut Devices,
 ) -> Result<(), AllocError>
     requires some { 0 < vec_len devices.old.terms }
-    requires none_left { term_keys (terms_seen CharDriver-box devices.old) ≡ [] }
+    requires none_left { term_keys (terminals_seen CharDriver-box devices.old) ≡ [] }
     requires rest { rest_of console.old ≢ [] }
     ensures typed { OnOk result (TypesRest tick (rest_of console.old) (rest_of console.new)
         console.old.typed console.new.typed
-        (terms_seen CharDriver-box devices.old) (terms_seen CharDriver-box devices.new)) }
+        (terminals_seen CharDriver-box devices.old) (terminals_seen CharDriver-box devices.new)) }
     ensures typed_kept { OnErr result (IsKept console.old.typed console.new.typed) }
     ensures keyboard_kept { console.new.keyboard ≡ console.old.keyboard }
     ensures devices_kept { OnErr result (devices.new ≡ devices.old) }

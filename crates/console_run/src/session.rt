@@ -1,11 +1,13 @@
 //! A machine is started, and run as a person types.
 
 ghost use Rattle.std.specs.Prelude.{◌≡◌, []};
+ghost use Rattle.os9_kernel.specs.Outside.{outside};
 ghost use Rattle.os9_words.specs.Notes.{notes_of};
 ghost use Rattle.boot_run.specs.Machine.{CanRun, history_left};
+ghost use Rattle.boot_run.specs.World.{OnWorld};
 ghost use Rattle.session_text.specs.Typed.{IsUntyped};
 ghost use Rattle.console_run.specs.Keyboard.{keyboard_state};
-ghost use Rattle.console_run.specs.Seen.{devices_seen, AreAsMany, OnCall};
+ghost use Rattle.console_run.specs.Seen.{AreAsMany};
 ghost use Rattle.console_run.specs.Session.{SessionRuns};
 
 use crate::console::Console;
@@ -50,9 +52,8 @@ pub fn run_session<H: Host, K: Keyboard<H> + Drop>(
     devices: &mut Devices,
 ) -> SessionOutcome
     requires untyped { IsUntyped console.old.typed }
-    requires machine { CanRun config []
-        (devices_seen BlockDriver-box CharDriver-box devices.old) }
-    ensures call { OnCall (SessionRuns config file.now result.end (history_left result.records)
+    requires machine { CanRun config [] (outside BlockDriver-box CharDriver-box devices.old) }
+    ensures call { OnWorld (SessionRuns config file.now result.end (history_left result.records)
         console.new.typed (keyboard_state K.Keyboard console.old.keyboard)
         (keyboard_state K.Keyboard console.new.keyboard))
         H.Host host.old host.new BlockDriver-box CharDriver-box devices.old devices.new }

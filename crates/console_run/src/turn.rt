@@ -2,9 +2,11 @@
 
 ghost use Rattle.std.specs.Prelude.{◌≡◌, ◌<◌, ◌+◌};
 ghost use Rattle.os9_base.specs.declared.limits.TheConstants.{LAST_TICK};
+ghost use Rattle.os9_kernel.specs.Outside.{outside};
 ghost use Rattle.os9_kernel.specs.Tie.{Stands, ticks};
 ghost use Rattle.os9_words.specs.Notes.{notes_of};
-ghost use Rattle.console_run.specs.Seen.{devices_seen, AreAsMany, OnCall};
+ghost use Rattle.boot_run.specs.World.{OnWorld};
+ghost use Rattle.console_run.specs.Seen.{AreAsMany};
 ghost use Rattle.console_run.specs.Turn.{RunsTurn};
 
 use boot_run::{RunFault, pass_on};
@@ -26,9 +28,8 @@ pub(crate) fn run_turn<H: Host>(
     devices: &mut Devices,
 ) -> Result<SliceEnd, RunFault>
     requires early { ticks kernel.old + 1 < LAST_TICK }
-    requires stands { Stands kernel.old
-        (devices_seen BlockDriver-box CharDriver-box devices.old) }
-    ensures turn { OnCall (RunsTurn kernel.old kernel.new result)
+    requires stands { Stands kernel.old (outside BlockDriver-box CharDriver-box devices.old) }
+    ensures turn { OnWorld (RunsTurn kernel.old kernel.new result)
         H.Host host.old host.new BlockDriver-box CharDriver-box devices.old devices.new }
     ensures notes_kept { notes_of H.Host host.new ≡ notes_of H.Host host.old }
     ensures places { AreAsMany devices.old devices.new }

@@ -1,12 +1,15 @@
 //! The turns of a session.
 
 ghost use Rattle.std.specs.Prelude.{◌≡◌};
+ghost use Rattle.device_table.specs.Seen.{terminals_seen};
 ghost use Rattle.boot_run.specs.Loaded.{AreUnloaded};
+ghost use Rattle.boot_run.specs.World.{OnWorld};
+ghost use Rattle.os9_kernel.specs.Outside.{outside};
 ghost use Rattle.os9_kernel.specs.Tie.{Stands, ticks};
 ghost use Rattle.os9_words.specs.Notes.{notes_of};
 ghost use Rattle.session_text.specs.Typed.{IsUntyped};
 ghost use Rattle.console_run.specs.Keyboard.{keyboard_state};
-ghost use Rattle.console_run.specs.Seen.{devices_seen, terms_seen, AreAsMany, OnCall};
+ghost use Rattle.console_run.specs.Seen.{AreAsMany};
 ghost use Rattle.console_run.specs.Session.{RunsTurns};
 
 use crate::asking::Asked;
@@ -47,10 +50,9 @@ pub(crate) fn run_turns<H: Host, K: Keyboard<H> + Drop>(
 ) -> Result<Stop, RunFault>
     requires begins { ticks kernel.old ≡ 0 }
     requires untyped { IsUntyped console.old.typed }
-    requires unloaded { AreUnloaded (terms_seen CharDriver-box devices.old) }
-    requires stands { Stands kernel.old
-        (devices_seen BlockDriver-box CharDriver-box devices.old) }
-    ensures ran { OnCall (RunsTurns console.new.typed kernel.old kernel.new result
+    requires unloaded { AreUnloaded (terminals_seen CharDriver-box devices.old) }
+    requires stands { Stands kernel.old (outside BlockDriver-box CharDriver-box devices.old) }
+    ensures ran { OnWorld (RunsTurns console.new.typed kernel.old kernel.new result
         (keyboard_state K.Keyboard console.old.keyboard)
         (keyboard_state K.Keyboard console.new.keyboard))
         H.Host host.old host.new BlockDriver-box CharDriver-box devices.old devices.new }

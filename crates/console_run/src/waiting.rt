@@ -3,10 +3,9 @@
 ghost use Rattle.std.specs.Prelude.{◌≡◌, ℕ, ◌<◌, IsFalse, IsTrue, vec_len};
 ghost use Rattle.machine_model.specs.State.{State};
 ghost use Rattle.os9_base.specs.declared.limits.TheConstants.{PROCESS_PLACES};
-ghost use Rattle.os9_kernel.specs.Outside.{Outside};
+ghost use Rattle.os9_kernel.specs.Outside.{Outside, outside};
 ghost use Rattle.os9_kernel.specs.Tie.{Represents};
 ghost use Rattle.os9_kernel.specs.View.{wakes_by_clock as wakes_by_clock_lem};
-ghost use Rattle.console_run.specs.Seen.{devices_seen};
 ghost use Rattle.console_run.specs.Turn.{AllWait};
 ghost use Rattle.console_run.specs.Waiting.{NoneWakes, WaitsForLine};
 
@@ -29,11 +28,11 @@ pub(crate) fn waits_for_line(
 ) -> bool
     requires some { 0 < vec_len devices.old.terms }
     ensures all { IsTrue result → AllWait last kernel.now
-        (devices_seen BlockDriver-box CharDriver-box devices.old) }
+        (outside BlockDriver-box CharDriver-box devices.old) }
     ensures other { IsFalse result → (s : State) → Represents kernel.now
-        (devices_seen BlockDriver-box CharDriver-box devices.old) s → ¬ WaitsForLine last s }
-    ensures kept { devices_seen BlockDriver-box CharDriver-box devices.new
-        ≡ devices_seen BlockDriver-box CharDriver-box devices.old }
+        (outside BlockDriver-box CharDriver-box devices.old) s → ¬ WaitsForLine last s }
+    ensures kept { outside BlockDriver-box CharDriver-box devices.new
+        ≡ outside BlockDriver-box CharDriver-box devices.old }
     ensures terminals { vec_len devices.new.terms ≡ vec_len devices.old.terms }
     ensures drives { vec_len devices.new.drives ≡ vec_len devices.old.drives }
 {

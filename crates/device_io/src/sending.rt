@@ -2,7 +2,7 @@
 
 ghost use Rattle.std.specs.Prelude.{◌≡◌, ◌<◌, length, vec_len};
 ghost use Rattle.os9_base.specs.Cells.{Cells};
-ghost use Rattle.os9_outer.specs.TerminalState.{terminal_states};
+ghost use Rattle.device_table.specs.Seen.{terminals_seen};
 ghost use Rattle.io_rules.specs.Again.{path_number as path_number_lem};
 ghost use Rattle.io_state.specs.Sound.{IsThere};
 ghost use Rattle.device_io.specs.Leaving.{ReadsNoTerminal};
@@ -58,8 +58,7 @@ pub(crate) fn send(
     requires terminals { AreTerminals io.old.paths (vec_len devices.old.terms) }
     ensures call { IsLineFirst kind io.old p.0 bytes.now
         → SendsFrom kind (write_named kind) p regs bytes.now result
-        (streams ⟦<dyn CharDriver as CharDriver>⟧ io.old devices.old.terms.items)
-        (streams ⟦<dyn CharDriver as CharDriver>⟧ io.new devices.new.terms.items) }
+        (streams CharDriver-box io.old devices.old) (streams CharDriver-box io.new devices.new) }
     ensures drives { devices.new.drives ≡ devices.old.drives }
     ensures count { vec_len devices.new.terms ≡ vec_len devices.old.terms }
 {
@@ -108,8 +107,7 @@ fn send_found(
     requires terminals { AreTerminals io.old.paths (vec_len devices.old.terms) }
     ensures call { IsLineFirst kind io.old p.0 bytes.now
         → SendsFrom kind (write_found kind (open_as path desc)) p regs bytes.now result
-        (streams ⟦<dyn CharDriver as CharDriver>⟧ io.old devices.old.terms.items)
-        (streams ⟦<dyn CharDriver as CharDriver>⟧ io.new devices.new.terms.items) }
+        (streams CharDriver-box io.old devices.old) (streams CharDriver-box io.new devices.new) }
     ensures drives { devices.new.drives ≡ devices.old.drives }
     ensures count { vec_len devices.new.terms ≡ vec_len devices.old.terms }
 {
@@ -137,8 +135,7 @@ fn send_open(
     requires terminals { AreTerminals io.old.paths (vec_len devices.old.terms) }
     ensures call { IsLineFirst kind io.old p.0 bytes.now
         → SendsFrom kind (write_open kind (open_as path desc)) p regs bytes.now result
-        (streams ⟦<dyn CharDriver as CharDriver>⟧ io.old devices.old.terms.items)
-        (streams ⟦<dyn CharDriver as CharDriver>⟧ io.new devices.new.terms.items) }
+        (streams CharDriver-box io.old devices.old) (streams CharDriver-box io.new devices.new) }
     ensures drives { devices.new.drives ≡ devices.old.drives }
     ensures count { vec_len devices.new.terms ≡ vec_len devices.old.terms }
 {
@@ -169,8 +166,7 @@ fn send_on(
     requires terminals { AreTerminals io.old.paths (vec_len devices.old.terms) }
     ensures call { IsLineOn target kind bytes.now
         → SendsFrom kind (write_on kind call target) p regs bytes.now result
-        (streams ⟦<dyn CharDriver as CharDriver>⟧ io.old devices.old.terms.items)
-        (streams ⟦<dyn CharDriver as CharDriver>⟧ io.new devices.new.terms.items) }
+        (streams CharDriver-box io.old devices.old) (streams CharDriver-box io.new devices.new) }
     ensures drives { devices.new.drives ≡ devices.old.drives }
     ensures count { vec_len devices.new.terms ≡ vec_len devices.old.terms }
 {
@@ -202,8 +198,7 @@ fn put(
     requires short { length bytes.now < 65536 }
     ensures call { (regs told : Regs) (cells : Cells) → IsLineOf kind bytes.now
         → Sends (put_on kind n bytes.now told) (sender p regs cells) io.old told result io.new
-        (terminal_states ⟦<dyn CharDriver as CharDriver>⟧ devices.old.terms.items)
-        (terminal_states ⟦<dyn CharDriver as CharDriver>⟧ devices.new.terms.items) }
+        (terminals_seen CharDriver-box devices.old) (terminals_seen CharDriver-box devices.new) }
     ensures drives { devices.new.drives ≡ devices.old.drives }
     ensures count { vec_len devices.new.terms ≡ vec_len devices.old.terms }
 {
@@ -225,9 +220,8 @@ fn put_as(
     requires terminal { n < 4 }
     requires there { n < vec_len devices.old.terms }
     requires short { length bytes.now < 65536 }
-    ensures put { IsPut kind p n bytes.now result
-        (streams ⟦<dyn CharDriver as CharDriver>⟧ io.old devices.old.terms.items)
-        (streams ⟦<dyn CharDriver as CharDriver>⟧ io.new devices.new.terms.items) }
+    ensures put { IsPut kind p n bytes.now result (streams CharDriver-box io.old devices.old)
+        (streams CharDriver-box io.new devices.new) }
     ensures drives { devices.new.drives ≡ devices.old.drives }
     ensures count { vec_len devices.new.terms ≡ vec_len devices.old.terms }
 {

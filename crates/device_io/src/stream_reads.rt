@@ -47,11 +47,9 @@ pub fn i_read(s: &mut ProcState, io: &mut IoState, devices: &mut Devices, p: Pid
     requires lives { IsLiving s.old.table p.0 }
     requires may { MayAttempt Call.Read s.old io.old p.0 (vec_len devices.old.terms) }
     ensures call { (drives : ℕ) → AttemptsFrom Call.Read drives p.0 result s.old s.new
-        (streams ⟦<dyn CharDriver as CharDriver>⟧ io.old devices.old.terms.items)
-        (streams ⟦<dyn CharDriver as CharDriver>⟧ io.new devices.new.terms.items) }
+        (streams CharDriver-box io.old devices.old) (streams CharDriver-box io.new devices.new) }
     ensures memory { (drives : ℕ) → WantsMemoryFrom Call.Read drives p.0 result s.old
-        (streams ⟦<dyn CharDriver as CharDriver>⟧ io.old devices.old.terms.items)
-        (streams ⟦<dyn CharDriver as CharDriver>⟧ io.new devices.new.terms.items) }
+        (streams CharDriver-box io.old devices.old) (streams CharDriver-box io.new devices.new) }
     ensures lives { IsLiving s.new.table p.0 }
     ensures drives { devices.new.drives ≡ devices.old.drives }
     ensures count { vec_len devices.new.terms ≡ vec_len devices.old.terms }
@@ -74,11 +72,9 @@ pub fn i_readln(s: &mut ProcState, io: &mut IoState, devices: &mut Devices, p: P
     requires lives { IsLiving s.old.table p.0 }
     requires may { MayAttempt Call.ReadLn s.old io.old p.0 (vec_len devices.old.terms) }
     ensures call { (drives : ℕ) → AttemptsFrom Call.ReadLn drives p.0 result s.old s.new
-        (streams ⟦<dyn CharDriver as CharDriver>⟧ io.old devices.old.terms.items)
-        (streams ⟦<dyn CharDriver as CharDriver>⟧ io.new devices.new.terms.items) }
+        (streams CharDriver-box io.old devices.old) (streams CharDriver-box io.new devices.new) }
     ensures memory { (drives : ℕ) → WantsMemoryFrom Call.ReadLn drives p.0 result s.old
-        (streams ⟦<dyn CharDriver as CharDriver>⟧ io.old devices.old.terms.items)
-        (streams ⟦<dyn CharDriver as CharDriver>⟧ io.new devices.new.terms.items) }
+        (streams CharDriver-box io.old devices.old) (streams CharDriver-box io.new devices.new) }
     ensures lives { IsLiving s.new.table p.0 }
     ensures drives { devices.new.drives ≡ devices.old.drives }
     ensures count { vec_len devices.new.terms ≡ vec_len devices.old.terms }
@@ -101,8 +97,7 @@ fn read(
     requires stays { StaysIfKept (cells_of s.old.memory p.0) regs io.old p.0 }
     requires terminals { AreTerminals io.old.paths (vec_len devices.old.terms) }
     ensures call { TriesFrom (read_step kind) regs p.0 result s.old s.new
-        (streams ⟦<dyn CharDriver as CharDriver>⟧ io.old devices.old.terms.items)
-        (streams ⟦<dyn CharDriver as CharDriver>⟧ io.new devices.new.terms.items) }
+        (streams CharDriver-box io.old devices.old) (streams CharDriver-box io.new devices.new) }
     ensures lives { IsLiving s.new.table p.0 }
     ensures drives { devices.new.drives ≡ devices.old.drives }
     ensures count { vec_len devices.new.terms ≡ vec_len devices.old.terms }
@@ -128,8 +123,7 @@ fn read_named(
     requires named { FitsIn (cells_of s.old.memory p.0) regs.x regs.y }
     requires terminals { AreTerminals io.old.paths (vec_len devices.old.terms) }
     ensures call { TriesFrom (read_named_lem kind) regs p.0 result s.old s.new
-        (streams ⟦<dyn CharDriver as CharDriver>⟧ io.old devices.old.terms.items)
-        (streams ⟦<dyn CharDriver as CharDriver>⟧ io.new devices.new.terms.items) }
+        (streams CharDriver-box io.old devices.old) (streams CharDriver-box io.new devices.new) }
     ensures lives { IsLiving s.new.table p.0 }
     ensures drives { devices.new.drives ≡ devices.old.drives }
     ensures count { vec_len devices.new.terms ≡ vec_len devices.old.terms }
@@ -158,8 +152,7 @@ fn read_found(
     requires finds { Finds io.old p.0 regs.a (open_as path desc) }
     requires terminals { AreTerminals io.old.paths (vec_len devices.old.terms) }
     ensures call { TriesFrom (read_found_lem kind (open_as path desc)) regs p.0 result s.old s.new
-        (streams ⟦<dyn CharDriver as CharDriver>⟧ io.old devices.old.terms.items)
-        (streams ⟦<dyn CharDriver as CharDriver>⟧ io.new devices.new.terms.items) }
+        (streams CharDriver-box io.old devices.old) (streams CharDriver-box io.new devices.new) }
     ensures lives { IsLiving s.new.table p.0 }
     ensures drives { devices.new.drives ≡ devices.old.drives }
     ensures count { vec_len devices.new.terms ≡ vec_len devices.old.terms }
@@ -187,8 +180,7 @@ fn read_open(
     requires finds { Finds io.old p.0 regs.a (open_as path desc) }
     requires terminals { AreTerminals io.old.paths (vec_len devices.old.terms) }
     ensures call { TriesFrom (read_open_lem kind (open_as path desc)) regs p.0 result s.old s.new
-        (streams ⟦<dyn CharDriver as CharDriver>⟧ io.old devices.old.terms.items)
-        (streams ⟦<dyn CharDriver as CharDriver>⟧ io.new devices.new.terms.items) }
+        (streams CharDriver-box io.old devices.old) (streams CharDriver-box io.new devices.new) }
     ensures lives { IsLiving s.new.table p.0 }
     ensures drives { devices.new.drives ≡ devices.old.drives }
     ensures count { vec_len devices.new.terms ≡ vec_len devices.old.terms }
@@ -229,8 +221,7 @@ fn read_on(
     requires there { IsThere io.old target }
     requires terminals { AreTerminals io.old.paths (vec_len devices.old.terms) }
     ensures call { TriesFrom (read_on_lem kind call target) regs p.0 result s.old s.new
-        (streams ⟦<dyn CharDriver as CharDriver>⟧ io.old devices.old.terms.items)
-        (streams ⟦<dyn CharDriver as CharDriver>⟧ io.new devices.new.terms.items) }
+        (streams CharDriver-box io.old devices.old) (streams CharDriver-box io.new devices.new) }
     ensures lives { IsLiving s.new.table p.0 }
     ensures drives { devices.new.drives ≡ devices.old.drives }
     ensures count { vec_len devices.new.terms ≡ vec_len devices.old.terms }

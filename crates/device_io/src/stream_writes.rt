@@ -38,11 +38,9 @@ pub fn i_write(s: &mut ProcState, io: &mut IoState, devices: &mut Devices, p: Pi
     requires lives { IsLiving s.old.table p.0 }
     requires may { MayAttempt Call.Write s.old io.old p.0 (vec_len devices.old.terms) }
     ensures call { (drives : ℕ) → AttemptsFrom Call.Write drives p.0 result s.old s.new
-        (streams ⟦<dyn CharDriver as CharDriver>⟧ io.old devices.old.terms.items)
-        (streams ⟦<dyn CharDriver as CharDriver>⟧ io.new devices.new.terms.items) }
+        (streams CharDriver-box io.old devices.old) (streams CharDriver-box io.new devices.new) }
     ensures memory { (drives : ℕ) → WantsMemoryFrom Call.Write drives p.0 result s.old
-        (streams ⟦<dyn CharDriver as CharDriver>⟧ io.old devices.old.terms.items)
-        (streams ⟦<dyn CharDriver as CharDriver>⟧ io.new devices.new.terms.items) }
+        (streams CharDriver-box io.old devices.old) (streams CharDriver-box io.new devices.new) }
     ensures lives { IsLiving s.new.table p.0 }
     ensures drives { devices.new.drives ≡ devices.old.drives }
     ensures count { vec_len devices.new.terms ≡ vec_len devices.old.terms }
@@ -74,11 +72,9 @@ pub fn i_writln(s: &mut ProcState, io: &mut IoState, devices: &mut Devices, p: P
     requires lives { IsLiving s.old.table p.0 }
     requires may { MayAttempt Call.WritLn s.old io.old p.0 (vec_len devices.old.terms) }
     ensures call { (drives : ℕ) → AttemptsFrom Call.WritLn drives p.0 result s.old s.new
-        (streams ⟦<dyn CharDriver as CharDriver>⟧ io.old devices.old.terms.items)
-        (streams ⟦<dyn CharDriver as CharDriver>⟧ io.new devices.new.terms.items) }
+        (streams CharDriver-box io.old devices.old) (streams CharDriver-box io.new devices.new) }
     ensures memory { (drives : ℕ) → WantsMemoryFrom Call.WritLn drives p.0 result s.old
-        (streams ⟦<dyn CharDriver as CharDriver>⟧ io.old devices.old.terms.items)
-        (streams ⟦<dyn CharDriver as CharDriver>⟧ io.new devices.new.terms.items) }
+        (streams CharDriver-box io.old devices.old) (streams CharDriver-box io.new devices.new) }
     ensures lives { IsLiving s.new.table p.0 }
     ensures drives { devices.new.drives ≡ devices.old.drives }
     ensures count { vec_len devices.new.terms ≡ vec_len devices.old.terms }
@@ -107,11 +103,9 @@ pub fn f_perr(s: &mut ProcState, io: &mut IoState, devices: &mut Devices, p: Pid
     requires lives { IsLiving s.old.table p.0 }
     requires may { MayAttempt Call.PErr s.old io.old p.0 (vec_len devices.old.terms) }
     ensures call { (drives : ℕ) → AttemptsFrom Call.PErr drives p.0 result s.old s.new
-        (streams ⟦<dyn CharDriver as CharDriver>⟧ io.old devices.old.terms.items)
-        (streams ⟦<dyn CharDriver as CharDriver>⟧ io.new devices.new.terms.items) }
+        (streams CharDriver-box io.old devices.old) (streams CharDriver-box io.new devices.new) }
     ensures memory { (drives : ℕ) → WantsMemoryFrom Call.PErr drives p.0 result s.old
-        (streams ⟦<dyn CharDriver as CharDriver>⟧ io.old devices.old.terms.items)
-        (streams ⟦<dyn CharDriver as CharDriver>⟧ io.new devices.new.terms.items) }
+        (streams CharDriver-box io.old devices.old) (streams CharDriver-box io.new devices.new) }
     ensures lives { IsLiving s.new.table p.0 }
     ensures drives { devices.new.drives ≡ devices.old.drives }
     ensures count { vec_len devices.new.terms ≡ vec_len devices.old.terms }

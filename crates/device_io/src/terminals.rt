@@ -46,8 +46,7 @@ pub(crate) fn read_terminal(
     requires may { MayRead io.old p.0 n kind call }
     requires there { n < vec_len devices.old.terms }
     ensures call { TriesFrom (read_terminal_lem kind n call) regs p.0 result s.old s.new
-        (streams ⟦<dyn CharDriver as CharDriver>⟧ io.old devices.old.terms.items)
-        (streams ⟦<dyn CharDriver as CharDriver>⟧ io.new devices.new.terms.items) }
+        (streams CharDriver-box io.old devices.old) (streams CharDriver-box io.new devices.new) }
     ensures lives { IsLiving s.new.table p.0 }
     ensures drives { devices.new.drives ≡ devices.old.drives }
     ensures count { vec_len devices.new.terms ≡ vec_len devices.old.terms }

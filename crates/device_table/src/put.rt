@@ -2,7 +2,8 @@ ghost use Rattle.std.specs.Prelude.{◌≡◌, ℕ, ◌≤◌, Option, OnOk, OnE
 ghost use Rattle.os9_base.specs.Count.{Rose};
 ghost use Rattle.os9_outer.specs.Stream.{stream_with, GainsPart};
 ghost use Rattle.os9_outer.specs.Terminal.{OnFault, UnlessFault};
-ghost use Rattle.os9_outer.specs.TerminalState.{terminal_states, ChangesOneTerminal, Puts};
+ghost use Rattle.os9_outer.specs.TerminalState.{ChangesOneTerminal, Puts};
+ghost use Rattle.device_table.specs.Seen.{terminals_seen};
 
 use crate::devices::Devices;
 use os9_outer::terminal::{CharDriver, PutFault};
@@ -69,8 +70,7 @@ fn put_in_box(term: &mut Box<dyn CharDriver>, bytes: &[u8]) -> Result<(), PutFau
 pub fn put_on(devices: &mut Devices, n: u8, bytes: &[u8]) -> Result<(), PutFault>
     requires { n < vec_len devices.old.terms }
     ensures terminal { ChangesOneTerminal (Puts result bytes.now) n
-        (terminal_states ⟦<dyn CharDriver as CharDriver>⟧ devices.old.terms.items)
-        (terminal_states ⟦<dyn CharDriver as CharDriver>⟧ devices.new.terms.items) }
+        (terminals_seen CharDriver-box devices.old) (terminals_seen CharDriver-box devices.new) }
     ensures drives_kept { devices.new.drives ≡ devices.old.drives }
     ensures some { OnErr result (0 < length bytes.now) }
 {

@@ -1,7 +1,6 @@
 //! I$ChgDir.
 
 ghost use Rattle.std.specs.Prelude.{◌≡◌, List, None, Ok, Err, length, vec_len, if◌then◌else◌};
-ghost use Rattle.file_drives.specs.Drives.{drive_views};
 ghost use Rattle.file_rules.specs.ChgDir.{may_go_to as may_go_to_lem};
 ghost use Rattle.file_rules.specs.declared.path_call.PathCall.TheVariants as Call;
 ghost use Rattle.file_state.specs.Attempt.{standing};
@@ -19,6 +18,7 @@ ghost use Rattle.proc_rules.specs.Records.{IsLiving};
 ghost use Rattle.proc_state.specs.Tie.{IsSame};
 ghost use Rattle.rbf_access.specs.Reading.{IsFdOf};
 ghost use Rattle.rbf_model.specs.File.{DiskFile};
+ghost use Rattle.file_drives.specs.Drives.{drives_seen};
 
 use crate::locating::{Located, locate};
 use crate::modes::{is_for_execution, is_mode};
@@ -48,13 +48,12 @@ use rbf_walk::may;
 pub fn i_chgdir(s: &mut ProcState, files: &mut FileState, devices: &mut Devices, p: Pid) -> CallEnd
     requires lives { IsLiving s.old.table p.0 }
     requires first { kept_at files.old.io p.0 ≡ None }
-    requires sound { IsSound files.old
-        (drive_views ⟦<dyn BlockDriver as BlockDriver>⟧ devices.old.drives.items) }
+    requires sound { IsSound files.old (drives_seen BlockDriver-box devices.old) }
     ensures call { (now : TimePacket) (terms : List TerminalState)
         → length terms ≡ vec_len devices.old.terms
         → AttemptsWithin i_chgdir_calls Call.ChgDir now p.0 result terms terms
-        (standing ⟦<dyn BlockDriver as BlockDriver>⟧ s.old files.old devices.old.drives.items)
-        (standing ⟦<dyn BlockDriver as BlockDriver>⟧ s.new files.new devices.new.drives.items) }
+        (standing BlockDriver-box s.old files.old devices.old)
+        (standing BlockDriver-box s.new files.new devices.new) }
     ensures lives { IsLiving s.new.table p.0 }
     ensures terms_kept { devices.new.terms ≡ devices.old.terms }
 {
@@ -82,12 +81,10 @@ fn find_directory(
     p: Pid,
 ) -> Result<Located, u8>
     requires lives { IsLiving s.old.table p.0 }
-    requires sound { IsSound files.old
-        (drive_views ⟦<dyn BlockDriver as BlockDriver>⟧ devices.old.drives.items) }
+    requires sound { IsSound files.old (drives_seen BlockDriver-box devices.old) }
     ensures finds { LooksFrom IsLocated looks_for_directory i_chgdir_calls p.0
-        (vec_len devices.old.terms) result
-        (standing ⟦<dyn BlockDriver as BlockDriver>⟧ s.old files.old devices.old.drives.items)
-        (standing ⟦<dyn BlockDriver as BlockDriver>⟧ s.new files.new devices.new.drives.items) }
+        (vec_len devices.old.terms) result (standing BlockDriver-box s.old files.old devices.old)
+        (standing BlockDriver-box s.new files.new devices.new) }
     ensures rest_kept { KeepsAllButDisks files.old files.new }
     ensures same { IsSame s.old s.new }
     ensures terms_kept { devices.new.terms ≡ devices.old.terms }

@@ -1,7 +1,7 @@
 //! I$Delete and I$DeletX.
 
 ghost use Rattle.std.specs.Prelude.{◌≡◌, List, None, length, vec_len};
-ghost use Rattle.file_drives.specs.Drives.{drive_views};
+ghost use Rattle.file_drives.specs.Drives.{drives_seen};
 ghost use Rattle.file_drives.specs.Mounted.{HasFileAt};
 ghost use Rattle.file_rules.specs.Delete.{deletes_by};
 ghost use Rattle.file_rules.specs.declared.path_call.PathCall.TheVariants as Call;
@@ -47,13 +47,12 @@ use proc_state::state::ProcState;
 pub fn i_delete(s: &mut ProcState, files: &mut FileState, devices: &mut Devices, p: Pid) -> CallEnd
     requires lives { IsLiving s.old.table p.0 }
     requires first { kept_at files.old.io p.0 ≡ None }
-    requires sound { IsSound files.old
-        (drive_views ⟦<dyn BlockDriver as BlockDriver>⟧ devices.old.drives.items) }
+    requires sound { IsSound files.old (drives_seen BlockDriver-box devices.old) }
     ensures call { (now : TimePacket) (terms : List TerminalState)
         → length terms ≡ vec_len devices.old.terms
         → AttemptsWithin i_delete_calls Call.Delete now p.0 result terms terms
-        (standing ⟦<dyn BlockDriver as BlockDriver>⟧ s.old files.old devices.old.drives.items)
-        (standing ⟦<dyn BlockDriver as BlockDriver>⟧ s.new files.new devices.new.drives.items) }
+        (standing BlockDriver-box s.old files.old devices.old)
+        (standing BlockDriver-box s.new files.new devices.new) }
     ensures lives { IsLiving s.new.table p.0 }
     ensures terms_kept { devices.new.terms ≡ devices.old.terms }
 {
@@ -73,13 +72,12 @@ pub fn i_delete(s: &mut ProcState, files: &mut FileState, devices: &mut Devices,
 pub fn i_deletx(s: &mut ProcState, files: &mut FileState, devices: &mut Devices, p: Pid) -> CallEnd
     requires lives { IsLiving s.old.table p.0 }
     requires first { kept_at files.old.io p.0 ≡ None }
-    requires sound { IsSound files.old
-        (drive_views ⟦<dyn BlockDriver as BlockDriver>⟧ devices.old.drives.items) }
+    requires sound { IsSound files.old (drives_seen BlockDriver-box devices.old) }
     ensures call { (now : TimePacket) (terms : List TerminalState)
         → length terms ≡ vec_len devices.old.terms
         → AttemptsWithin i_deletx_calls Call.DeletX now p.0 result terms terms
-        (standing ⟦<dyn BlockDriver as BlockDriver>⟧ s.old files.old devices.old.drives.items)
-        (standing ⟦<dyn BlockDriver as BlockDriver>⟧ s.new files.new devices.new.drives.items) }
+        (standing BlockDriver-box s.old files.old devices.old)
+        (standing BlockDriver-box s.new files.new devices.new) }
     ensures lives { IsLiving s.new.table p.0 }
     ensures terms_kept { devices.new.terms ≡ devices.old.terms }
 {
@@ -104,13 +102,12 @@ fn delete_named(
     refusal: Option<u8>,
 ) -> Result<u32, u8>
     requires lives { IsLiving s.old.table p.0 }
-    requires sound { IsSound files.old
-        (drive_views ⟦<dyn BlockDriver as BlockDriver>⟧ devices.old.drives.items) }
+    requires sound { IsSound files.old (drives_seen BlockDriver-box devices.old) }
     ensures tries { (now : TimePacket) → TriesFrom
         (λ asker was terms. deletes_by asker was terms execute (refuses_by refusal))
         (deletes_by_calls execute) now p.0 (vec_len devices.old.terms) result
-        (standing ⟦<dyn BlockDriver as BlockDriver>⟧ s.old files.old devices.old.drives.items)
-        (standing ⟦<dyn BlockDriver as BlockDriver>⟧ s.new files.new devices.new.drives.items) }
+        (standing BlockDriver-box s.old files.old devices.old)
+        (standing BlockDriver-box s.new files.new devices.new) }
     ensures io_kept { files.new.io ≡ files.old.io }
     ensures same { IsSame s.old s.new }
     ensures terms_kept { devices.new.terms ≡ devices.old.terms }
@@ -137,11 +134,10 @@ fn delete_in(
     user: u16,
     execute: bool,
 ) -> Result<u32, u8>
-    requires { HasFileAt files.old.disks
-        (drive_views ⟦<dyn BlockDriver as BlockDriver>⟧ devices.old.drives.items) last.directory }
+    requires { HasFileAt files.old.disks (drives_seen BlockDriver-box devices.old) last.directory }
     ensures deletes { DeletesIn user execute last
-        files.old (drive_views ⟦<dyn BlockDriver as BlockDriver>⟧ devices.old.drives.items) result
-        files.new (drive_views ⟦<dyn BlockDriver as BlockDriver>⟧ devices.new.drives.items) }
+        files.old (drives_seen BlockDriver-box devices.old) result
+        files.new (drives_seen BlockDriver-box devices.new) }
     ensures rest_kept { KeepsAllButDisks files.old files.new }
     ensures terms_kept { devices.new.terms ≡ devices.old.terms }
 {

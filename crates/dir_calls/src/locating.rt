@@ -2,7 +2,7 @@
 
 ghost use Rattle.std.specs.Prelude.{◌≡◌, IfOk, vec_len};
 ghost use Rattle.call_rules.specs.Inner.{Inner, cells_at};
-ghost use Rattle.file_drives.specs.Drives.{drive_views};
+ghost use Rattle.file_drives.specs.Drives.{drives_seen};
 ghost use Rattle.file_drives.specs.Mounted.{HasFileAt};
 ghost use Rattle.file_rules.specs.Attempts.{asker_of};
 ghost use Rattle.file_rules.specs.Files.{Files};
@@ -55,16 +55,14 @@ pub(crate) fn lead(
     refusal: Option<u8>,
 ) -> Result<Route, u8>
     requires lives { IsLiving s.old.table p.0 }
-    requires sound { IsSound files.now
-        (drive_views ⟦<dyn BlockDriver as BlockDriver>⟧ devices.now.drives.items) }
+    requires sound { IsSound files.now (drives_seen BlockDriver-box devices.now) }
     ensures route { (m : Inner) (was : Files) (now : TimePacket) → Represents s.old m
-        → StandsFor files.now
-        (drive_views ⟦<dyn BlockDriver as BlockDriver>⟧ devices.now.drives.items) was
+        → StandsFor files.now (drives_seen BlockDriver-box devices.now) was
         → RouteIs (cells_at m p.0) (asker_of m p.0 now) (leads (asker_of m p.0 now) refusal
         (way_for purpose (asker_of m p.0 now) was (vec_len devices.now.terms) execute)) result }
     ensures names { IfOk result (λ route. HasNames (cells_of s.new.memory p.0) route.way) }
     ensures start { IfOk result (λ route. StartsOn files.now.disks
-        (drive_views ⟦<dyn BlockDriver as BlockDriver>⟧ devices.now.drives.items) route.way) }
+        (drives_seen BlockDriver-box devices.now) route.way) }
     ensures same { IsSame s.old s.new }
 {
     let query = Query {
@@ -93,14 +91,13 @@ pub(crate) fn locate(
     refusal: Option<u8>,
 ) -> Result<Located, u8>
     requires lives { IsLiving s.old.table p.0 }
-    requires sound { IsSound files.old
-        (drive_views ⟦<dyn BlockDriver as BlockDriver>⟧ devices.old.drives.items) }
+    requires sound { IsSound files.old (drives_seen BlockDriver-box devices.old) }
     ensures locates { LooksFrom IsLocated (locates execute refusal)
         (located_calls execute (λ v file. 0)) p.0 (vec_len devices.old.terms) result
-        (standing ⟦<dyn BlockDriver as BlockDriver>⟧ s.old files.old devices.old.drives.items)
-        (standing ⟦<dyn BlockDriver as BlockDriver>⟧ s.new files.new devices.new.drives.items) }
+        (standing BlockDriver-box s.old files.old devices.old)
+        (standing BlockDriver-box s.new files.new devices.new) }
     ensures there { IfOk result (λ located. HasFileAt files.new.disks
-        (drive_views ⟦<dyn BlockDriver as BlockDriver>⟧ devices.new.drives.items) located.place) }
+        (drives_seen BlockDriver-box devices.new) located.place) }
     ensures rest_kept { KeepsAllButDisks files.old files.new }
     ensures same { IsSame s.old s.new }
     ensures terms_kept { devices.new.terms ≡ devices.old.terms }

@@ -1,7 +1,7 @@
 //! I$MakDir.
 
 ghost use Rattle.std.specs.Prelude.{◌≡◌, List, None, length, vec_len};
-ghost use Rattle.file_drives.specs.Drives.{drive_views};
+ghost use Rattle.file_drives.specs.Drives.{drives_seen};
 ghost use Rattle.file_drives.specs.Mounted.{HasFileAt};
 ghost use Rattle.file_rules.specs.MakDir.{i_makdir as i_makdir_lem};
 ghost use Rattle.file_rules.specs.declared.path_call.PathCall.TheVariants as Call;
@@ -55,12 +55,11 @@ pub fn i_makdir(
 ) -> CallEnd
     requires lives { IsLiving s.old.table p.0 }
     requires first { kept_at files.old.io p.0 ≡ None }
-    requires sound { IsSound files.old
-        (drive_views ⟦<dyn BlockDriver as BlockDriver>⟧ devices.old.drives.items) }
+    requires sound { IsSound files.old (drives_seen BlockDriver-box devices.old) }
     ensures call { (terms : List TerminalState) → length terms ≡ vec_len devices.old.terms
         → AttemptsWithin i_makdir_calls Call.MakDir now p.0 result terms terms
-        (standing ⟦<dyn BlockDriver as BlockDriver>⟧ s.old files.old devices.old.drives.items)
-        (standing ⟦<dyn BlockDriver as BlockDriver>⟧ s.new files.new devices.new.drives.items) }
+        (standing BlockDriver-box s.old files.old devices.old)
+        (standing BlockDriver-box s.new files.new devices.new) }
     ensures lives { IsLiving s.new.table p.0 }
     ensures terms_kept { devices.new.terms ≡ devices.old.terms }
 {
@@ -81,11 +80,10 @@ fn make_directory(
     now: TimePacket,
 ) -> Result<u32, u8>
     requires lives { IsLiving s.old.table p.0 }
-    requires sound { IsSound files.old
-        (drive_views ⟦<dyn BlockDriver as BlockDriver>⟧ devices.old.drives.items) }
+    requires sound { IsSound files.old (drives_seen BlockDriver-box devices.old) }
     ensures tries { TriesFrom i_makdir_lem i_makdir_calls now p.0 (vec_len devices.old.terms) result
-        (standing ⟦<dyn BlockDriver as BlockDriver>⟧ s.old files.old devices.old.drives.items)
-        (standing ⟦<dyn BlockDriver as BlockDriver>⟧ s.new files.new devices.new.drives.items) }
+        (standing BlockDriver-box s.old files.old devices.old)
+        (standing BlockDriver-box s.new files.new devices.new) }
     ensures io_kept { files.new.io ≡ files.old.io }
     ensures same { IsSame s.old s.new }
     ensures terms_kept { devices.new.terms ≡ devices.old.terms }
@@ -116,11 +114,9 @@ fn make_in(
     last: LastLocated,
     making: Making,
 ) -> Result<u32, u8>
-    requires { HasFileAt files.old.disks
-        (drive_views ⟦<dyn BlockDriver as BlockDriver>⟧ devices.old.drives.items) last.directory }
-    ensures makes { MakesIn making last
-        files.old (drive_views ⟦<dyn BlockDriver as BlockDriver>⟧ devices.old.drives.items) result
-        files.new (drive_views ⟦<dyn BlockDriver as BlockDriver>⟧ devices.new.drives.items) }
+    requires { HasFileAt files.old.disks (drives_seen BlockDriver-box devices.old) last.directory }
+    ensures makes { MakesIn making last files.old (drives_seen BlockDriver-box devices.old) result
+        files.new (drives_seen BlockDriver-box devices.new) }
     ensures rest_kept { KeepsAllButDisks files.old files.new }
     ensures terms_kept { devices.new.terms ≡ devices.old.terms }
 {

@@ -1,7 +1,7 @@
 //! The last name of a call's path list, and the directory in which it has to be looked up.
 
 ghost use Rattle.std.specs.Prelude.{◌≡◌, IfOk, vec_len};
-ghost use Rattle.file_drives.specs.Drives.{drive_views};
+ghost use Rattle.file_drives.specs.Drives.{drives_seen};
 ghost use Rattle.file_drives.specs.Mounted.{HasFileAt};
 ghost use Rattle.file_state.specs.Attempt.{standing};
 ghost use Rattle.file_state.specs.Tie.{IsSound};
@@ -55,14 +55,13 @@ pub(crate) fn locate_last(
     refusal: Option<u8>,
 ) -> Result<LastLocated, u8>
     requires lives { IsLiving s.old.table p.0 }
-    requires sound { IsSound files.old
-        (drive_views ⟦<dyn BlockDriver as BlockDriver>⟧ devices.old.drives.items) }
+    requires sound { IsSound files.old (drives_seen BlockDriver-box devices.old) }
     ensures locates { LooksFrom (IsNamed purpose) (names_last purpose execute refusal)
         (named_calls purpose execute (λ name v dir. 0)) p.0 (vec_len devices.old.terms) result
-        (standing ⟦<dyn BlockDriver as BlockDriver>⟧ s.old files.old devices.old.drives.items)
-        (standing ⟦<dyn BlockDriver as BlockDriver>⟧ s.new files.new devices.new.drives.items) }
+        (standing BlockDriver-box s.old files.old devices.old)
+        (standing BlockDriver-box s.new files.new devices.new) }
     ensures there { IfOk result (λ last. HasFileAt files.new.disks
-        (drive_views ⟦<dyn BlockDriver as BlockDriver>⟧ devices.new.drives.items) last.directory) }
+        (drives_seen BlockDriver-box devices.new) last.directory) }
     ensures rest_kept { KeepsAllButDisks files.old files.new }
     ensures same { IsSame s.old s.new }
     ensures terms_kept { devices.new.terms ≡ devices.old.terms }

@@ -1,6 +1,7 @@
 ghost use Rattle.std.specs.Prelude.{◌≡◌, ◌<◌, vec_len};
 ghost use Rattle.os9_outer.specs.Stream.{emptied};
-ghost use Rattle.os9_outer.specs.TerminalState.{terminal_states, ChangesOneTerminal};
+ghost use Rattle.os9_outer.specs.TerminalState.{ChangesOneTerminal};
+ghost use Rattle.device_table.specs.Seen.{terminals_seen};
 ghost use Rattle.event_rules.specs.Console.{terminals_emptied};
 ghost use Rattle.event_run.specs.Devices.{IsEmptied};
 
@@ -28,9 +29,8 @@ fn empty_box(term: &mut Box<dyn CharDriver>)
 // The same for the terminal of this number.
 fn empty_at(devices: &mut Devices, n: usize)
     requires { n < vec_len devices.old.terms }
-    ensures terminal { ChangesOneTerminal IsEmptied n
-        (terminal_states ⟦<dyn CharDriver as CharDriver>⟧ devices.old.terms.items)
-        (terminal_states ⟦<dyn CharDriver as CharDriver>⟧ devices.new.terms.items) }
+    ensures terminal { ChangesOneTerminal IsEmptied n (terminals_seen CharDriver-box devices.old)
+        (terminals_seen CharDriver-box devices.new) }
     ensures terminals { vec_len devices.new.terms ≡ vec_len devices.old.terms }
     ensures drives_kept { devices.new.drives ≡ devices.old.drives }
 {
@@ -39,9 +39,8 @@ fn empty_at(devices: &mut Devices, n: usize)
 
 /// Takes the bytes that were put on the terminals.
 pub fn empty_terminals(devices: &mut Devices)
-    ensures emptied { terminal_states ⟦<dyn CharDriver as CharDriver>⟧ devices.new.terms.items
-        ≡ terminals_emptied
-        (terminal_states ⟦<dyn CharDriver as CharDriver>⟧ devices.old.terms.items) }
+    ensures emptied { terminals_seen CharDriver-box devices.new ≡ terminals_emptied
+        (terminals_seen CharDriver-box devices.old) }
     ensures terminals { vec_len devices.new.terms ≡ vec_len devices.old.terms }
     ensures drives_kept { devices.new.drives ≡ devices.old.drives }
 {

@@ -132,12 +132,10 @@ impl Position {
         devices: &mut Devices,
     ) -> Result<Step, OutOfMemory>
         requires goes_on { CanGoOn slices.now self.old
-            (outside ⟦<dyn BlockDriver as BlockDriver>⟧ devices.old.drives.items
-            ⟦<dyn CharDriver as CharDriver>⟧ devices.old.terms.items) }
+            (outside BlockDriver-box CharDriver-box devices.old) }
         requires later { self.old.events ≤ k }
         ensures gone { OnDevices (HasGone k slices.now self.old self.new result)
-            ⟦<dyn BlockDriver as BlockDriver>⟧ devices.old.drives.items devices.new.drives.items
-            ⟦<dyn CharDriver as CharDriver>⟧ devices.old.terms.items devices.new.terms.items }
+            BlockDriver-box CharDriver-box devices.old devices.new }
         ensures terminals { vec_len devices.new.terms ≡ vec_len devices.old.terms }
         ensures drives { vec_len devices.new.drives ≡ vec_len devices.old.drives }
     {
@@ -158,11 +156,9 @@ impl Position {
     // The next step. Begins slices for an event if none is under way.
     fn find_event(&mut self, slices: &[u32], devices: &mut Devices) -> Result<Step, OutOfMemory>
         requires { CanGoOn slices.now self.old
-            (outside ⟦<dyn BlockDriver as BlockDriver>⟧ devices.old.drives.items
-            ⟦<dyn CharDriver as CharDriver>⟧ devices.old.terms.items) }
+            (outside BlockDriver-box CharDriver-box devices.old) }
         ensures found { OnDevices (HasFound slices.now self.old self.new result)
-            ⟦<dyn BlockDriver as BlockDriver>⟧ devices.old.drives.items devices.new.drives.items
-            ⟦<dyn CharDriver as CharDriver>⟧ devices.old.terms.items devices.new.terms.items }
+            BlockDriver-box CharDriver-box devices.old devices.new }
         ensures terminals { vec_len devices.new.terms ≡ vec_len devices.old.terms }
         ensures drives { vec_len devices.new.drives ≡ vec_len devices.old.drives }
     {
@@ -176,12 +172,10 @@ impl Position {
     // Begins the next slices, up to one that has an event, if there is one.
     fn find_slice(&mut self, slices: &[u32], devices: &mut Devices) -> Result<Step, OutOfMemory>
         requires goes_on { CanGoOn slices.now self.old
-            (outside ⟦<dyn BlockDriver as BlockDriver>⟧ devices.old.drives.items
-            ⟦<dyn CharDriver as CharDriver>⟧ devices.old.terms.items) }
+            (outside BlockDriver-box CharDriver-box devices.old) }
         requires between { self.old.slice ≡ 0 }
         ensures found { OnDevices (HasFound slices.now self.old self.new result)
-            ⟦<dyn BlockDriver as BlockDriver>⟧ devices.old.drives.items devices.new.drives.items
-            ⟦<dyn CharDriver as CharDriver>⟧ devices.old.terms.items devices.new.terms.items }
+            BlockDriver-box CharDriver-box devices.old devices.new }
         ensures terminals { vec_len devices.new.terms ≡ vec_len devices.old.terms }
         ensures drives { vec_len devices.new.drives ≡ vec_len devices.old.drives }
     {
@@ -203,12 +197,10 @@ impl Position {
     fn begin_slice(&mut self, n: u32, devices: &mut Devices) -> Result<Step, OutOfMemory>
         requires count { ticks self.old.kernel < LAST_TICK }
         requires stands { Stands self.old.kernel
-            (outside ⟦<dyn BlockDriver as BlockDriver>⟧ devices.old.drives.items
-            ⟦<dyn CharDriver as CharDriver>⟧ devices.old.terms.items) }
+            (outside BlockDriver-box CharDriver-box devices.old) }
         requires between { self.old.slice ≡ 0 }
         ensures begun { OnDevices (HasBegun n self.old self.new result)
-            ⟦<dyn BlockDriver as BlockDriver>⟧ devices.old.drives.items devices.new.drives.items
-            ⟦<dyn CharDriver as CharDriver>⟧ devices.old.terms.items devices.new.terms.items }
+            BlockDriver-box CharDriver-box devices.old devices.new }
         ensures terminals { vec_len devices.new.terms ≡ vec_len devices.old.terms }
         ensures drives { vec_len devices.new.drives ≡ vec_len devices.old.drives }
     {
@@ -228,14 +220,12 @@ impl Position {
     // A turn in the current slice: its next event or events, up to the one of number `k`.
     fn turn(&mut self, k: u64, devices: &mut Devices) -> Result<(), OutOfMemory>
         requires stands { Stands self.old.kernel
-            (outside ⟦<dyn BlockDriver as BlockDriver>⟧ devices.old.drives.items
-            ⟦<dyn CharDriver as CharDriver>⟧ devices.old.terms.items) }
+            (outside BlockDriver-box CharDriver-box devices.old) }
         requires going { IsGoing self.old.kernel }
         requires left { executed self.old.kernel < self.old.slice }
         requires before { self.old.events < k }
         ensures turn { OnDevices (HasEvents k self.old self.new result)
-            ⟦<dyn BlockDriver as BlockDriver>⟧ devices.old.drives.items devices.new.drives.items
-            ⟦<dyn CharDriver as CharDriver>⟧ devices.old.terms.items devices.new.terms.items }
+            BlockDriver-box CharDriver-box devices.old devices.new }
         ensures terminals { vec_len devices.new.terms ≡ vec_len devices.old.terms }
         ensures drives { vec_len devices.new.drives ≡ vec_len devices.old.drives }
     {

@@ -1,14 +1,14 @@
 //! The calls on paths, files and directories by their names.
 
 ghost use Rattle.std.specs.Prelude.{◌≡◌, vec_len};
+ghost use Rattle.device_table.specs.Seen.{terminals_seen};
 ghost use Rattle.file_dispatch.specs.Attempts.{MayAttempt, TriesAt};
 ghost use Rattle.file_dispatch.specs.Calls.{kind_call};
 ghost use Rattle.file_dispatch.specs.Dates.{sets_date as sets_date_lem};
-ghost use Rattle.file_drives.specs.Drives.{drive_views};
 ghost use Rattle.file_state.specs.Attempt.{standing};
 ghost use Rattle.file_state.specs.Tie.{IsSound};
-ghost use Rattle.os9_outer.specs.TerminalState.{terminal_states};
 ghost use Rattle.proc_rules.specs.Records.{IsLiving};
+ghost use Rattle.file_drives.specs.Drives.{drives_seen};
 
 use crate::lists::{ListCall, attempt_on_list};
 use crate::numbers::{NumberCall, attempt_on_number};
@@ -98,13 +98,11 @@ pub fn attempt(
 ) -> CallEnd
     requires lives { IsLiving s.old.table p.0 }
     requires may { MayAttempt call s.old files.old p.0 (vec_len devices.old.terms) }
-    requires sound { IsSound files.old
-        (drive_views ⟦<dyn BlockDriver as BlockDriver>⟧ devices.old.drives.items) }
-    ensures call { TriesAt call now p.0 result
-        (terminal_states ⟦<dyn CharDriver as CharDriver>⟧ devices.old.terms.items)
-        (terminal_states ⟦<dyn CharDriver as CharDriver>⟧ devices.new.terms.items)
-        (standing ⟦<dyn BlockDriver as BlockDriver>⟧ s.old files.old devices.old.drives.items)
-        (standing ⟦<dyn BlockDriver as BlockDriver>⟧ s.new files.new devices.new.drives.items) }
+    requires sound { IsSound files.old (drives_seen BlockDriver-box devices.old) }
+    ensures call { TriesAt call now p.0 result (terminals_seen CharDriver-box devices.old)
+        (terminals_seen CharDriver-box devices.new)
+        (standing BlockDriver-box s.old files.old devices.old)
+        (standing BlockDriver-box s.new files.new devices.new) }
     ensures lives { IsLiving s.new.table p.0 }
     ensures count { vec_len devices.new.terms ≡ vec_len devices.old.terms }
 {

@@ -1,11 +1,11 @@
 //! Calls on terminals and pipes, as calls on paths, files and directories.
 
 ghost use Rattle.std.specs.Prelude.{◌≡◌, None, vec_len};
+ghost use Rattle.device_table.specs.Seen.{terminals_seen};
 ghost use Rattle.file_dispatch.specs.Attempts.{TriesOnDevice};
 ghost use Rattle.file_state.specs.Attempt.{standing};
 ghost use Rattle.io_dispatch.specs.Staying.{MayAttempt};
 ghost use Rattle.io_rules.specs.Io.{kept_at};
-ghost use Rattle.os9_outer.specs.TerminalState.{terminal_states};
 ghost use Rattle.proc_rules.specs.Records.{IsLiving};
 
 use device_table::devices::Devices;
@@ -38,10 +38,9 @@ pub fn attempt_on_device(
     requires may { MayAttempt device s.old files.old.io p.0 (vec_len devices.old.terms) }
     requires status { device ≡ IoCall.SetStt → kept_at files.old.io p.0 ≡ None }
     ensures call { TriesOnDevice device p.0 (vec_len devices.old.drives) result
-        (terminal_states ⟦<dyn CharDriver as CharDriver>⟧ devices.old.terms.items)
-        (terminal_states ⟦<dyn CharDriver as CharDriver>⟧ devices.new.terms.items)
-        (standing ⟦<dyn BlockDriver as BlockDriver>⟧ s.old files.old devices.old.drives.items)
-        (standing ⟦<dyn BlockDriver as BlockDriver>⟧ s.new files.new devices.new.drives.items) }
+        (terminals_seen CharDriver-box devices.old) (terminals_seen CharDriver-box devices.new)
+        (standing BlockDriver-box s.old files.old devices.old)
+        (standing BlockDriver-box s.new files.new devices.new) }
     ensures lives { IsLiving s.new.table p.0 }
     ensures drives { devices.new.drives ≡ devices.old.drives }
     ensures count { vec_len devices.new.terms ≡ vec_len devices.old.terms }

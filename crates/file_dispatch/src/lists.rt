@@ -4,7 +4,6 @@ ghost use Rattle.std.specs.Prelude.{◌≡◌, None, List, length, vec_len};
 ghost use Rattle.file_dispatch.specs.Bounds.{attempt_calls};
 ghost use Rattle.file_dispatch.specs.Calls.{list_call};
 ghost use Rattle.file_dispatch.specs.Dates.{IsTimeFor};
-ghost use Rattle.file_drives.specs.Drives.{drive_views};
 ghost use Rattle.file_state.specs.Attempt.{standing};
 ghost use Rattle.file_state.specs.Counted.{AttemptsWithin};
 ghost use Rattle.file_state.specs.Tie.{IsSound};
@@ -12,6 +11,7 @@ ghost use Rattle.io_rules.specs.Io.{kept_at};
 ghost use Rattle.os9_base.specs.declared.registers.TimePacket.{TimePacket};
 ghost use Rattle.os9_outer.specs.TerminalState.{TerminalState};
 ghost use Rattle.proc_rules.specs.Records.{IsLiving};
+ghost use Rattle.file_drives.specs.Drives.{drives_seen};
 
 use device_table::devices::Devices;
 use dir_calls::chgdir::i_chgdir;
@@ -59,14 +59,12 @@ pub fn attempt_on_list(
 ) -> CallEnd
     requires lives { IsLiving s.old.table p.0 }
     requires first { kept_at files.old.io p.0 ≡ None }
-    requires sound { IsSound files.old
-        (drive_views ⟦<dyn BlockDriver as BlockDriver>⟧ devices.old.drives.items) }
+    requires sound { IsSound files.old (drives_seen BlockDriver-box devices.old) }
     ensures call { (time : TimePacket) (terms : List TerminalState)
         → IsTimeFor (list_call call) now time → length terms ≡ vec_len devices.old.terms
         → AttemptsWithin (attempt_calls (list_call call)) (list_call call) time p.0 result terms
-        terms
-        (standing ⟦<dyn BlockDriver as BlockDriver>⟧ s.old files.old devices.old.drives.items)
-        (standing ⟦<dyn BlockDriver as BlockDriver>⟧ s.new files.new devices.new.drives.items) }
+        terms (standing BlockDriver-box s.old files.old devices.old)
+        (standing BlockDriver-box s.new files.new devices.new) }
     ensures lives { IsLiving s.new.table p.0 }
     ensures terms_kept { devices.new.terms ≡ devices.old.terms }
 {

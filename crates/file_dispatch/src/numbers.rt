@@ -1,13 +1,13 @@
 //! Calls on the number of a path.
 
 ghost use Rattle.std.specs.Prelude.{◌≡◌, vec_len};
+ghost use Rattle.device_table.specs.Seen.{terminals_seen};
 ghost use Rattle.file_dispatch.specs.Attempts.{MayAttempt, TriesAt};
 ghost use Rattle.file_dispatch.specs.Numbers.{number_call};
-ghost use Rattle.file_drives.specs.Drives.{drive_views};
 ghost use Rattle.file_state.specs.Attempt.{standing};
 ghost use Rattle.file_state.specs.Tie.{IsSound};
-ghost use Rattle.os9_outer.specs.TerminalState.{terminal_states};
 ghost use Rattle.proc_rules.specs.Records.{IsLiving};
+ghost use Rattle.file_drives.specs.Drives.{drives_seen};
 
 use crate::device::attempt_on_device;
 use crate::path::{close_path, seek_path, use_path};
@@ -53,13 +53,11 @@ pub fn attempt_on_number(
 ) -> CallEnd
     requires lives { IsLiving s.old.table p.0 }
     requires may { MayAttempt (number_call call) s.old files.old p.0 (vec_len devices.old.terms) }
-    requires sound { IsSound files.old
-        (drive_views ⟦<dyn BlockDriver as BlockDriver>⟧ devices.old.drives.items) }
+    requires sound { IsSound files.old (drives_seen BlockDriver-box devices.old) }
     ensures call { TriesAt (number_call call) now p.0 result
-        (terminal_states ⟦<dyn CharDriver as CharDriver>⟧ devices.old.terms.items)
-        (terminal_states ⟦<dyn CharDriver as CharDriver>⟧ devices.new.terms.items)
-        (standing ⟦<dyn BlockDriver as BlockDriver>⟧ s.old files.old devices.old.drives.items)
-        (standing ⟦<dyn BlockDriver as BlockDriver>⟧ s.new files.new devices.new.drives.items) }
+        (terminals_seen CharDriver-box devices.old) (terminals_seen CharDriver-box devices.new)
+        (standing BlockDriver-box s.old files.old devices.old)
+        (standing BlockDriver-box s.new files.new devices.new) }
     ensures lives { IsLiving s.new.table p.0 }
     ensures count { vec_len devices.new.terms ≡ vec_len devices.old.terms }
 {

@@ -5,7 +5,7 @@ ghost use Rattle.file_io.specs.Opened.{IsOpened};
 ghost use Rattle.file_dispatch.specs.Attempts.{TriesAt, TriesFileAt, TriesFrom};
 ghost use Rattle.file_dispatch.specs.Bounds.{attempt_calls};
 ghost use Rattle.file_dispatch.specs.Uses.{call_of, device_of};
-ghost use Rattle.file_drives.specs.Drives.{DriveView, drive_views};
+ghost use Rattle.file_drives.specs.Drives.{DriveView, drives_seen};
 ghost use Rattle.file_rules.specs.declared.path_call.PathCall.TheVariants as Call;
 ghost use Rattle.file_state.specs.Asking.{KeepsRequest, TriesAgain};
 ghost use Rattle.file_state.specs.Attempt.{standing};
@@ -16,7 +16,8 @@ ghost use Rattle.io_dispatch.specs.Staying.{MayAttempt};
 ghost use Rattle.io_rules.specs.Again.{path_number};
 ghost use Rattle.io_rules.specs.Io.{kept_at};
 ghost use Rattle.os9_base.specs.declared.registers.TimePacket.{TimePacket};
-ghost use Rattle.os9_outer.specs.TerminalState.{TerminalState, terminal_states};
+ghost use Rattle.os9_outer.specs.TerminalState.{TerminalState};
+ghost use Rattle.device_table.specs.Seen.{terminals_seen};
 ghost use Rattle.proc_rules.specs.Records.{IsLiving, record_at};
 
 use crate::device::attempt_on_device;
@@ -55,13 +56,11 @@ pub fn use_path(
     requires lives { IsLiving s.old.table p.0 }
     requires may { MayAttempt (device_of call) s.old files.old.io p.0 (vec_len devices.old.terms) }
     requires kept { KeepsRequest files.old.io files.old.records.locks p.0 }
-    requires sound { IsSound files.old
-        (drive_views ⟦<dyn BlockDriver as BlockDriver>⟧ devices.old.drives.items) }
-    ensures call { TriesAt (call_of call) now p.0 result
-        (terminal_states ⟦<dyn CharDriver as CharDriver>⟧ devices.old.terms.items)
-        (terminal_states ⟦<dyn CharDriver as CharDriver>⟧ devices.new.terms.items)
-        (standing ⟦<dyn BlockDriver as BlockDriver>⟧ s.old files.old devices.old.drives.items)
-        (standing ⟦<dyn BlockDriver as BlockDriver>⟧ s.new files.new devices.new.drives.items) }
+    requires sound { IsSound files.old (drives_seen BlockDriver-box devices.old) }
+    ensures call { TriesAt (call_of call) now p.0 result (terminals_seen CharDriver-box devices.old)
+        (terminals_seen CharDriver-box devices.new)
+        (standing BlockDriver-box s.old files.old devices.old)
+        (standing BlockDriver-box s.new files.new devices.new) }
     ensures lives { IsLiving s.new.table p.0 }
     ensures count { vec_len devices.new.terms ≡ vec_len devices.old.terms }
 {
@@ -88,13 +87,12 @@ fn use_file(
 ) -> CallEnd
     requires lives { IsLiving s.old.table p.0 }
     requires again { TriesAgain (device_of call) (record_at s.old.table p.0).regs files.old p.0 }
-    requires sound { IsSound files.old
-        (drive_views ⟦<dyn BlockDriver as BlockDriver>⟧ devices.old.drives.items) }
+    requires sound { IsSound files.old (drives_seen BlockDriver-box devices.old) }
     requires opened { IsOpened files.old p.0
         (path_number (device_of call) (record_at s.old.table p.0).regs) opened.now }
     ensures call { TriesFileAt (call_of call) now p.0 result
-        (standing ⟦<dyn BlockDriver as BlockDriver>⟧ s.old files.old devices.old.drives.items)
-        (standing ⟦<dyn BlockDriver as BlockDriver>⟧ s.new files.new devices.new.drives.items) }
+        (standing BlockDriver-box s.old files.old devices.old)
+        (standing BlockDriver-box s.new files.new devices.new) }
     ensures lives { IsLiving s.new.table p.0 }
     ensures terms_kept { devices.new.terms ≡ devices.old.terms }
 {
@@ -154,10 +152,9 @@ pub fn close_path(
     requires lives { IsLiving s.old.table p.0 }
     requires may { MayAttempt IoCall.Close s.old files.old.io p.0 (vec_len devices.old.terms) }
     ensures call { (now : TimePacket) → TriesFrom Call.Close now p.0 result
-        (terminal_states ⟦<dyn CharDriver as CharDriver>⟧ devices.old.terms.items)
-        (terminal_states ⟦<dyn CharDriver as CharDriver>⟧ devices.new.terms.items)
-        (standing ⟦<dyn BlockDriver as BlockDriver>⟧ s.old files.old devices.old.drives.items)
-        (standing ⟦<dyn BlockDriver as BlockDriver>⟧ s.new files.new devices.new.drives.items) }
+        (terminals_seen CharDriver-box devices.old) (terminals_seen CharDriver-box devices.new)
+        (standing BlockDriver-box s.old files.old devices.old)
+        (standing BlockDriver-box s.new files.new devices.new) }
     ensures lives { IsLiving s.new.table p.0 }
     ensures count { vec_len devices.new.terms ≡ vec_len devices.old.terms }
 {

@@ -29,7 +29,7 @@ use Rattle.file_drives.proofs.PlacedLemmas.{changes-volume, view-before}
 use Rattle.file_drives.proofs.SlotLemmas.{mounted-as, mounted-left}
 use Rattle.file_drives.specs.Calls.{deleting_calls}
 use Rattle.file_drives.specs.Changed.{Asked, ChangeIsMade, ChangesVolume, file_answer}
-use Rattle.file_drives.specs.Drives.{DriveView, boxed_drive_view, lent_drive_view}
+use Rattle.file_drives.specs.Drives.{DriveView, drive_view}
 use Rattle.file_drives.specs.Entries.{IsDeletableOn, IsDeletionOn, MayBeDeletedOn}
 use Rattle.file_drives.specs.Mounted.{HasFileAt}
 use Rattle.file_drives.specs.SlotCalls.{AsksToDelete, DeletesOn}
@@ -119,16 +119,16 @@ file-to-delete (Some volume) view n found may has = record {
 module _ {Table : Type 0} {Driver : Table → Type 0} (members : (table : Table) → Ghosts (Driver table))
     (drive : DynBox Table Global Driver) (lent : (table : Table) × Driver table)
     (same : lent ≡ (drive.vtable, drive.value)) where
-  pub lent-file : (kept : Option Volume) (n : ℕ) → HasFileOn kept (boxed_drive_view members drive) n → HasFileOn kept (lent_drive_view members lent) n
-  lent-file kept n has = subst (λ d. HasFileOn kept (lent_drive_view members d) n) (sym same) has
+  pub lent-file : (kept : Option Volume) (n : ℕ) → HasFileOn kept (drive_view (members drive.vtable) drive.value) n → HasFileOn kept (drive_view (members lent.0) lent.1) n
+  lent-file kept n has = subst (λ d. HasFileOn kept (drive_view (members d.0) d.1) n) (sym same) has
 
-  pub lent-entry : (found : Deletable) → MayBeDeleted (boxed_drive_view members drive).media found → MayBeDeleted (lent_drive_view members lent).media found
-  lent-entry found may = subst (λ d. MayBeDeleted (lent_drive_view members d).media found) (sym same) may
+  pub lent-entry : (found : Deletable) → MayBeDeleted (drive_view (members drive.vtable) drive.value).media found → MayBeDeleted (drive_view (members lent.0) lent.1).media found
+  lent-entry found may = subst (λ d. MayBeDeleted (drive_view (members d.0) d.1).media found) (sym same) may
 
   pub deletes-boxed : (n : ℕ) (found : Deletable) (result : Result (Unit {0}) FileFault) (kept new : Option Volume)
-      (after : DriveView) → DeletesOn n found result kept (lent_drive_view members lent) new after → DeletesOn n found
-      result kept (boxed_drive_view members drive) new after
-  deletes-boxed n found result kept new after it = subst (λ d. DeletesOn n found result kept (lent_drive_view members d) new after) same it
+      (after : DriveView) → DeletesOn n found result kept (drive_view (members lent.0) lent.1) new after → DeletesOn n found
+      result kept (drive_view (members drive.vtable) drive.value) new after
+  deletes-boxed n found result kept new after it = subst (λ d. DeletesOn n found result kept (drive_view (members d.0) d.1) new after) same it
 
 -- ---- on the drives of a machine
 

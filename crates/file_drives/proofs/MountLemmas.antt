@@ -12,7 +12,7 @@ use Rattle.rbf_access.specs.declared.faults.VolFault.{VolFault}
 use Rattle.rbf_access.specs.declared.volume.Volume.{Volume}
 use Rattle.file_drives.proofs.MountedLemmas.{mounted-set}
 use Rattle.file_drives.proofs.SlotLemmas.{mounted-still}
-use Rattle.file_drives.specs.Drives.{DriveView, boxed_drive_view, lent_drive_view}
+use Rattle.file_drives.specs.Drives.{DriveView, drive_view}
 use Rattle.file_drives.specs.Mounted.{AgreesOnDrive, AreMounted, MountsAs, ReadsToMount, kept_at, mounted_at}
 
 -- what agrees with a drive agrees where its media stayed
@@ -56,15 +56,15 @@ module _ {Driver : Type 0} (view : Driver → DriveView) (items disks : List (Op
 -- the drive in a box is lent as it is there
 pub mounts-boxed : {Table : Type 0} {Driver : Table → Type 0} (members : (table : Table) → Ghosts (Driver table))
     (drive : DynBox Table Global Driver) (lent : (table : Table) × Driver table) → lent ≡ (drive.vtable, drive.value)
-    → (result : Result (Unit {0}) VolFault) (after : DriveView) → ReadsToMount result (lent_drive_view members lent)
-    after → ReadsToMount result (boxed_drive_view members drive) after
-mounts-boxed members drive lent same result after it = subst (λ d. ReadsToMount result (lent_drive_view members d) after) same it
+    → (result : Result (Unit {0}) VolFault) (after : DriveView) → ReadsToMount result (drive_view (members lent.0) lent.1)
+    after → ReadsToMount result (drive_view (members drive.vtable) drive.value) after
+mounts-boxed members drive lent same result after it = subst (λ d. ReadsToMount result (drive_view (members d.0) d.1) after) same it
 
 pub mounted-boxed : {Table : Type 0} {Driver : Table → Type 0} (members : (table : Table) → Ghosts (Driver table))
     (drive : DynBox Table Global Driver) (lent : (table : Table) × Driver table) → lent ≡ (drive.vtable, drive.value)
     → (result : Result (Unit {0}) VolFault) (new : Option Volume) (after : DriveView) → OnOk result ((v : DiskVolume)
-    → Represents (lent_drive_view members lent).media v → AgreesOnDrive new after (Some v))
-    → OnOk result ((v : DiskVolume) → Represents (boxed_drive_view members drive).media v → AgreesOnDrive new after
+    → Represents (drive_view (members lent.0) lent.1).media v → AgreesOnDrive new after (Some v))
+    → OnOk result ((v : DiskVolume) → Represents (drive_view (members drive.vtable) drive.value).media v → AgreesOnDrive new after
     (Some v))
 mounted-boxed members drive lent same result new after it =
-    subst (λ d. OnOk result ((v : DiskVolume) → Represents (lent_drive_view members d).media v → AgreesOnDrive new after (Some v))) same it
+    subst (λ d. OnOk result ((v : DiskVolume) → Represents (drive_view (members d.0) d.1).media v → AgreesOnDrive new after (Some v))) same it

@@ -18,21 +18,6 @@ pub record DriveView : Type 0 where
 abbrev pub drive_view : {Driver : Type 0} → Ghosts Driver → Driver → DriveView
 drive_view members driver = record { media = members.media driver; counts = drive_counts members driver }
 
--- the lent drive: the table of its methods gives the driver's ghost members
-abbrev pub lent_drive_view : {Table : Type 0} {Driver : Table → Type 0} → ((table : Table) → Ghosts (Driver table))
-    → (table : Table) × Driver table → DriveView
-lent_drive_view members drive = drive_view (members drive.0) drive.1
-
--- the drive in a box
-abbrev pub boxed_drive_view : {Table : Type 0} {Driver : Table → Type 0} → ((table : Table) → Ghosts (Driver table))
-    → DynBox Table Global Driver → DriveView
-boxed_drive_view members drive = drive_view (members drive.vtable) drive.value
-
--- each drive, as `drive_views ⟦<dyn BlockDriver as BlockDriver>⟧ devices.now.drives.items`
-abbrev pub drive_views : {Table : Type 0} {Driver : Table → Type 0} → ((table : Table) → Ghosts (Driver table))
-    → List (DynBox Table Global Driver) → List DriveView
-drive_views members drives = map (boxed_drive_view members) drives
-
 -- the lent drive, as `lent_seen BlockDriver-dyn d.now`
 abbrev pub lent_seen : {Table : Type 0} {Driver : Table → Type 0}
     → ((drive : (table : Table) × Driver table) → Ghosts (Driver drive.0)) → (table : Table) × Driver table → DriveView
@@ -43,11 +28,17 @@ abbrev pub boxed_seen : {Table : Type 0} {Driver : Table → Type 0}
     → ((drive : DynBox Table Global Driver) → Ghosts (Driver drive.vtable)) → DynBox Table Global Driver → DriveView
 boxed_seen members drive = drive_view (members drive) drive.value
 
+-- each drive of a list, as `drive_views BlockDriver-box drives.now.items`
+abbrev pub drive_views : {Table : Type 0} {Driver : Table → Type 0}
+    → ((drive : DynBox Table Global Driver) → Ghosts (Driver drive.vtable)) → List (DynBox Table Global Driver)
+    → List DriveView
+drive_views members drives = map (boxed_seen members) drives
+
 -- each drive of a table, as `drives_seen BlockDriver-box devices.now`
 abbrev pub drives_seen : {Table : Type 0} {Driver : Table → Type 0} {Terminals : Type 0}
     → ((drive : DynBox Table Global Driver) → Ghosts (Driver drive.vtable))
     → DeviceTable (DynBox Table Global Driver) Terminals → List DriveView
-drives_seen members devices = map (λ drive. drive_view (members drive) drive.value) devices.drives.items
+drives_seen members devices = drive_views members devices.drives.items
 
 -- the bytes of the image in each drive
 abbrev pub media_of : List DriveView → List (Option (List ℕ))

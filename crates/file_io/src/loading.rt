@@ -3,7 +3,7 @@
 ghost use Rattle.std.specs.Prelude.{◌≡◌, ℕ, ◌<◌, ◌≤◌, IfOk, IfSome, IsSome, OnErr, length, take};
 ghost use Rattle.call_rules.specs.Inner.{Inner, with_memory};
 ghost use Rattle.file_io.specs.Reading.{IsLoaded, part_of};
-ghost use Rattle.file_drives.specs.Drives.{drive_views};
+ghost use Rattle.file_drives.specs.Drives.{drives_seen};
 ghost use Rattle.file_drives.specs.Mounted.{HasFileAt, OnDisks, ReadsFile};
 ghost use Rattle.guest_memory.specs.Tie.{cells_of};
 ghost use Rattle.io_model.specs.Line.{has_return as has_return_lem, line_length as line_length_lem, return_place};
@@ -37,15 +37,13 @@ pub(crate) fn load(
     at: u32,
     most: u16,
 ) -> Result<u16, FileFault>
-    requires file { HasFileAt disks.old
-        (drive_views ⟦<dyn BlockDriver as BlockDriver>⟧ devices.old.drives.items) place }
-    ensures ok { OnDisks disks.old
-        (drive_views ⟦<dyn BlockDriver as BlockDriver>⟧ devices.old.drives.items) place
+    requires file { HasFileAt disks.old (drives_seen BlockDriver-box devices.old) place }
+    ensures ok { OnDisks disks.old (drives_seen BlockDriver-box devices.old) place
         (λ v file. IfOk result (IsLoaded file at most s.new.buffer.items)) }
     ensures device { OnErr result (IsSome (file_fault result)) }
     ensures drive { ReadsFile place (file_fault result) (λ v file. read_calls file at most)
-        disks.old (drive_views ⟦<dyn BlockDriver as BlockDriver>⟧ devices.old.drives.items)
-        disks.new (drive_views ⟦<dyn BlockDriver as BlockDriver>⟧ devices.new.drives.items) }
+        disks.old (drives_seen BlockDriver-box devices.old)
+        disks.new (drives_seen BlockDriver-box devices.new) }
     ensures same { IsSame s.old s.new }
     ensures terms_kept { devices.new.terms ≡ devices.old.terms }
 {
@@ -61,16 +59,14 @@ fn load_front(
     most: u16,
     into: &mut [u8],
 ) -> Result<u16, FileFault>
-    requires file { HasFileAt disks.old
-        (drive_views ⟦<dyn BlockDriver as BlockDriver>⟧ devices.old.drives.items) place }
+    requires file { HasFileAt disks.old (drives_seen BlockDriver-box devices.old) place }
     requires room { most ≤ length into.old }
-    ensures ok { OnDisks disks.old
-        (drive_views ⟦<dyn BlockDriver as BlockDriver>⟧ devices.old.drives.items) place
+    ensures ok { OnDisks disks.old (drives_seen BlockDriver-box devices.old) place
         (λ v file. IfOk result (IsLoaded file at most into.new)) }
     ensures device { OnErr result (IsSome (file_fault result)) }
     ensures drive { ReadsFile place (file_fault result) (λ v file. read_calls file at most)
-        disks.old (drive_views ⟦<dyn BlockDriver as BlockDriver>⟧ devices.old.drives.items)
-        disks.new (drive_views ⟦<dyn BlockDriver as BlockDriver>⟧ devices.new.drives.items) }
+        disks.old (drives_seen BlockDriver-box devices.old)
+        disks.new (drives_seen BlockDriver-box devices.new) }
     ensures room { length into.new ≡ length into.old }
     ensures terms_kept { devices.new.terms ≡ devices.old.terms }
 {

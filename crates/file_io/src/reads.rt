@@ -7,7 +7,6 @@ ghost use Rattle.file_io.specs.Ending.{EndsFound, GivesLocked};
 ghost use Rattle.file_io.specs.Opened.{IsOnFile, IsOpened, IsPathOf, ReadsNoTerminal};
 ghost use Rattle.file_io.specs.Reading.{EndsRead, HasRoom, IsBuffer, MayRead, MayUpdate, part_of, read_file as read_file_lem, read_granted as read_granted_lem, read_named as read_named_lem, read_opened as read_opened_lem};
 ghost use Rattle.file_io.specs.Trying.{Tries, TriesAlways, TriesGranted};
-ghost use Rattle.file_drives.specs.Drives.{drive_views};
 ghost use Rattle.file_rules.specs.Read.{line_range, lock_by, read_code};
 ghost use Rattle.file_rules.specs.declared.path_call.PathCall.TheVariants as Call;
 ghost use Rattle.file_state.specs.Asking.{IsGranted, TriesAgain};
@@ -20,6 +19,7 @@ ghost use Rattle.os9_base.specs.Cells.{FitsIn};
 ghost use Rattle.os9_base.specs.declared.registers.TimePacket.{TimePacket};
 ghost use Rattle.os9_outer.specs.TerminalState.{TerminalState};
 ghost use Rattle.proc_rules.specs.Records.{IsLiving, record_at};
+ghost use Rattle.file_drives.specs.Drives.{drives_seen};
 ghost use Rattle.proc_state.specs.Tie.{Represents};
 
 use crate::ends::{answer, answer_at, refuse};
@@ -62,13 +62,12 @@ pub fn read(
 ) -> CallEnd
     requires lives { IsLiving s.old.table p.0 }
     requires again { TriesAgain Device.Read (record_at s.old.table p.0).regs files.old p.0 }
-    requires sound { IsSound files.old
-        (drive_views ⟦<dyn BlockDriver as BlockDriver>⟧ devices.old.drives.items) }
+    requires sound { IsSound files.old (drives_seen BlockDriver-box devices.old) }
     requires opened { IsOpened files.old p.0 (record_at s.old.table p.0).regs.a opened.now }
     ensures call { (now : TimePacket) (terms : List TerminalState)
         → TriesWithin i_read_calls Call.Read now p.0 result terms terms
-        (standing ⟦<dyn BlockDriver as BlockDriver>⟧ s.old files.old devices.old.drives.items)
-        (standing ⟦<dyn BlockDriver as BlockDriver>⟧ s.new files.new devices.new.drives.items) }
+        (standing BlockDriver-box s.old files.old devices.old)
+        (standing BlockDriver-box s.new files.new devices.new) }
     ensures lives { IsLiving s.new.table p.0 }
     ensures terms_kept { devices.new.terms ≡ devices.old.terms }
 {
@@ -91,13 +90,12 @@ pub fn read_line(
 ) -> CallEnd
     requires lives { IsLiving s.old.table p.0 }
     requires again { TriesAgain Device.ReadLn (record_at s.old.table p.0).regs files.old p.0 }
-    requires sound { IsSound files.old
-        (drive_views ⟦<dyn BlockDriver as BlockDriver>⟧ devices.old.drives.items) }
+    requires sound { IsSound files.old (drives_seen BlockDriver-box devices.old) }
     requires opened { IsOpened files.old p.0 (record_at s.old.table p.0).regs.a opened.now }
     ensures call { (now : TimePacket) (terms : List TerminalState)
         → TriesWithin i_read_calls Call.ReadLn now p.0 result terms terms
-        (standing ⟦<dyn BlockDriver as BlockDriver>⟧ s.old files.old devices.old.drives.items)
-        (standing ⟦<dyn BlockDriver as BlockDriver>⟧ s.new files.new devices.new.drives.items) }
+        (standing BlockDriver-box s.old files.old devices.old)
+        (standing BlockDriver-box s.new files.new devices.new) }
     ensures lives { IsLiving s.new.table p.0 }
     ensures terms_kept { devices.new.terms ≡ devices.old.terms }
 {
@@ -119,12 +117,10 @@ fn read_opened(
     requires no_read { ReadsNoTerminal files.old.io p.0 }
     requires regs { regs ≡ (record_at s.old.table p.0).regs }
     requires may { MayRead files.old.io files.old.records.locks p.0 opened.now regs }
-    requires opened { IsOnFile opened.now
-        (standing ⟦<dyn BlockDriver as BlockDriver>⟧ s.old files.old devices.old.drives.items) }
+    requires opened { IsOnFile opened.now (standing BlockDriver-box s.old files.old devices.old) }
     ensures call { (now : TimePacket) → Tries (read_opened_lem kind) reading_attempt_calls
-        opened.now now p.0 result
-        (standing ⟦<dyn BlockDriver as BlockDriver>⟧ s.old files.old devices.old.drives.items)
-        (standing ⟦<dyn BlockDriver as BlockDriver>⟧ s.new files.new devices.new.drives.items) }
+        opened.now now p.0 result (standing BlockDriver-box s.old files.old devices.old)
+        (standing BlockDriver-box s.new files.new devices.new) }
     ensures lives { IsLiving s.new.table p.0 }
     ensures terms_kept { devices.new.terms ≡ devices.old.terms }
 {
@@ -148,12 +144,11 @@ fn read_named(
     requires no_read { ReadsNoTerminal files.old.io p.0 }
     requires regs { regs ≡ (record_at s.old.table p.0).regs }
     requires may { MayRead files.old.io files.old.records.locks p.0 opened.now regs }
-    requires opened { IsOnFile opened.now
-        (standing ⟦<dyn BlockDriver as BlockDriver>⟧ s.old files.old devices.old.drives.items) }
+    requires opened { IsOnFile opened.now (standing BlockDriver-box s.old files.old devices.old) }
     requires named { FitsIn (cells_of s.old.memory p.0) regs.x regs.y }
     ensures call { TriesAlways (read_named_lem kind) reading_attempt_calls opened.now p.0 result
-        (standing ⟦<dyn BlockDriver as BlockDriver>⟧ s.old files.old devices.old.drives.items)
-        (standing ⟦<dyn BlockDriver as BlockDriver>⟧ s.new files.new devices.new.drives.items) }
+        (standing BlockDriver-box s.old files.old devices.old)
+        (standing BlockDriver-box s.new files.new devices.new) }
     ensures lives { IsLiving s.new.table p.0 }
     ensures terms_kept { devices.new.terms ≡ devices.old.terms }
 {
@@ -180,12 +175,11 @@ fn read_file(
     requires no_read { ReadsNoTerminal files.old.io p.0 }
     requires regs { regs ≡ (record_at s.old.table p.0).regs }
     requires may { MayRead files.old.io files.old.records.locks p.0 opened.now regs }
-    requires opened { IsOnFile opened.now
-        (standing ⟦<dyn BlockDriver as BlockDriver>⟧ s.old files.old devices.old.drives.items) }
+    requires opened { IsOnFile opened.now (standing BlockDriver-box s.old files.old devices.old) }
     requires buffer { IsBuffer (cells_of s.old.memory p.0) regs }
     ensures call { TriesAlways (read_file_lem kind) reading_attempt_calls opened.now p.0 result
-        (standing ⟦<dyn BlockDriver as BlockDriver>⟧ s.old files.old devices.old.drives.items)
-        (standing ⟦<dyn BlockDriver as BlockDriver>⟧ s.new files.new devices.new.drives.items) }
+        (standing BlockDriver-box s.old files.old devices.old)
+        (standing BlockDriver-box s.new files.new devices.new) }
     ensures lives { IsLiving s.new.table p.0 }
     ensures terms_kept { devices.new.terms ≡ devices.old.terms }
 {
@@ -218,12 +212,11 @@ fn read_for_update(
     requires no_read { ReadsNoTerminal files.old.io p.0 }
     requires regs { regs ≡ (record_at s.old.table p.0).regs }
     requires may { MayUpdate files.old.io files.old.records.locks p.0 opened.now regs }
-    requires opened { IsOnFile opened.now
-        (standing ⟦<dyn BlockDriver as BlockDriver>⟧ s.old files.old devices.old.drives.items) }
+    requires opened { IsOnFile opened.now (standing BlockDriver-box s.old files.old devices.old) }
     requires buffer { IsBuffer (cells_of s.old.memory p.0) regs }
     ensures call { TriesAlways (read_file_lem kind) reading_attempt_calls opened.now p.0 result
-        (standing ⟦<dyn BlockDriver as BlockDriver>⟧ s.old files.old devices.old.drives.items)
-        (standing ⟦<dyn BlockDriver as BlockDriver>⟧ s.new files.new devices.new.drives.items) }
+        (standing BlockDriver-box s.old files.old devices.old)
+        (standing BlockDriver-box s.new files.new devices.new) }
     ensures lives { IsLiving s.new.table p.0 }
     ensures terms_kept { devices.new.terms ≡ devices.old.terms }
 {
@@ -270,14 +263,13 @@ fn read_granted(
 ) -> CallEnd
     requires lives { IsLiving s.old.table p.0 }
     requires no_read { ReadsNoTerminal files.old.io p.0 }
-    requires opened { IsOnFile opened.now
-        (standing ⟦<dyn BlockDriver as BlockDriver>⟧ s.old files.old devices.old.drives.items) }
+    requires opened { IsOnFile opened.now (standing BlockDriver-box s.old files.old devices.old) }
     requires granted { IsGranted files.old.records.locks lock }
     requires room { HasRoom (cells_of s.old.memory p.0) (record_at s.old.table p.0).regs lock }
     ensures call { (now : TimePacket) → TriesGranted (read_granted_lem kind lock)
         (granted_read_calls lock) opened.now now p.0 result
-        (standing ⟦<dyn BlockDriver as BlockDriver>⟧ s.old files.old devices.old.drives.items)
-        (standing ⟦<dyn BlockDriver as BlockDriver>⟧ s.new files.new devices.new.drives.items) }
+        (standing BlockDriver-box s.old files.old devices.old)
+        (standing BlockDriver-box s.new files.new devices.new) }
     ensures lives { IsLiving s.new.table p.0 }
     ensures terms_kept { devices.new.terms ≡ devices.old.terms }
 {

@@ -9,7 +9,7 @@ ghost use Rattle.file_io.specs.Opened.{IsOpened, IsPathOf, MayBeWritten, ReadsNo
 ghost use Rattle.file_io.specs.Sending.{IsSending, MayWrite};
 ghost use Rattle.file_io.specs.Trying.{Tries, TriesGranted};
 ghost use Rattle.file_io.specs.Writing.{line_of, write_file as write_file_lem, write_granted as write_granted_lem, write_opened as write_opened_lem};
-ghost use Rattle.file_drives.specs.Drives.{drive_views};
+ghost use Rattle.file_drives.specs.Drives.{drives_seen};
 ghost use Rattle.file_drives.specs.Mounted.{HasDataFileAt};
 ghost use Rattle.file_rules.specs.declared.path_call.PathCall.TheVariants as Call;
 ghost use Rattle.file_rules.specs.Locking.{call_of};
@@ -70,13 +70,12 @@ pub fn write(
 ) -> CallEnd
     requires lives { IsLiving s.old.table p.0 }
     requires again { TriesAgain Device.Write (record_at s.old.table p.0).regs files.old p.0 }
-    requires sound { IsSound files.old
-        (drive_views ⟦<dyn BlockDriver as BlockDriver>⟧ devices.old.drives.items) }
+    requires sound { IsSound files.old (drives_seen BlockDriver-box devices.old) }
     requires opened { IsOpened files.old p.0 (record_at s.old.table p.0).regs.a opened.now }
     ensures call { (terms : List TerminalState)
         → TriesWithin i_write_calls Call.Write now p.0 result terms terms
-        (standing ⟦<dyn BlockDriver as BlockDriver>⟧ s.old files.old devices.old.drives.items)
-        (standing ⟦<dyn BlockDriver as BlockDriver>⟧ s.new files.new devices.new.drives.items) }
+        (standing BlockDriver-box s.old files.old devices.old)
+        (standing BlockDriver-box s.new files.new devices.new) }
     ensures lives { IsLiving s.new.table p.0 }
     ensures terms_kept { devices.new.terms ≡ devices.old.terms }
 {
@@ -109,13 +108,12 @@ pub fn write_line(
 ) -> CallEnd
     requires lives { IsLiving s.old.table p.0 }
     requires again { TriesAgain Device.WritLn (record_at s.old.table p.0).regs files.old p.0 }
-    requires sound { IsSound files.old
-        (drive_views ⟦<dyn BlockDriver as BlockDriver>⟧ devices.old.drives.items) }
+    requires sound { IsSound files.old (drives_seen BlockDriver-box devices.old) }
     requires opened { IsOpened files.old p.0 (record_at s.old.table p.0).regs.a opened.now }
     ensures call { (terms : List TerminalState)
         → TriesWithin i_writln_calls Call.WritLn now p.0 result terms terms
-        (standing ⟦<dyn BlockDriver as BlockDriver>⟧ s.old files.old devices.old.drives.items)
-        (standing ⟦<dyn BlockDriver as BlockDriver>⟧ s.new files.new devices.new.drives.items) }
+        (standing BlockDriver-box s.old files.old devices.old)
+        (standing BlockDriver-box s.new files.new devices.new) }
     ensures lives { IsLiving s.new.table p.0 }
     ensures terms_kept { devices.new.terms ≡ devices.old.terms }
 {
@@ -195,13 +193,12 @@ pub fn write_error(
 ) -> CallEnd
     requires lives { IsLiving s.old.table p.0 }
     requires again { TriesAgain Device.PErr (record_at s.old.table p.0).regs files.old p.0 }
-    requires sound { IsSound files.old
-        (drive_views ⟦<dyn BlockDriver as BlockDriver>⟧ devices.old.drives.items) }
+    requires sound { IsSound files.old (drives_seen BlockDriver-box devices.old) }
     requires opened { IsOpened files.old p.0 STANDARD_ERROR opened.now }
     ensures call { (terms : List TerminalState)
         → TriesWithin f_perr_calls Call.PErr now p.0 result terms terms
-        (standing ⟦<dyn BlockDriver as BlockDriver>⟧ s.old files.old devices.old.drives.items)
-        (standing ⟦<dyn BlockDriver as BlockDriver>⟧ s.new files.new devices.new.drives.items) }
+        (standing BlockDriver-box s.old files.old devices.old)
+        (standing BlockDriver-box s.new files.new devices.new) }
     ensures lives { IsLiving s.new.table p.0 }
     ensures terms_kept { devices.new.terms ≡ devices.old.terms }
 {
@@ -240,13 +237,13 @@ fn send(
     requires lives { IsLiving s.old.table p.0 }
     requires no_read { ReadsNoTerminal files.old.io p.0 }
     requires file { MayBeWritten opened.now files.old.disks
-        (drive_views ⟦<dyn BlockDriver as BlockDriver>⟧ devices.old.drives.items) }
+        (drives_seen BlockDriver-box devices.old) }
     requires may { MayWrite files.old.io files.old.records.locks p.0 opened.now
         (record_at s.old.table p.0).regs sent }
     ensures call { Tries (write_opened_lem sent.code (take sent.count s.old.buffer.items))
         (writing_attempt_calls sent.count) opened.now now p.0 result
-        (standing ⟦<dyn BlockDriver as BlockDriver>⟧ s.old files.old devices.old.drives.items)
-        (standing ⟦<dyn BlockDriver as BlockDriver>⟧ s.new files.new devices.new.drives.items) }
+        (standing BlockDriver-box s.old files.old devices.old)
+        (standing BlockDriver-box s.new files.new devices.new) }
     ensures lives { IsLiving s.new.table p.0 }
     ensures terms_kept { devices.new.terms ≡ devices.old.terms }
 {
@@ -276,11 +273,11 @@ fn write_file(
     requires asks { MayAsk files.old.io files.old.records.locks p.0 opened.now }
     requires sends { IsSending sent }
     requires file { HasDataFileAt files.old.disks
-        (drive_views ⟦<dyn BlockDriver as BlockDriver>⟧ devices.old.drives.items) opened.now.place }
+        (drives_seen BlockDriver-box devices.old) opened.now.place }
     ensures call { Tries (write_file_lem sent.code (take sent.count s.old.buffer.items) sent.done)
         (writing_attempt_calls sent.count) opened.now now p.0 result
-        (standing ⟦<dyn BlockDriver as BlockDriver>⟧ s.old files.old devices.old.drives.items)
-        (standing ⟦<dyn BlockDriver as BlockDriver>⟧ s.new files.new devices.new.drives.items) }
+        (standing BlockDriver-box s.old files.old devices.old)
+        (standing BlockDriver-box s.new files.new devices.new) }
     ensures lives { IsLiving s.new.table p.0 }
     ensures terms_kept { devices.new.terms ≡ devices.old.terms }
 {
@@ -315,12 +312,12 @@ fn write_granted(
     requires no_read { ReadsNoTerminal files.old.io p.0 }
     requires path { IsPathOf files.old.io opened.now }
     requires file { HasDataFileAt files.old.disks
-        (drive_views ⟦<dyn BlockDriver as BlockDriver>⟧ devices.old.drives.items) opened.now.place }
+        (drives_seen BlockDriver-box devices.old) opened.now.place }
     requires granted { IsGranted files.old.records.locks lock }
     ensures call { TriesGranted (write_granted_lem lock (take sent.count s.old.buffer.items)
         sent.done) (granted_write_calls lock sent.count) opened.now now p.0 result
-        (standing ⟦<dyn BlockDriver as BlockDriver>⟧ s.old files.old devices.old.drives.items)
-        (standing ⟦<dyn BlockDriver as BlockDriver>⟧ s.new files.new devices.new.drives.items) }
+        (standing BlockDriver-box s.old files.old devices.old)
+        (standing BlockDriver-box s.new files.new devices.new) }
     ensures lives { IsLiving s.new.table p.0 }
     ensures terms_kept { devices.new.terms ≡ devices.old.terms }
 {

@@ -20,7 +20,7 @@ use Rattle.file_rules.specs.Attempts.{asker_of}
 use Rattle.lock_model.specs.Records.{Records, with_waiting}
 use Rattle.file_rules.specs.Files.{DriveState, Files, with_io}
 use Rattle.file_rules.specs.Step.{FileStep, as_io, comes, on_files}
-use Rattle.file_drives.specs.Drives.{DriveView, boxed_drive_view, drive_state, drive_views}
+use Rattle.file_drives.specs.Drives.{DriveView, boxed_seen, drive_state, drive_views}
 use Rattle.file_state.proofs.CountLemmas.{called-none}
 use Rattle.file_state.proofs.EndLemmas.{goes-as-io}
 use Rattle.file_state.proofs.KeepLemmas.{keeps-same}
@@ -34,9 +34,9 @@ pub as-many : (state : FileState) (views : List DriveView) (files : Files) → S
 as-many state views files stands = ap (λ (drives : List DriveState). length drives) stands.drives ∙ length-map views drive_state
 
 -- each of the drives is seen
-pub views-many : {Table : Type 0} {Driver : Table → Type 0} (members : (table : Table) → Ghosts (Driver table))
+pub views-many : {Table : Type 0} {Driver : Table → Type 0} (members : (drive : DynBox Table Global Driver) → Ghosts (Driver drive.vtable))
     (drives : List (DynBox Table Global Driver)) → length (drive_views members drives) ≡ length drives
-views-many members drives = length-map drives (boxed_drive_view members)
+views-many members drives = length-map drives (boxed_seen members)
 
 -- what the call on a terminal or a pipe does is done in the state of files
 pub device-ends : (most : ℕ) (call : IoCall) (m : Inner) (was : Files) (now : TimePacket) (p : ℕ) (state : FileState)

@@ -1,7 +1,7 @@
 //! I$Create (System Programmer's Manual, I$Create).
 
 ghost use Rattle.std.specs.Prelude.{◌≡◌, ◌<◌, List, None, length, vec_len};
-ghost use Rattle.file_drives.specs.Drives.{drive_views};
+ghost use Rattle.file_drives.specs.Drives.{drives_seen};
 ghost use Rattle.file_drives.specs.Mounted.{HasFileAt};
 ghost use Rattle.file_open.specs.Attempts.{CreatesAlong, CreatesThere, IsPlaceForLast, MakesThere};
 ghost use Rattle.file_open.specs.Calls.{i_create_calls};
@@ -60,12 +60,11 @@ pub fn i_create(
 ) -> CallEnd
     requires lives { IsLiving s.old.table p.0 }
     requires first { kept_at files.old.io p.0 ≡ None }
-    requires sound { IsSound files.old
-        (drive_views ⟦<dyn BlockDriver as BlockDriver>⟧ devices.old.drives.items) }
+    requires sound { IsSound files.old (drives_seen BlockDriver-box devices.old) }
     ensures call { (terms : List TerminalState) → length terms ≡ vec_len devices.old.terms
         → AttemptsWithin i_create_calls Call.Create now p.0 result terms terms
-        (standing ⟦<dyn BlockDriver as BlockDriver>⟧ s.old files.old devices.old.drives.items)
-        (standing ⟦<dyn BlockDriver as BlockDriver>⟧ s.new files.new devices.new.drives.items) }
+        (standing BlockDriver-box s.old files.old devices.old)
+        (standing BlockDriver-box s.new files.new devices.new) }
     ensures lives { IsLiving s.new.table p.0 }
     ensures terms_kept { devices.new.terms ≡ devices.old.terms }
 {
@@ -99,11 +98,10 @@ fn create_along(
     requires lives { IsLiving s.old.table p.0 }
     requires quiet { kept_at files.old.io p.0 ≡ None }
     requires names { SomeFrom (cells_of s.old.memory p.0) first }
-    requires file { HasFileAt files.old.disks
-        (drive_views ⟦<dyn BlockDriver as BlockDriver>⟧ devices.old.drives.items) from }
+    requires file { HasFileAt files.old.disks (drives_seen BlockDriver-box devices.old) from }
     ensures creates { CreatesAlong from first next now p.0 result
-        (standing ⟦<dyn BlockDriver as BlockDriver>⟧ s.old files.old devices.old.drives.items)
-        (standing ⟦<dyn BlockDriver as BlockDriver>⟧ s.new files.new devices.new.drives.items) }
+        (standing BlockDriver-box s.old files.old devices.old)
+        (standing BlockDriver-box s.new files.new devices.new) }
     ensures lives { IsLiving s.new.table p.0 }
     ensures terms_kept { devices.new.terms ≡ devices.old.terms }
 {
@@ -127,11 +125,10 @@ fn create_from(
     requires lives { IsLiving s.old.table p.0 }
     requires quiet { kept_at files.old.io p.0 ≡ None }
     requires names { SomeStand (cells_of s.old.memory p.0) first }
-    requires file { HasFileAt files.old.disks
-        (drive_views ⟦<dyn BlockDriver as BlockDriver>⟧ devices.old.drives.items) from }
+    requires file { HasFileAt files.old.disks (drives_seen BlockDriver-box devices.old) from }
     ensures creates { CreatesAlong from (Some first) next now p.0 result
-        (standing ⟦<dyn BlockDriver as BlockDriver>⟧ s.old files.old devices.old.drives.items)
-        (standing ⟦<dyn BlockDriver as BlockDriver>⟧ s.new files.new devices.new.drives.items) }
+        (standing BlockDriver-box s.old files.old devices.old)
+        (standing BlockDriver-box s.new files.new devices.new) }
     ensures lives { IsLiving s.new.table p.0 }
     ensures terms_kept { devices.new.terms ≡ devices.old.terms }
 {
@@ -155,10 +152,10 @@ fn create_in(
     requires lives { IsLiving s.old.table p.0 }
     requires quiet { kept_at files.old.io p.0 ≡ None }
     requires file { HasFileAt files.old.disks
-        (drive_views ⟦<dyn BlockDriver as BlockDriver>⟧ devices.old.drives.items) last.directory }
+        (drives_seen BlockDriver-box devices.old) last.directory }
     ensures creates { CreatesThere last next now p.0 result
-        (standing ⟦<dyn BlockDriver as BlockDriver>⟧ s.old files.old devices.old.drives.items)
-        (standing ⟦<dyn BlockDriver as BlockDriver>⟧ s.new files.new devices.new.drives.items) }
+        (standing BlockDriver-box s.old files.old devices.old)
+        (standing BlockDriver-box s.new files.new devices.new) }
     ensures lives { IsLiving s.new.table p.0 }
     ensures terms_kept { devices.new.terms ≡ devices.old.terms }
 {
@@ -191,11 +188,11 @@ fn create_at(
     requires lives { IsLiving s.old.table p.0 }
     requires quiet { kept_at files.old.io p.0 ≡ None }
     requires place { IsPlaceForLast last found.now p.0
-        (standing ⟦<dyn BlockDriver as BlockDriver>⟧ s.old files.old devices.old.drives.items) }
+        (standing BlockDriver-box s.old files.old devices.old) }
     requires attributes { (record_at s.old.table p.0).regs.b < 128 }
     ensures makes { MakesThere last next now p.0 result
-        (standing ⟦<dyn BlockDriver as BlockDriver>⟧ s.old files.old devices.old.drives.items)
-        (standing ⟦<dyn BlockDriver as BlockDriver>⟧ s.new files.new devices.new.drives.items) }
+        (standing BlockDriver-box s.old files.old devices.old)
+        (standing BlockDriver-box s.new files.new devices.new) }
     ensures lives { IsLiving s.new.table p.0 }
     ensures terms_kept { devices.new.terms ≡ devices.old.terms }
 {

@@ -2,7 +2,7 @@
 
 ghost use Rattle.std.specs.Prelude.{◌≡◌, ◌<◌, ℕ, List, vec_len};
 ghost use Rattle.call_rules.specs.Inner.{Inner, cells_at};
-ghost use Rattle.file_drives.specs.Drives.{drive_views};
+ghost use Rattle.file_drives.specs.Drives.{drives_seen};
 ghost use Rattle.file_drives.specs.Mounted.{HasFileAt};
 ghost use Rattle.file_open.specs.Steps.{walker_at};
 ghost use Rattle.file_rules.specs.Attempts.{asker_of};
@@ -57,16 +57,13 @@ pub(crate) fn find_way(
     refusal: Option<u8>,
 ) -> Result<Route, u8>
     requires lives { IsLiving s.old.table p.0 }
-    requires sound { IsSound files.now
-        (drive_views ⟦<dyn BlockDriver as BlockDriver>⟧ devices.now.drives.items) }
+    requires sound { IsSound files.now (drives_seen BlockDriver-box devices.now) }
     ensures route { (m : Inner) (was : Files) (now : TimePacket) → Represents s.old m
-        → StandsFor files.now
-        (drive_views ⟦<dyn BlockDriver as BlockDriver>⟧ devices.now.drives.items) was
+        → StandsFor files.now (drives_seen BlockDriver-box devices.now) was
         → IsRouteFor purpose refusal (cells_at m p.0) (asker_of m p.0 now) was
         (vec_len devices.now.terms) (walker_at s.old p).execute result }
     ensures names { RouteHasNames (cells_of s.new.memory p.0) result }
-    ensures start { RouteStarts files.now.disks
-        (drive_views ⟦<dyn BlockDriver as BlockDriver>⟧ devices.now.drives.items) result }
+    ensures start { RouteStarts files.now.disks (drives_seen BlockDriver-box devices.now) result }
     ensures same { IsSame s.old s.new }
 {
     let regs = s.table.regs(p);
@@ -96,12 +93,11 @@ pub(crate) fn walk_from(
 ) -> Result<FilePlace, DirError>
     requires process { walker.process.0 < 33 }
     requires names { SomeFrom (cells_of s.old.memory walker.process.0) first }
-    requires file { HasFileAt disks.old
-        (drive_views ⟦<dyn BlockDriver as BlockDriver>⟧ devices.old.drives.items) from }
+    requires file { HasFileAt disks.old (drives_seen BlockDriver-box devices.old) from }
     ensures walks { (names : List (List ℕ)) → NamesFrom (cells_of s.old.memory walker.process.0)
         first names → Walks walker from names result
-        disks.old (drive_views ⟦<dyn BlockDriver as BlockDriver>⟧ devices.old.drives.items)
-        disks.new (drive_views ⟦<dyn BlockDriver as BlockDriver>⟧ devices.new.drives.items) }
+        disks.old (drives_seen BlockDriver-box devices.old)
+        disks.new (drives_seen BlockDriver-box devices.new) }
     ensures same { IsSame s.old s.new }
     ensures terms_kept { devices.new.terms ≡ devices.old.terms }
 {
@@ -124,12 +120,11 @@ pub(crate) fn walk_to_last_from(
 ) -> Result<LastName, DirError>
     requires process { walker.process.0 < 33 }
     requires names { SomeStand (cells_of s.old.memory walker.process.0) first }
-    requires file { HasFileAt disks.old
-        (drive_views ⟦<dyn BlockDriver as BlockDriver>⟧ devices.old.drives.items) from }
+    requires file { HasFileAt disks.old (drives_seen BlockDriver-box devices.old) from }
     ensures walks { (names : List (List ℕ)) → NamesStand (cells_of s.old.memory walker.process.0)
         first names → WalksToLast walker from names result
-        disks.old (drive_views ⟦<dyn BlockDriver as BlockDriver>⟧ devices.old.drives.items)
-        disks.new (drive_views ⟦<dyn BlockDriver as BlockDriver>⟧ devices.new.drives.items) }
+        disks.old (drives_seen BlockDriver-box devices.old)
+        disks.new (drives_seen BlockDriver-box devices.new) }
     ensures same { IsSame s.old s.new }
     ensures terms_kept { devices.new.terms ≡ devices.old.terms }
 {

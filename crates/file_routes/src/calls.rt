@@ -8,7 +8,7 @@ ghost use Rattle.proc_state.specs.Tie.{IsSame, Represents};
 ghost use Rattle.rbf_model.specs.Volume.{DiskVolume};
 ghost use Rattle.file_rules.specs.Attempts.{asker_of};
 ghost use Rattle.file_rules.specs.Files.{Files};
-ghost use Rattle.file_drives.specs.Drives.{DriveView, drive_views};
+ghost use Rattle.file_drives.specs.Drives.{DriveView, drives_seen};
 ghost use Rattle.file_drives.specs.Mounted.{AreMounted, HasFileAt};
 ghost use Rattle.device_paths.specs.Standing.{NamesFrom, NamesStand};
 ghost use Rattle.file_routes.specs.Walks.{SomeFrom, SomeStand, Walks, WalksToLast};
@@ -65,12 +65,11 @@ pub fn call_walk(
 ) -> Result<FilePlace, DirError>
     requires process { walker.process.0 < 33 }
     requires names { SomeFrom (cells_of s.old.memory walker.process.0) first }
-    requires file { HasFileAt disks.old
-        (drive_views ⟦<dyn BlockDriver as BlockDriver>⟧ devices.old.drives.items) from }
+    requires file { HasFileAt disks.old (drives_seen BlockDriver-box devices.old) from }
     ensures walks { (m : Inner) (names : List (List ℕ)) → Represents s.old m
         → NamesFrom (cells_at m walker.process.0) first names → Walks walker from names result
-        disks.old (drive_views ⟦<dyn BlockDriver as BlockDriver>⟧ devices.old.drives.items)
-        disks.new (drive_views ⟦<dyn BlockDriver as BlockDriver>⟧ devices.new.drives.items) }
+        disks.old (drives_seen BlockDriver-box devices.old)
+        disks.new (drives_seen BlockDriver-box devices.new) }
     ensures same { IsSame s.old s.new }
     ensures terms_kept { devices.new.terms ≡ devices.old.terms }
 {
@@ -93,13 +92,11 @@ pub fn call_walk_to_last(
 ) -> Result<LastName, DirError>
     requires process { walker.process.0 < 33 }
     requires names { SomeStand (cells_of s.old.memory walker.process.0) first }
-    requires file { HasFileAt disks.old
-        (drive_views ⟦<dyn BlockDriver as BlockDriver>⟧ devices.old.drives.items) from }
+    requires file { HasFileAt disks.old (drives_seen BlockDriver-box devices.old) from }
     ensures walks { (m : Inner) (names : List (List ℕ)) → Represents s.old m
         → NamesStand (cells_at m walker.process.0) first names
-        → WalksToLast walker from names result
-        disks.old (drive_views ⟦<dyn BlockDriver as BlockDriver>⟧ devices.old.drives.items)
-        disks.new (drive_views ⟦<dyn BlockDriver as BlockDriver>⟧ devices.new.drives.items) }
+        → WalksToLast walker from names result disks.old (drives_seen BlockDriver-box devices.old)
+        disks.new (drives_seen BlockDriver-box devices.new) }
     ensures same { IsSame s.old s.new }
     ensures terms_kept { devices.new.terms ≡ devices.old.terms }
 {

@@ -2,7 +2,7 @@
 
 ghost use Rattle.std.specs.Prelude.{◌≡◌, ◌<◌, ℕ, Ok, IfOk, List};
 ghost use Rattle.guest_memory.specs.Tie.{IsSame, cells_of};
-ghost use Rattle.file_drives.specs.Drives.{drive_views};
+ghost use Rattle.file_drives.specs.Drives.{drives_seen};
 ghost use Rattle.file_drives.specs.Mounted.{HasFileAt};
 ghost use Rattle.device_paths.specs.Standing.{NamesFrom, NamesStand};
 ghost use Rattle.file_routes.specs.Walks.{GoesUp, ReachesLast, SomeFrom, SomeStand, Steps, Walks, WalksBy, WalksToLast, stepped_to};
@@ -69,13 +69,11 @@ pub fn walk(
 ) -> Result<FilePlace, DirError>
     requires process { walker.process.0 < 33 }
     requires names { SomeFrom (cells_of memory.old walker.process.0) first }
-    requires file { HasFileAt disks.old
-        (drive_views ⟦<dyn BlockDriver as BlockDriver>⟧ devices.old.drives.items) from }
+    requires file { HasFileAt disks.old (drives_seen BlockDriver-box devices.old) from }
     ensures walks { (names : List (List ℕ))
         → NamesFrom (cells_of memory.old walker.process.0) first names
-        → Walks walker from names result
-        disks.old (drive_views ⟦<dyn BlockDriver as BlockDriver>⟧ devices.old.drives.items)
-        disks.new (drive_views ⟦<dyn BlockDriver as BlockDriver>⟧ devices.new.drives.items) }
+        → Walks walker from names result disks.old (drives_seen BlockDriver-box devices.old)
+        disks.new (drives_seen BlockDriver-box devices.new) }
     ensures same { IsSame memory.old memory.new }
     ensures terms_kept { devices.new.terms ≡ devices.old.terms }
 {
@@ -104,13 +102,11 @@ pub fn walk_to_last(
 ) -> Result<LastName, DirError>
     requires process { walker.process.0 < 33 }
     requires names { SomeStand (cells_of memory.old walker.process.0) first }
-    requires file { HasFileAt disks.old
-        (drive_views ⟦<dyn BlockDriver as BlockDriver>⟧ devices.old.drives.items) from }
+    requires file { HasFileAt disks.old (drives_seen BlockDriver-box devices.old) from }
     ensures walks { (names : List (List ℕ))
         → NamesStand (cells_of memory.old walker.process.0) first names
-        → WalksToLast walker from names result
-        disks.old (drive_views ⟦<dyn BlockDriver as BlockDriver>⟧ devices.old.drives.items)
-        disks.new (drive_views ⟦<dyn BlockDriver as BlockDriver>⟧ devices.new.drives.items) }
+        → WalksToLast walker from names result disks.old (drives_seen BlockDriver-box devices.old)
+        disks.new (drives_seen BlockDriver-box devices.new) }
     ensures same { IsSame memory.old memory.new }
     ensures terms_kept { devices.new.terms ≡ devices.old.terms }
 {
@@ -142,13 +138,12 @@ fn reach_last(
 ) -> Result<LastPlace, DirError>
     requires process { walker.process.0 < 33 }
     requires names { SomeStand (cells_of memory.old walker.process.0) first }
-    requires file { HasFileAt disks.old
-        (drive_views ⟦<dyn BlockDriver as BlockDriver>⟧ devices.old.drives.items) from }
+    requires file { HasFileAt disks.old (drives_seen BlockDriver-box devices.old) from }
     ensures reaches { (names : List (List ℕ))
         → NamesStand (cells_of memory.old walker.process.0) first names
         → ReachesLast (cells_of memory.old walker.process.0) walker from names result
-        disks.old (drive_views ⟦<dyn BlockDriver as BlockDriver>⟧ devices.old.drives.items)
-        disks.new (drive_views ⟦<dyn BlockDriver as BlockDriver>⟧ devices.new.drives.items) }
+        disks.old (drives_seen BlockDriver-box devices.old)
+        disks.new (drives_seen BlockDriver-box devices.new) }
     ensures same { IsSame memory.old memory.new }
     ensures terms_kept { devices.new.terms ≡ devices.old.terms }
 {
@@ -181,13 +176,12 @@ fn step(
 ) -> Result<Stepped, DirError>
     requires process { walker.process.0 < 33 }
     requires names { SomeStand (cells_of memory.old walker.process.0) at }
-    requires file { HasFileAt disks.old
-        (drive_views ⟦<dyn BlockDriver as BlockDriver>⟧ devices.old.drives.items) directory }
+    requires file { HasFileAt disks.old (drives_seen BlockDriver-box devices.old) directory }
     ensures steps { (names : List (List ℕ))
         → NamesStand (cells_of memory.old walker.process.0) at names
         → Steps (cells_of memory.old walker.process.0) walker directory names result
-        disks.old (drive_views ⟦<dyn BlockDriver as BlockDriver>⟧ devices.old.drives.items)
-        disks.new (drive_views ⟦<dyn BlockDriver as BlockDriver>⟧ devices.new.drives.items) }
+        disks.old (drives_seen BlockDriver-box devices.old)
+        disks.new (drives_seen BlockDriver-box devices.new) }
     ensures up { IfOk result (GoesUp at) }
     ensures same { IsSame memory.old memory.new }
     ensures terms_kept { devices.new.terms ≡ devices.old.terms }
@@ -216,11 +210,10 @@ fn walk_by(
     directory: FilePlace,
     name: &Name,
 ) -> Result<FilePlace, DirError>
-    requires file { HasFileAt disks.old
-        (drive_views ⟦<dyn BlockDriver as BlockDriver>⟧ devices.old.drives.items) directory }
+    requires file { HasFileAt disks.old (drives_seen BlockDriver-box devices.old) directory }
     ensures walks { WalksBy walker directory name.now result
-        disks.old (drive_views ⟦<dyn BlockDriver as BlockDriver>⟧ devices.old.drives.items)
-        disks.new (drive_views ⟦<dyn BlockDriver as BlockDriver>⟧ devices.new.drives.items) }
+        disks.old (drives_seen BlockDriver-box devices.old)
+        disks.new (drives_seen BlockDriver-box devices.new) }
     ensures terms_kept { devices.new.terms ≡ devices.old.terms }
 {
     disks.walk_to(devices, directory, name, walker.user, walker.execute)

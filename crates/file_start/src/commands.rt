@@ -7,7 +7,7 @@ ghost use Rattle.rbf_model.specs.Fields.{directory_entry};
 ghost use Rattle.rbf_model.specs.File.{DiskFile, is_directory as is_directory_lem};
 ghost use Rattle.rbf_model.specs.Walk.{entry_has_name};
 ghost use Rattle.file_rules.specs.Processes.{directory_in_root};
-ghost use Rattle.file_drives.specs.Drives.{drive_views};
+ghost use Rattle.file_drives.specs.Drives.{drives_seen};
 ghost use Rattle.file_drives.specs.Mounted.{HasFileAt, OnDisks, ReadsFile};
 ghost use Rattle.file_start.specs.Start.{FailsOn, IsNamed, IsRootAt, OnVolumeOf, directory_at as directory_at_lem, search_calls, start_fault};
 
@@ -32,14 +32,12 @@ pub fn find_commands(
     devices: &mut Devices,
     root: FilePlace,
 ) -> Result<Option<FilePlace>, StartFault>
-    requires root { IsRootAt disks.old
-        (drive_views ⟦<dyn BlockDriver as BlockDriver>⟧ devices.old.drives.items) root }
-    ensures found { OnVolumeOf disks.old
-        (drive_views ⟦<dyn BlockDriver as BlockDriver>⟧ devices.old.drives.items) root
+    requires root { IsRootAt disks.old (drives_seen BlockDriver-box devices.old) root }
+    ensures found { OnVolumeOf disks.old (drives_seen BlockDriver-box devices.old) root
         (λ v. IfOk result (λ place. place ≡ directory_in_root v root (codes "CMDS"))) }
     ensures drive { ReadsFile root (start_fault result) (λ v file. search_calls file)
-        disks.old (drive_views ⟦<dyn BlockDriver as BlockDriver>⟧ devices.old.drives.items)
-        disks.new (drive_views ⟦<dyn BlockDriver as BlockDriver>⟧ devices.new.drives.items) }
+        disks.old (drives_seen BlockDriver-box devices.old)
+        disks.new (drives_seen BlockDriver-box devices.new) }
     ensures failed { FailsOn root.drive result }
     ensures terms_kept { devices.new.terms ≡ devices.old.terms }
 {
@@ -72,14 +70,12 @@ fn directory_at(
     devices: &mut Devices,
     place: FilePlace,
 ) -> Result<Option<FilePlace>, StartFault>
-    requires file { HasFileAt disks.old
-        (drive_views ⟦<dyn BlockDriver as BlockDriver>⟧ devices.old.drives.items) place }
-    ensures ok { OnDisks disks.old
-        (drive_views ⟦<dyn BlockDriver as BlockDriver>⟧ devices.old.drives.items) place
+    requires file { HasFileAt disks.old (drives_seen BlockDriver-box devices.old) place }
+    ensures ok { OnDisks disks.old (drives_seen BlockDriver-box devices.old) place
         (λ v file. IfOk result (λ found. found ≡ directory_at_lem place file)) }
     ensures drive { ReadsFile place (start_fault result) (λ v file. 1)
-        disks.old (drive_views ⟦<dyn BlockDriver as BlockDriver>⟧ devices.old.drives.items)
-        disks.new (drive_views ⟦<dyn BlockDriver as BlockDriver>⟧ devices.new.drives.items) }
+        disks.old (drives_seen BlockDriver-box devices.old)
+        disks.new (drives_seen BlockDriver-box devices.new) }
     ensures failed { FailsOn place.drive result }
     ensures terms_kept { devices.new.terms ≡ devices.old.terms }
 {
@@ -109,15 +105,13 @@ fn contents(
     devices: &mut Devices,
     place: FilePlace,
 ) -> Result<Vec<u8>, StartFault>
-    requires file { HasFileAt disks.old
-        (drive_views ⟦<dyn BlockDriver as BlockDriver>⟧ devices.old.drives.items) place }
-    ensures ok { OnDisks disks.old
-        (drive_views ⟦<dyn BlockDriver as BlockDriver>⟧ devices.old.drives.items) place
+    requires file { HasFileAt disks.old (drives_seen BlockDriver-box devices.old) place }
+    ensures ok { OnDisks disks.old (drives_seen BlockDriver-box devices.old) place
         (λ v file. IfOk result (λ bytes. bytes.items ≡ file.contents)) }
     ensures drive { ReadsFile place (start_fault result)
         (λ v file. 2 + sector_count (length file.contents))
-        disks.old (drive_views ⟦<dyn BlockDriver as BlockDriver>⟧ devices.old.drives.items)
-        disks.new (drive_views ⟦<dyn BlockDriver as BlockDriver>⟧ devices.new.drives.items) }
+        disks.old (drives_seen BlockDriver-box devices.old)
+        disks.new (drives_seen BlockDriver-box devices.new) }
     ensures failed { FailsOn place.drive result }
     ensures terms_kept { devices.new.terms ≡ devices.old.terms }
 {
@@ -142,14 +136,12 @@ fn zeros(alloc: Global, count: u32) -> Result<Vec<u8>, StartFault>
 
 /// The descriptor of a file.
 fn fd_of(disks: &mut Disks, devices: &mut Devices, place: FilePlace) -> Result<Fd, StartFault>
-    requires file { HasFileAt disks.old
-        (drive_views ⟦<dyn BlockDriver as BlockDriver>⟧ devices.old.drives.items) place }
-    ensures ok { OnDisks disks.old
-        (drive_views ⟦<dyn BlockDriver as BlockDriver>⟧ devices.old.drives.items) place
+    requires file { HasFileAt disks.old (drives_seen BlockDriver-box devices.old) place }
+    ensures ok { OnDisks disks.old (drives_seen BlockDriver-box devices.old) place
         (λ v file. IfOk result (IsFdOf file)) }
     ensures drive { ReadsFile place (start_fault result) (λ v file. 1)
-        disks.old (drive_views ⟦<dyn BlockDriver as BlockDriver>⟧ devices.old.drives.items)
-        disks.new (drive_views ⟦<dyn BlockDriver as BlockDriver>⟧ devices.new.drives.items) }
+        disks.old (drives_seen BlockDriver-box devices.old)
+        disks.new (drives_seen BlockDriver-box devices.new) }
     ensures failed { FailsOn place.drive result }
     ensures terms_kept { devices.new.terms ≡ devices.old.terms }
 {
@@ -166,16 +158,14 @@ fn read_whole(
     place: FilePlace,
     into: &mut [u8],
 ) -> Result<(), StartFault>
-    requires file { HasFileAt disks.old
-        (drive_views ⟦<dyn BlockDriver as BlockDriver>⟧ devices.old.drives.items) place }
-    ensures ok { OnDisks disks.old
-        (drive_views ⟦<dyn BlockDriver as BlockDriver>⟧ devices.old.drives.items) place
+    requires file { HasFileAt disks.old (drives_seen BlockDriver-box devices.old) place }
+    ensures ok { OnDisks disks.old (drives_seen BlockDriver-box devices.old) place
         (λ v file. length into.old ≡ length file.contents
         → OnOk result (into.new ≡ file.contents)) }
     ensures drive { ReadsFile place (start_fault result)
         (λ v file. 1 + sector_count (length file.contents))
-        disks.old (drive_views ⟦<dyn BlockDriver as BlockDriver>⟧ devices.old.drives.items)
-        disks.new (drive_views ⟦<dyn BlockDriver as BlockDriver>⟧ devices.new.drives.items) }
+        disks.old (drives_seen BlockDriver-box devices.old)
+        disks.new (drives_seen BlockDriver-box devices.new) }
     ensures failed { FailsOn place.drive result }
     ensures terms_kept { devices.new.terms ≡ devices.old.terms }
 {

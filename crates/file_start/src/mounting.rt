@@ -2,7 +2,7 @@
 
 ghost use Rattle.std.specs.Prelude.{◌≡◌, ◌<◌, ◌≤◌, vec_len};
 ghost use Rattle.rbf_model.specs.Volume.{DiskVolume};
-ghost use Rattle.file_drives.specs.Drives.{drive_views};
+ghost use Rattle.file_drives.specs.Drives.{drives_seen};
 ghost use Rattle.file_drives.specs.Mounted.{DriveHolds};
 ghost use Rattle.file_start.specs.Start.{HaveVolumes, MountsFirst, MountsOne};
 
@@ -26,11 +26,9 @@ pub fn mount_first(
 ) -> Result<(), StartFault>
     requires there { drives ≤ vec_len devices.old.drives }
     requires few { drives ≤ 4 }
-    requires volumes { HaveVolumes drives
-        (drive_views ⟦<dyn BlockDriver as BlockDriver>⟧ devices.old.drives.items) }
+    requires volumes { HaveVolumes drives (drives_seen BlockDriver-box devices.old) }
     ensures mounts { MountsFirst drives result state.old state.new
-        (drive_views ⟦<dyn BlockDriver as BlockDriver>⟧ devices.old.drives.items)
-        (drive_views ⟦<dyn BlockDriver as BlockDriver>⟧ devices.new.drives.items) }
+        (drives_seen BlockDriver-box devices.old) (drives_seen BlockDriver-box devices.new) }
     ensures terms_kept { devices.new.terms ≡ devices.old.terms }
 {
     for n in 0..drives {
@@ -55,11 +53,9 @@ fn mount_one(
 ) -> Result<(), StartFault>
     requires drive { n < vec_len devices.old.drives }
     requires few { n < 4 }
-    requires volume { (v : DiskVolume) × DriveHolds
-        (drive_views ⟦<dyn BlockDriver as BlockDriver>⟧ devices.old.drives.items) n v }
+    requires volume { (v : DiskVolume) × DriveHolds (drives_seen BlockDriver-box devices.old) n v }
     ensures mounts { MountsOne n result state.old state.new
-        (drive_views ⟦<dyn BlockDriver as BlockDriver>⟧ devices.old.drives.items)
-        (drive_views ⟦<dyn BlockDriver as BlockDriver>⟧ devices.new.drives.items) }
+        (drives_seen BlockDriver-box devices.old) (drives_seen BlockDriver-box devices.new) }
     ensures terms_kept { devices.new.terms ≡ devices.old.terms }
 {
     match state.mount(alloc, n, devices) {

@@ -1,7 +1,7 @@
 //! The start.
 
 ghost use Rattle.std.specs.Prelude.{◌≡◌, ℕ, ◌≤◌, IfOk, List, [], None, length, vec_len};
-ghost use Rattle.file_drives.specs.Drives.{DriveView, drive_views};
+ghost use Rattle.file_drives.specs.Drives.{DriveView, drives_seen};
 ghost use Rattle.file_start.specs.Start.{AreFirst, GivesDirectories, GivesRoot, HasMounted, HaveImages, HaveVolumes, IsRootAt, StartedOn, StartsDrives, start_fault};
 
 use crate::commands::find_commands;
@@ -32,15 +32,12 @@ pub fn start_files(
 ) -> Result<FileState, StartFault>
     requires there { drives ≤ vec_len devices.old.drives }
     requires few { vec_len devices.old.drives ≤ 4 }
-    requires volumes { HaveVolumes drives
-        (drive_views ⟦<dyn BlockDriver as BlockDriver>⟧ devices.old.drives.items) }
+    requires volumes { HaveVolumes drives (drives_seen BlockDriver-box devices.old) }
     ensures started { (images : List (List ℕ)) → HaveImages drives images
-        (drive_views ⟦<dyn BlockDriver as BlockDriver>⟧ devices.old.drives.items)
-        → IfOk result (λ state. StartedOn images state
-        (drive_views ⟦<dyn BlockDriver as BlockDriver>⟧ devices.new.drives.items)) }
-    ensures drives { StartsDrives drives result
-        (drive_views ⟦<dyn BlockDriver as BlockDriver>⟧ devices.old.drives.items)
-        (drive_views ⟦<dyn BlockDriver as BlockDriver>⟧ devices.new.drives.items) }
+        (drives_seen BlockDriver-box devices.old) → IfOk result (λ state. StartedOn images state
+        (drives_seen BlockDriver-box devices.new)) }
+    ensures drives { StartsDrives drives result (drives_seen BlockDriver-box devices.old)
+        (drives_seen BlockDriver-box devices.new) }
     ensures terms_kept { devices.new.terms ≡ devices.old.terms }
 {
     let mut state = new_state(alloc)?;
@@ -73,11 +70,9 @@ fn give_directories(
     state: &mut FileState,
     devices: &mut Devices,
 ) -> Result<(), StartFault>
-    requires first { AreFirst state.old
-        (drive_views ⟦<dyn BlockDriver as BlockDriver>⟧ devices.old.drives.items) }
+    requires first { AreFirst state.old (drives_seen BlockDriver-box devices.old) }
     ensures gives { GivesDirectories result state.old state.new
-        (drive_views ⟦<dyn BlockDriver as BlockDriver>⟧ devices.old.drives.items)
-        (drive_views ⟦<dyn BlockDriver as BlockDriver>⟧ devices.new.drives.items) }
+        (drives_seen BlockDriver-box devices.old) (drives_seen BlockDriver-box devices.new) }
     ensures terms_kept { devices.new.terms ≡ devices.old.terms }
 {
     match state.disks.root(0) {
@@ -97,12 +92,10 @@ fn give_root(
     devices: &mut Devices,
     root: FilePlace,
 ) -> Result<(), StartFault>
-    requires root { IsRootAt state.old.disks
-        (drive_views ⟦<dyn BlockDriver as BlockDriver>⟧ devices.old.drives.items) root }
+    requires root { IsRootAt state.old.disks (drives_seen BlockDriver-box devices.old) root }
     requires first { root.drive ≡ 0 }
-    ensures gives { GivesRoot result state.old state.new
-        (drive_views ⟦<dyn BlockDriver as BlockDriver>⟧ devices.old.drives.items)
-        (drive_views ⟦<dyn BlockDriver as BlockDriver>⟧ devices.new.drives.items) }
+    ensures gives { GivesRoot result state.old state.new (drives_seen BlockDriver-box devices.old)
+        (drives_seen BlockDriver-box devices.new) }
     ensures terms_kept { devices.new.terms ≡ devices.old.terms }
 {
     match find_commands(alloc, &mut state.disks, devices, root) {

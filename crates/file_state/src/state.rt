@@ -19,7 +19,7 @@ ghost use Rattle.file_rules.specs.Locking.{call_wait, end_of_wait as end_of_wait
 ghost use Rattle.file_rules.specs.Processes.{files_started, files_ended};
 ghost use Rattle.file_rules.specs.Sharing.{is_open as is_open_lem, is_not_shared as is_not_shared_lem, is_single as is_single_lem, some_path_on};
 ghost use Rattle.file_rules.specs.Way.{Found};
-ghost use Rattle.file_drives.specs.Drives.{ChangesOneDrive, DriveView, drive_states, drive_views};
+ghost use Rattle.file_drives.specs.Drives.{ChangesOneDrive, DriveView, drive_states, drives_seen};
 ghost use Rattle.file_drives.specs.Mounted.{HasFileAt, ReadsToMount};
 ghost use Rattle.file_laws.specs.Kinds.{AreKinds};
 ghost use Rattle.file_state.specs.Opened.{IsPathOf, NamesFile, NamesNoFile, directory_in, opened_by, path_of};
@@ -105,12 +105,10 @@ impl FileState {
     pub fn mount(&mut self, alloc: Global, n: u8, devices: &mut Devices) -> Result<(), VolFault>
         requires drive { n < vec_len devices.old.drives }
         requires few { n < 4 }
-        ensures mounted { MountsOn result n
-            self.old (drive_views ⟦<dyn BlockDriver as BlockDriver>⟧ devices.old.drives.items)
-            self.new (drive_views ⟦<dyn BlockDriver as BlockDriver>⟧ devices.new.drives.items) }
+        ensures mounted { MountsOn result n self.old (drives_seen BlockDriver-box devices.old)
+            self.new (drives_seen BlockDriver-box devices.new) }
         ensures drive { ChangesOneDrive (ReadsToMount result) n
-            (drive_views ⟦<dyn BlockDriver as BlockDriver>⟧ devices.old.drives.items)
-            (drive_views ⟦<dyn BlockDriver as BlockDriver>⟧ devices.new.drives.items) }
+            (drives_seen BlockDriver-box devices.old) (drives_seen BlockDriver-box devices.new) }
         ensures rest { self.new ≡ record self.old { disks = self.new.disks } }
         ensures others { OthersKept n self.old.disks self.new.disks }
         ensures terms_kept { devices.new.terms ≡ devices.old.terms }

@@ -14,7 +14,7 @@ ghost use Rattle.lock_model.specs.Conflict.{conflicts};
 ghost use Rattle.file_rules.specs.declared.path_call.PathCall.TheVariants as Call;
 ghost use Rattle.file_rules.specs.Locking.{is_for_update as is_for_update_lem};
 ghost use Rattle.file_rules.specs.Status.{range_locked as range_locked_lem, sets_attributes_of as sets_attributes_lem, sets_lock as sets_lock_lem, sets_size as sets_size_lem, sets_ticks as sets_ticks_lem, status_claim as status_claim_lem};
-ghost use Rattle.file_drives.specs.Drives.{DriveView, drive_views};
+ghost use Rattle.file_drives.specs.Drives.{DriveView, drives_seen};
 ghost use Rattle.file_drives.specs.Mounted.{HasDataFileAt, HasFileAt};
 ghost use Rattle.file_state.specs.Asking.{IsGranted, MayAsk, TriesAgain};
 ghost use Rattle.file_state.specs.Attempt.{standing};
@@ -66,14 +66,13 @@ pub fn set_status(
 ) -> CallEnd
     requires lives { IsLiving s.old.table p.0 }
     requires again { TriesAgain Device.SetStt (record_at s.old.table p.0).regs files.old p.0 }
-    requires sound { IsSound files.old
-        (drive_views ⟦<dyn BlockDriver as BlockDriver>⟧ devices.old.drives.items) }
+    requires sound { IsSound files.old (drives_seen BlockDriver-box devices.old) }
     requires named { IsNamedInA p.0 opened.now
-        (standing ⟦<dyn BlockDriver as BlockDriver>⟧ s.old files.old devices.old.drives.items) }
+        (standing BlockDriver-box s.old files.old devices.old) }
     ensures call { (terms : List TerminalState)
         → TriesWithin i_setstt_calls Call.SetStt now p.0 result terms terms
-        (standing ⟦<dyn BlockDriver as BlockDriver>⟧ s.old files.old devices.old.drives.items)
-        (standing ⟦<dyn BlockDriver as BlockDriver>⟧ s.new files.new devices.new.drives.items) }
+        (standing BlockDriver-box s.old files.old devices.old)
+        (standing BlockDriver-box s.new files.new devices.new) }
     ensures lives { IsLiving s.new.table p.0 }
     ensures terms_kept { devices.new.terms ≡ devices.old.terms }
 {
@@ -93,12 +92,12 @@ fn set_status_of(
     requires no_read { IfSome (kept_at files.old.io p.0) (IsNoRead files.old.io) }
     requires asks { MayAsk files.old.io files.old.records.locks p.0 opened.now }
     requires there { HasFileAt files.old.disks
-        (drive_views ⟦<dyn BlockDriver as BlockDriver>⟧ devices.old.drives.items) opened.now.place }
+        (drives_seen BlockDriver-box devices.old) opened.now.place }
     requires written { can_write_lem opened.now.desc.mode ≡ true → HasDataFileAt files.old.disks
-        (drive_views ⟦<dyn BlockDriver as BlockDriver>⟧ devices.old.drives.items) opened.now.place }
+        (drives_seen BlockDriver-box devices.old) opened.now.place }
     ensures call { SetsOn opened.now sets_by_code calls_by_code now p.0 result
-        (standing ⟦<dyn BlockDriver as BlockDriver>⟧ s.old files.old devices.old.drives.items)
-        (standing ⟦<dyn BlockDriver as BlockDriver>⟧ s.new files.new devices.new.drives.items) }
+        (standing BlockDriver-box s.old files.old devices.old)
+        (standing BlockDriver-box s.new files.new devices.new) }
     ensures lives { IsLiving s.new.table p.0 }
     ensures terms_kept { devices.new.terms ≡ devices.old.terms }
 {
@@ -139,10 +138,10 @@ fn set_size(
     requires no_read { IfSome (kept_at files.old.io p.0) (IsNoRead files.old.io) }
     requires asks { MayAsk files.old.io files.old.records.locks p.0 opened.now }
     requires written { can_write_lem opened.now.desc.mode ≡ true → HasDataFileAt files.old.disks
-        (drive_views ⟦<dyn BlockDriver as BlockDriver>⟧ devices.old.drives.items) opened.now.place }
+        (drives_seen BlockDriver-box devices.old) opened.now.place }
     ensures call { SetsOn opened.now sets_size_lem (setting_calls SS_SIZE) now p.0 result
-        (standing ⟦<dyn BlockDriver as BlockDriver>⟧ s.old files.old devices.old.drives.items)
-        (standing ⟦<dyn BlockDriver as BlockDriver>⟧ s.new files.new devices.new.drives.items) }
+        (standing BlockDriver-box s.old files.old devices.old)
+        (standing BlockDriver-box s.new files.new devices.new) }
     ensures lives { IsLiving s.new.table p.0 }
     ensures terms_kept { devices.new.terms ≡ devices.old.terms }
 {
@@ -192,11 +191,11 @@ fn size_granted(
     requires no_read { IfSome (kept_at files.old.io p.0) (IsNoRead files.old.io) }
     requires path { IsPathOf files.old.io opened.now }
     requires file { HasDataFileAt files.old.disks
-        (drive_views ⟦<dyn BlockDriver as BlockDriver>⟧ devices.old.drives.items) opened.now.place }
+        (drives_seen BlockDriver-box devices.old) opened.now.place }
     requires granted { IsGranted files.old.records.locks lock }
     ensures call { SetsGranted opened.now (sizes_granted old lock) granted_size_calls now p.0 result
-        (standing ⟦<dyn BlockDriver as BlockDriver>⟧ s.old files.old devices.old.drives.items)
-        (standing ⟦<dyn BlockDriver as BlockDriver>⟧ s.new files.new devices.new.drives.items) }
+        (standing BlockDriver-box s.old files.old devices.old)
+        (standing BlockDriver-box s.new files.new devices.new) }
     ensures lives { IsLiving s.new.table p.0 }
     ensures terms_kept { devices.new.terms ≡ devices.old.terms }
 {
@@ -268,11 +267,10 @@ fn set_lock(
     requires no_read { IfSome (kept_at files.old.io p.0) (IsNoRead files.old.io) }
     requires asks { MayAsk files.old.io files.old.records.locks p.0 opened.now }
     requires there { HasFileAt files.old.disks
-        (drive_views ⟦<dyn BlockDriver as BlockDriver>⟧ devices.old.drives.items) opened.now.place }
+        (drives_seen BlockDriver-box devices.old) opened.now.place }
     ensures call { (now : Time) → SetsOn opened.now sets_lock_lem (setting_calls SS_LOCK) now p.0
-        result
-        (standing ⟦<dyn BlockDriver as BlockDriver>⟧ s.old files.old devices.old.drives.items)
-        (standing ⟦<dyn BlockDriver as BlockDriver>⟧ s.new files.new devices.new.drives.items) }
+        result (standing BlockDriver-box s.old files.old devices.old)
+        (standing BlockDriver-box s.new files.new devices.new) }
     ensures lives { IsLiving s.new.table p.0 }
     ensures terms_kept { devices.new.terms ≡ devices.old.terms }
 {
@@ -346,10 +344,10 @@ fn set_attributes(
     requires lives { IsLiving s.old.table p.0 }
     requires no_read { IfSome (kept_at files.old.io p.0) (IsNoRead files.old.io) }
     requires there { HasFileAt files.old.disks
-        (drive_views ⟦<dyn BlockDriver as BlockDriver>⟧ devices.old.drives.items) opened.now.place }
+        (drives_seen BlockDriver-box devices.old) opened.now.place }
     ensures call { EndsOn opened.now sets_attributes_lem (setting_calls SS_ATTR) now p.0 result
-        (standing ⟦<dyn BlockDriver as BlockDriver>⟧ s.old files.old devices.old.drives.items)
-        (standing ⟦<dyn BlockDriver as BlockDriver>⟧ s.new files.new devices.new.drives.items) }
+        (standing BlockDriver-box s.old files.old devices.old)
+        (standing BlockDriver-box s.new files.new devices.new) }
     ensures lives { IsLiving s.new.table p.0 }
     ensures terms_kept { devices.new.terms ≡ devices.old.terms }
 {

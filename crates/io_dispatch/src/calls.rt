@@ -40,11 +40,9 @@ pub fn attempt(
     requires may { MayAttempt call s.old io.old p.0 (vec_len devices.old.terms) }
     requires status { call ≡ IoCall.SetStt → kept_at io.old p.0 ≡ None }
     ensures call { AttemptsFrom call (vec_len devices.old.drives) p.0 result s.old s.new
-        (streams ⟦<dyn CharDriver as CharDriver>⟧ io.old devices.old.terms.items)
-        (streams ⟦<dyn CharDriver as CharDriver>⟧ io.new devices.new.terms.items) }
+        (streams CharDriver-box io.old devices.old) (streams CharDriver-box io.new devices.new) }
     ensures memory { WantsMemoryFrom call (vec_len devices.old.drives) p.0 result s.old
-        (streams ⟦<dyn CharDriver as CharDriver>⟧ io.old devices.old.terms.items)
-        (streams ⟦<dyn CharDriver as CharDriver>⟧ io.new devices.new.terms.items) }
+        (streams CharDriver-box io.old devices.old) (streams CharDriver-box io.new devices.new) }
     ensures lives { IsLiving s.new.table p.0 }
     ensures drives { devices.new.drives ≡ devices.old.drives }
     ensures count { vec_len devices.new.terms ≡ vec_len devices.old.terms }

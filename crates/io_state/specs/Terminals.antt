@@ -2,8 +2,10 @@
 use Rattle.std.specs.Prelude.{◌≡◌, ℕ, ◌<◌, ◌≤◌, Option, Some, None, IfSome, List, slice_index_or, slice_set}
 use Rattle.std.specs.declared.alloc.Global.{Global}
 use Rattle.std.specs.declared.dyn_box.DynBox.{DynBox}
-use Rattle.os9_outer.specs.TerminalState.{ChangesOneTerminal, TerminalState, terminal_states}
+use Rattle.os9_outer.specs.TerminalState.{ChangesOneTerminal, TerminalState}
 use Rattle.os9_outer.specs.declared.terminal.CharDriver.{Ghosts}
+use Rattle.device_table.specs.Seen.{terminals_seen}
+use Rattle.device_table.specs.declared.devices.DeviceTable.{DeviceTable}
 use Rattle.io_model.specs.Terminal.{IsSameCall, Terminal, new_terminal}
 use Rattle.io_model.specs.declared.kept.Kept.{Kept}
 use Rattle.io_model.specs.declared.path.Target.TheVariants.{Term}
@@ -47,14 +49,16 @@ pub record MayBeAsked (request : Reading) (terminal : Terminal) : Type 0 where
 -- ---- what an attempt changes
 
 -- the terminal of this number and its driver, in the box of this number, changed together in this way, and no other
--- driver changed; as `ChangesWithDriver ⟦<dyn CharDriver as CharDriver>⟧ n (Reads request result) self.old
--- devices.old.terms.items self.new devices.new.terms.items`
-abbrev pub ChangesWithDriver : {Table : Type 0} {Driver : Table → Type 0} → ((table : Table) → Ghosts (Driver table))
-    → ℕ → (Terminal → Terminal → TerminalState → TerminalState → Type 0) → List Terminal
-    → List (DynBox Table Global Driver) → List Terminal → List (DynBox Table Global Driver) → Type 0
-ChangesWithDriver members n change terms drivers terms_after drivers_after =
+-- driver changed; as `ChangesWithDriver CharDriver-box n (Reads request result) self.old devices.old self.new
+-- devices.new`
+abbrev pub ChangesWithDriver : {Table : Type 0} {Driver : Table → Type 0} {Drives : Type 0}
+    → ((terminal : DynBox Table Global Driver) → Ghosts (Driver terminal.vtable)) → ℕ
+    → (Terminal → Terminal → TerminalState → TerminalState → Type 0) → List Terminal
+    → DeviceTable Drives (DynBox Table Global Driver) → List Terminal
+    → DeviceTable Drives (DynBox Table Global Driver) → Type 0
+ChangesWithDriver members n change terms devices terms_after devices_after =
     ChangesOneTerminal (change (slice_index_or terms n new_terminal) (slice_index_or terms_after n new_terminal)) n
-    (terminal_states members drivers) (terminal_states members drivers_after)
+    (terminals_seen members devices) (terminals_seen members devices_after)
 
 -- no terminal but this one changed
 abbrev pub ChangesAlone : ℕ → List Terminal → List Terminal → Type 0

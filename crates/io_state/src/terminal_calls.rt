@@ -30,9 +30,9 @@ impl IoState {
     ) -> Progress
         requires may { MayRead self.old p.0 terminal kind call }
         requires there { terminal < vec_len devices.old.terms }
-        ensures device { ChangesWithDriver ⟦<dyn CharDriver as CharDriver>⟧ terminal
+        ensures device { ChangesWithDriver CharDriver-box terminal
             (Reads (read_of p kind (most_of call)) result)
-            self.old.terminals devices.old.terms.items self.new.terminals devices.new.terms.items }
+            self.old.terminals devices.old self.new.terminals devices.new }
         ensures stored { take (count_of result) into.new
             ≡ stored_bytes result (read_of p kind (most_of call)) (terminal_at self.old terminal) }
         ensures few { count_of result ≤ most_of call }
@@ -65,9 +65,9 @@ impl IoState {
         requires terminal { terminal < 4 }
         requires there { terminal < vec_len devices.old.terms }
         requires most { length bytes.now ≤ 65535 }
-        ensures device { ChangesWithDriver ⟦<dyn CharDriver as CharDriver>⟧ terminal
+        ensures device { ChangesWithDriver CharDriver-box terminal
             (Writes p bytes.now (length bytes.now) result)
-            self.old.terminals devices.old.terms.items self.new.terminals devices.new.terms.items }
+            self.old.terminals devices.old self.new.terminals devices.new }
         ensures io { ChangesInCall terminal p.0 None self.old self.new }
         ensures drives { devices.new.drives ≡ devices.old.drives }
         ensures count { vec_len devices.new.terms ≡ vec_len devices.old.terms }
@@ -92,9 +92,9 @@ impl IoState {
         requires terminal { terminal < 4 }
         requires there { terminal < vec_len devices.old.terms }
         requires most { length bytes.now ≤ 65535 }
-        ensures device { ChangesWithDriver ⟦<dyn CharDriver as CharDriver>⟧ terminal
+        ensures device { ChangesWithDriver CharDriver-box terminal
             (Writes p (line_put bytes.now) (line_length bytes.now) result)
-            self.old.terminals devices.old.terms.items self.new.terminals devices.new.terms.items }
+            self.old.terminals devices.old self.new.terminals devices.new }
         ensures io { ChangesInCall terminal p.0 None self.old self.new }
         ensures drives { devices.new.drives ≡ devices.old.drives }
         ensures count { vec_len devices.new.terms ≡ vec_len devices.old.terms }
@@ -109,9 +109,9 @@ impl IoState {
     pub fn arrive(&mut self, terminal: u8, tick: u32, devices: &mut Devices) -> Arrival
         requires terminal { terminal < 4 }
         requires there { terminal < vec_len devices.old.terms }
-        ensures device { ChangesWithDriver ⟦<dyn CharDriver as CharDriver>⟧ terminal
+        ensures device { ChangesWithDriver CharDriver-box terminal
             (λ old new before after. Arrives tick old new before after result)
-            self.old.terminals devices.old.terms.items self.new.terminals devices.new.terms.items }
+            self.old.terminals devices.old self.new.terminals devices.new }
         ensures io { self.new ≡ with_terminal self.old terminal (terminal_at self.new terminal) }
         ensures drives { devices.new.drives ≡ devices.old.drives }
         ensures count { vec_len devices.new.terms ≡ vec_len devices.old.terms }

@@ -2,7 +2,7 @@
 
 ghost use Rattle.std.specs.Prelude.{◌≡◌, ◌<◌, ◌≤◌, not, false, IfOk, length, map, replicate, slice_index_or, slice_set, take, vec_len};
 ghost use Rattle.std.specs.Option.{option_map_or};
-ghost use Rattle.os9_outer.specs.TerminalState.{boxed_terminal_state};
+ghost use Rattle.device_table.specs.Seen.{boxed_terminal_state};
 ghost use Rattle.io_model.specs.Line.{line_length, line_put};
 ghost use Rattle.io_model.specs.Terminal.{new_terminal, Arrives, Reads, Writes, is_process, forgotten, released, stored_bytes, stored_over};
 ghost use Rattle.io_rules.specs.Waiting.{may_read_terminal};
@@ -99,8 +99,8 @@ impl Terminals {
         requires terminal { n < 4 }
         requires there { n < vec_len devices.old.terms }
         requires asked { MayBeAsked request (slice_index_or self.old n new_terminal) }
-        ensures device { ChangesWithDriver ⟦<dyn CharDriver as CharDriver>⟧ n (Reads request result)
-            self.old devices.old.terms.items self.new devices.new.terms.items }
+        ensures device { ChangesWithDriver CharDriver-box n (Reads request result)
+            self.old devices.old self.new devices.new }
         ensures stored { take (count_of result) into.new
             ≡ stored_bytes result request (slice_index_or self.old n new_terminal) }
         ensures few { count_of result ≤ request.most }
@@ -121,9 +121,9 @@ impl Terminals {
         requires terminal { n < 4 }
         requires there { n < vec_len devices.old.terms }
         requires most { length bytes.now ≤ 65535 }
-        ensures device { ChangesWithDriver ⟦<dyn CharDriver as CharDriver>⟧ n
+        ensures device { ChangesWithDriver CharDriver-box n
             (Writes p bytes.now (length bytes.now) result)
-            self.old devices.old.terms.items self.new devices.new.terms.items }
+            self.old devices.old self.new devices.new }
         ensures terminals { ChangesAlone n self.old self.new }
         ensures drives { devices.new.drives ≡ devices.old.drives }
         ensures count { vec_len devices.new.terms ≡ vec_len devices.old.terms }
@@ -141,9 +141,9 @@ impl Terminals {
         requires terminal { n < 4 }
         requires there { n < vec_len devices.old.terms }
         requires most { length bytes.now ≤ 65535 }
-        ensures device { ChangesWithDriver ⟦<dyn CharDriver as CharDriver>⟧ n
+        ensures device { ChangesWithDriver CharDriver-box n
             (Writes p (line_put bytes.now) (line_length bytes.now) result)
-            self.old devices.old.terms.items self.new devices.new.terms.items }
+            self.old devices.old self.new devices.new }
         ensures terminals { ChangesAlone n self.old self.new }
         ensures drives { devices.new.drives ≡ devices.old.drives }
         ensures count { vec_len devices.new.terms ≡ vec_len devices.old.terms }
@@ -160,9 +160,9 @@ impl Terminals {
     pub fn arrive(&mut self, n: u8, tick: u32, devices: &mut Devices) -> Arrival
         requires terminal { n < 4 }
         requires there { n < vec_len devices.old.terms }
-        ensures device { ChangesWithDriver ⟦<dyn CharDriver as CharDriver>⟧ n
+        ensures device { ChangesWithDriver CharDriver-box n
             (λ old new before after. Arrives tick old new before after result)
-            self.old devices.old.terms.items self.new devices.new.terms.items }
+            self.old devices.old self.new devices.new }
         ensures terminals { ChangesAlone n self.old self.new }
         ensures drives { devices.new.drives ≡ devices.old.drives }
         ensures count { vec_len devices.new.terms ≡ vec_len devices.old.terms }
@@ -185,8 +185,8 @@ fn read_in_box(
     requires asked { MayBeAsked request term.old }
     requires buffer { request.most ≡ length into.old }
     ensures read { Reads request result term.old term.new
-        (boxed_terminal_state ⟦<dyn CharDriver as CharDriver>⟧ driver.old)
-        (boxed_terminal_state ⟦<dyn CharDriver as CharDriver>⟧ driver.new) }
+        (boxed_terminal_state CharDriver-box driver.old)
+        (boxed_terminal_state CharDriver-box driver.new) }
     ensures stored { into.new ≡ stored_over (stored_bytes result request term.old) into.old }
 {
     match request.kind {
@@ -199,8 +199,8 @@ fn read_in_box(
 fn write_in_box(term: &mut Term, p: Pid, bytes: &[u8], driver: &mut Box<dyn CharDriver>) -> Progress
     requires { length bytes.now ≤ 65535 }
     ensures { Writes p bytes.now (length bytes.now) result term.old term.new
-        (boxed_terminal_state ⟦<dyn CharDriver as CharDriver>⟧ driver.old)
-        (boxed_terminal_state ⟦<dyn CharDriver as CharDriver>⟧ driver.new) }
+        (boxed_terminal_state CharDriver-box driver.old)
+        (boxed_terminal_state CharDriver-box driver.new) }
 {
     term.write(p, bytes, &mut **driver)
 }
@@ -214,17 +214,16 @@ fn write_line_in_box(
 ) -> Progress
     requires { length bytes.now ≤ 65535 }
     ensures { Writes p (line_put bytes.now) (line_length bytes.now) result term.old term.new
-        (boxed_terminal_state ⟦<dyn CharDriver as CharDriver>⟧ driver.old)
-        (boxed_terminal_state ⟦<dyn CharDriver as CharDriver>⟧ driver.new) }
+        (boxed_terminal_state CharDriver-box driver.old)
+        (boxed_terminal_state CharDriver-box driver.new) }
 {
     term.write_line(p, bytes, &mut **driver)
 }
 
 /// The terminal's keys that are due at a tick arrive.
 fn arrive_in_box(term: &mut Term, tick: u32, driver: &mut Box<dyn CharDriver>) -> Arrival
-    ensures { Arrives tick term.old term.new
-        (boxed_terminal_state ⟦<dyn CharDriver as CharDriver>⟧ driver.old)
-        (boxed_terminal_state ⟦<dyn CharDriver as CharDriver>⟧ driver.new) result }
+    ensures { Arrives tick term.old term.new (boxed_terminal_state CharDriver-box driver.old)
+        (boxed_terminal_state CharDriver-box driver.new) result }
 {
     term.arrive(tick, &mut **driver)
 }

@@ -1,7 +1,7 @@
 //! Keys that arrive.
 
 ghost use Rattle.std.specs.Prelude.{◌≡◌, ◌<◌, ◌≤◌, ◌||◌, false, None, Ok, IsErr, IsOk, vec_len};
-ghost use Rattle.os9_outer.specs.TerminalState.{terminal_states};
+ghost use Rattle.device_table.specs.Seen.{terminals_seen};
 ghost use Rattle.call_rules.specs.Inner.{Inner};
 ghost use Rattle.io_rules.specs.Arrivals.{after_key_signal, after_signal_to};
 ghost use Rattle.key_arrivals.specs.Keys.{KeysArrive, KeysArriveAt, KeysBreak, KeysBreakAt};
@@ -34,11 +34,11 @@ pub fn arrive_keys(
 ) -> Result<bool, OutOfMemory>
     requires { vec_len devices.old.terms ≤ 4 }
     ensures arrived { IsOk result → KeysArrive s.old io.old
-        (terminal_states ⟦<dyn CharDriver as CharDriver>⟧ devices.old.terms.items) s.new io.new
-        (terminal_states ⟦<dyn CharDriver as CharDriver>⟧ devices.new.terms.items) }
+        (terminals_seen CharDriver-box devices.old) s.new io.new
+        (terminals_seen CharDriver-box devices.new) }
     ensures broken { IsErr result → KeysBreak s.old io.old
-        (terminal_states ⟦<dyn CharDriver as CharDriver>⟧ devices.old.terms.items) s.new io.new
-        (terminal_states ⟦<dyn CharDriver as CharDriver>⟧ devices.new.terms.items) 0 }
+        (terminals_seen CharDriver-box devices.old) s.new io.new
+        (terminals_seen CharDriver-box devices.new) 0 }
     ensures quiet { result ≡ Ok false → (s.new ≡ s.old) × (io.new ≡ io.old) }
     ensures tick { s.new.tick ≡ s.old.tick }
     ensures drives { devices.new.drives ≡ devices.old.drives }
@@ -69,11 +69,11 @@ fn arrive_on(
     requires terminal { n < 4 }
     requires there { n < vec_len devices.old.terms }
     ensures arrived { IsOk result → KeysArriveAt s.old io.old
-        (terminal_states ⟦<dyn CharDriver as CharDriver>⟧ devices.old.terms.items) s.new io.new
-        (terminal_states ⟦<dyn CharDriver as CharDriver>⟧ devices.new.terms.items) n }
+        (terminals_seen CharDriver-box devices.old) s.new io.new
+        (terminals_seen CharDriver-box devices.new) n }
     ensures broken { IsErr result → KeysBreakAt s.old io.old
-        (terminal_states ⟦<dyn CharDriver as CharDriver>⟧ devices.old.terms.items) s.new io.new
-        (terminal_states ⟦<dyn CharDriver as CharDriver>⟧ devices.new.terms.items) n }
+        (terminals_seen CharDriver-box devices.old) s.new io.new
+        (terminals_seen CharDriver-box devices.new) n }
     ensures quiet { result ≡ Ok false → (s.new ≡ s.old) × (io.new ≡ io.old) }
     ensures tick { s.new.tick ≡ s.old.tick }
     ensures drives { devices.new.drives ≡ devices.old.drives }

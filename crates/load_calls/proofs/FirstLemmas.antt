@@ -24,7 +24,7 @@ first-sound state views none io disks directories records =
     })
 
 -- where there are no drives
-pub alone-sound : {Table : Type 0} {Driver : Table → Type 0} (members : (table : Table) → Ghosts (Driver table))
+pub alone-sound : {Table : Type 0} {Driver : Table → Type 0} (members : (drive : DynBox Table Global Driver) → Ghosts (Driver drive.vtable))
     (drives : List (DynBox Table Global Driver)) (state : FileState) → drives ≡ [] → state.io ≡ first_io
     → state.disks ≡ replicate 4 None → state.directories ≡ replicate 33 no_directories → state.records ≡ no_records
     → IsSound state (drive_views members drives)

@@ -6,7 +6,6 @@ ghost use Rattle.load_calls.specs.Entering.{TriesFile};
 ghost use Rattle.file_rules.specs.Program.{forks, parameters_of, starts_first};
 ghost use Rattle.file_rules.specs.ProgramFile.{ProgramFile};
 ghost use Rattle.guest_memory.specs.Tie.{Represents as RepresentsMemory};
-ghost use Rattle.file_drives.specs.Drives.{drive_views};
 ghost use Rattle.file_state.specs.Attempt.{standing};
 ghost use Rattle.file_state.specs.Tie.{IsSound};
 ghost use Rattle.load_calls.specs.Attempts.{ForksFrom};
@@ -15,6 +14,7 @@ ghost use Rattle.load_calls.specs.Loading.{GoesOn, HasFirst};
 ghost use Rattle.os9_base.specs.declared.limits.TheConstants.{MOST_GROUP_BYTES as MOST};
 ghost use Rattle.proc_model.specs.Memory.{MemoryState};
 ghost use Rattle.proc_rules.specs.Records.{IsLiving};
+ghost use Rattle.file_drives.specs.Drives.{drives_seen};
 ghost use Rattle.proc_state.specs.Tie.{Represents};
 ghost use Rattle.load_calls.specs.Reading.{IsInBuffer};
 
@@ -48,11 +48,10 @@ use proc_state::state::ProcState;
 /// fails; else those of `fork_read`. Nothing has changed then.
 pub fn f_fork(s: &mut ProcState, files: &mut FileState, p: Pid, devices: &mut Devices) -> CallEnd
     requires lives { IsLiving s.old.table p.0 }
-    requires sound { IsSound files.old
-        (drive_views ⟦<dyn BlockDriver as BlockDriver>⟧ devices.old.drives.items) }
+    requires sound { IsSound files.old (drives_seen BlockDriver-box devices.old) }
     ensures call { (now : TimePacket) → ForksFrom now p.0 result (vec_len devices.old.terms)
-        (standing ⟦<dyn BlockDriver as BlockDriver>⟧ s.old files.old devices.old.drives.items)
-        (standing ⟦<dyn BlockDriver as BlockDriver>⟧ s.new files.new devices.new.drives.items) }
+        (standing BlockDriver-box s.old files.old devices.old)
+        (standing BlockDriver-box s.new files.new devices.new) }
     ensures lives { IsLiving s.new.table p.0 }
     ensures terms_kept { devices.new.terms ≡ devices.old.terms }
     ensures io { files.new.io ≡ files.old.io }

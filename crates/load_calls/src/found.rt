@@ -1,7 +1,7 @@
 //! A file of modules that was found.
 
 ghost use Rattle.std.specs.Prelude.{◌≡◌, ◌≤◌, IfOk, IsSome, List, OnErr, length};
-ghost use Rattle.file_drives.specs.Drives.{DriveView, drive_views};
+ghost use Rattle.file_drives.specs.Drives.{DriveView, drives_seen};
 ghost use Rattle.file_drives.specs.Mounted.{HasFileAt, OnDisks, ReadsFile};
 ghost use Rattle.file_rules.specs.Files.{Files};
 ghost use Rattle.file_rules.specs.Open.{may_open};
@@ -92,15 +92,13 @@ pub(crate) fn load_whole(
     place: FilePlace,
     size: u16,
 ) -> Result<(), FileFault>
-    requires file { HasFileAt disks.old
-        (drive_views ⟦<dyn BlockDriver as BlockDriver>⟧ devices.old.drives.items) place }
-    ensures ok { OnDisks disks.old
-        (drive_views ⟦<dyn BlockDriver as BlockDriver>⟧ devices.old.drives.items) place
+    requires file { HasFileAt disks.old (drives_seen BlockDriver-box devices.old) place }
+    ensures ok { OnDisks disks.old (drives_seen BlockDriver-box devices.old) place
         (λ v file. IfOk result (λ done. IsWhole file size s.new.buffer.items)) }
     ensures device { OnErr result (IsSome (file_fault result)) }
     ensures drive { ReadsFile place (file_fault result) (λ v file. read_calls file 0 size)
-        disks.old (drive_views ⟦<dyn BlockDriver as BlockDriver>⟧ devices.old.drives.items)
-        disks.new (drive_views ⟦<dyn BlockDriver as BlockDriver>⟧ devices.new.drives.items) }
+        disks.old (drives_seen BlockDriver-box devices.old)
+        disks.new (drives_seen BlockDriver-box devices.new) }
     ensures same { IsSame s.old s.new }
     ensures terms_kept { devices.new.terms ≡ devices.old.terms }
 {
@@ -115,16 +113,14 @@ fn load_front(
     size: u16,
     into: &mut [u8],
 ) -> Result<(), FileFault>
-    requires file { HasFileAt disks.old
-        (drive_views ⟦<dyn BlockDriver as BlockDriver>⟧ devices.old.drives.items) place }
+    requires file { HasFileAt disks.old (drives_seen BlockDriver-box devices.old) place }
     requires room { size ≤ length into.old }
-    ensures ok { OnDisks disks.old
-        (drive_views ⟦<dyn BlockDriver as BlockDriver>⟧ devices.old.drives.items) place
+    ensures ok { OnDisks disks.old (drives_seen BlockDriver-box devices.old) place
         (λ v file. IfOk result (λ done. IsWhole file size into.new)) }
     ensures device { OnErr result (IsSome (file_fault result)) }
     ensures drive { ReadsFile place (file_fault result) (λ v file. read_calls file 0 size)
-        disks.old (drive_views ⟦<dyn BlockDriver as BlockDriver>⟧ devices.old.drives.items)
-        disks.new (drive_views ⟦<dyn BlockDriver as BlockDriver>⟧ devices.new.drives.items) }
+        disks.old (drives_seen BlockDriver-box devices.old)
+        disks.new (drives_seen BlockDriver-box devices.new) }
     ensures room { length into.new ≡ length into.old }
     ensures terms_kept { devices.new.terms ≡ devices.old.terms }
 {

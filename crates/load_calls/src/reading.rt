@@ -1,7 +1,7 @@
 //! The file of modules that a call's path list names.
 
 ghost use Rattle.std.specs.Prelude.{◌≡◌, ◌≤◌, IfOk, vec_len};
-ghost use Rattle.file_drives.specs.Drives.{drive_views};
+ghost use Rattle.file_drives.specs.Drives.{drives_seen};
 ghost use Rattle.file_drives.specs.Mounted.{HasFileAt};
 ghost use Rattle.file_rules.specs.Files.{Files};
 ghost use Rattle.file_rules.specs.ProgramFile.{program_file};
@@ -61,13 +61,12 @@ pub fn read_program(
     refusal: Option<u8>,
 ) -> Result<ProgramRead, u8>
     requires lives { IsLiving s.old.table p.0 }
-    requires sound { IsSound files.old
-        (drive_views ⟦<dyn BlockDriver as BlockDriver>⟧ devices.old.drives.items) }
+    requires sound { IsSound files.old (drives_seen BlockDriver-box devices.old) }
     ensures call { ReadsFrom p.0
         (λ asker was. program_file asker was (vec_len devices.old.terms) (refuses_by refusal))
         (λ asker was. program_calls asker was (vec_len devices.old.terms) refusal) result
-        (standing ⟦<dyn BlockDriver as BlockDriver>⟧ s.old files.old devices.old.drives.items)
-        (standing ⟦<dyn BlockDriver as BlockDriver>⟧ s.new files.new devices.new.drives.items) }
+        (standing BlockDriver-box s.old files.old devices.old)
+        (standing BlockDriver-box s.new files.new devices.new) }
     ensures short { IfOk result (λ read. read.size ≤ MOST) }
     ensures same { IsSame s.old s.new }
     ensures terms_kept { devices.new.terms ≡ devices.old.terms }
@@ -106,11 +105,10 @@ fn read_along(
 ) -> Result<ProgramRead, u8>
     requires lives { IsLiving s.old.table p.0 }
     requires names { SomeFrom (cells_of s.old.memory p.0) first }
-    requires file { HasFileAt files.old.disks
-        (drive_views ⟦<dyn BlockDriver as BlockDriver>⟧ devices.old.drives.items) from }
+    requires file { HasFileAt files.old.disks (drives_seen BlockDriver-box devices.old) from }
     ensures along { ReadsAlong p.0 from first next result
-        (standing ⟦<dyn BlockDriver as BlockDriver>⟧ s.old files.old devices.old.drives.items)
-        (standing ⟦<dyn BlockDriver as BlockDriver>⟧ s.new files.new devices.new.drives.items) }
+        (standing BlockDriver-box s.old files.old devices.old)
+        (standing BlockDriver-box s.new files.new devices.new) }
     ensures short { IfOk result (λ read. read.size ≤ MOST) }
     ensures same { IsSame s.old s.new }
     ensures terms_kept { devices.new.terms ≡ devices.old.terms }
@@ -140,13 +138,12 @@ fn read_there(
     place: FilePlace,
     next: u32,
 ) -> Result<ProgramRead, u8>
-    requires file { HasFileAt files.old.disks
-        (drive_views ⟦<dyn BlockDriver as BlockDriver>⟧ devices.old.drives.items) place }
+    requires file { HasFileAt files.old.disks (drives_seen BlockDriver-box devices.old) place }
     ensures there { (was : Files) (found : Found) → HasFound place was found
-        (standing ⟦<dyn BlockDriver as BlockDriver>⟧ s.old files.old devices.old.drives.items)
+        (standing BlockDriver-box s.old files.old devices.old)
         → ReadsBetween (program_there user was next found) (found_calls user was found) was result
-        (standing ⟦<dyn BlockDriver as BlockDriver>⟧ s.old files.old devices.old.drives.items)
-        (standing ⟦<dyn BlockDriver as BlockDriver>⟧ s.new files.new devices.new.drives.items) }
+        (standing BlockDriver-box s.old files.old devices.old)
+        (standing BlockDriver-box s.new files.new devices.new) }
     ensures short { IfOk result (λ read. read.size ≤ MOST) }
     ensures same { IsSame s.old s.new }
     ensures terms_kept { devices.new.terms ≡ devices.old.terms }
@@ -171,14 +168,13 @@ fn read_found(
     fd: &Fd,
     next: u32,
 ) -> Result<ProgramRead, u8>
-    requires file { HasFileAt files.old.disks
-        (drive_views ⟦<dyn BlockDriver as BlockDriver>⟧ devices.old.drives.items) place }
+    requires file { HasFileAt files.old.disks (drives_seen BlockDriver-box devices.old) place }
     ensures found { (was : Files) (found : Found) → HasFound place was found
-        (standing ⟦<dyn BlockDriver as BlockDriver>⟧ s.old files.old devices.old.drives.items)
+        (standing BlockDriver-box s.old files.old devices.old)
         → IsFdOf found.file fd.now → ReadsBetween (program_there user was next found)
         (size_calls found.file (program_size_lem user was found)) was result
-        (standing ⟦<dyn BlockDriver as BlockDriver>⟧ s.old files.old devices.old.drives.items)
-        (standing ⟦<dyn BlockDriver as BlockDriver>⟧ s.new files.new devices.new.drives.items) }
+        (standing BlockDriver-box s.old files.old devices.old)
+        (standing BlockDriver-box s.new files.new devices.new) }
     ensures short { IfOk result (λ read. read.size ≤ MOST) }
     ensures same { IsSame s.old s.new }
     ensures terms_kept { devices.new.terms ≡ devices.old.terms }

@@ -2,13 +2,13 @@
 #![tactic(auto)]
 
 ghost use Rattle.std.specs.Prelude.{map, string_bytes};
+ghost use Rattle.device_table.specs.Seen.{terminals_seen};
 ghost use Rattle.boot_images.specs.Drives.{HaveRoom};
 ghost use Rattle.boot_run.specs.World.{world_of};
 ghost use Rattle.file_drives.specs.Drives.{drive_views, drives_seen};
 ghost use Rattle.boot_run.specs.Loaded.{AreUnloaded};
 ghost use Rattle.os9_boot.specs.TopCall.{TopCall};
 ghost use Rattle.os9_kernel.specs.Outside.{outside};
-ghost use Rattle.os9_outer.specs.TerminalState.{terminal_states};
 ghost use Rattle.os9_words.specs.Notes.{notes_of};
 
 #[cfg(test)]
@@ -61,7 +61,7 @@ fn run(rt: HostRuntime) -> io::Result<u8> {
 /// Does what the words say on these drives, four without an image, and on four terminals without
 /// keys.
 fn run_on(rt: HostRuntime, words: &[String], drives: Vec<Box<dyn BlockDriver>>) -> io::Result<u8>
-    requires { HaveRoom 4 (drive_views ⟦<dyn BlockDriver as BlockDriver>⟧ drives.items) }
+    requires { HaveRoom 4 (drive_views BlockDriver-box drives.items) }
 {
     let alloc = rt.alloc();
     let mut terms: Vec<Box<dyn CharDriver>> = Vec::new(alloc);
@@ -76,14 +76,11 @@ fn run_on(rt: HostRuntime, words: &[String], drives: Vec<Box<dyn BlockDriver>>) 
 /// The program over any host: does what the words say, on these devices, four drives without an
 /// image and one to four terminals without keys. The status is that of the top call.
 pub fn program<H: Host>(alloc: Global, words: &[String], host: &mut H, devices: &mut Devices) -> u8
-    requires terminals { AreUnloaded
-        (terminal_states ⟦<dyn CharDriver as CharDriver>⟧ devices.old.terms.items) }
+    requires terminals { AreUnloaded (terminals_seen CharDriver-box devices.old) }
     requires drives { HaveRoom 4 (drives_seen BlockDriver-box devices.old) }
     ensures call { TopCall (map string_bytes words.now)
-        (world_of H.Host host.old (outside ⟦<dyn BlockDriver as BlockDriver>⟧
-        devices.old.drives.items ⟦<dyn CharDriver as CharDriver>⟧ devices.old.terms.items))
-        (world_of H.Host host.new (outside ⟦<dyn BlockDriver as BlockDriver>⟧
-        devices.new.drives.items ⟦<dyn CharDriver as CharDriver>⟧ devices.new.terms.items))
+        (world_of H.Host host.old (outside BlockDriver-box CharDriver-box devices.old))
+        (world_of H.Host host.new (outside BlockDriver-box CharDriver-box devices.new))
         (notes_of H.Host host.old) (notes_of H.Host host.new) result }
 {
     os9_main(alloc, words, host, devices)

@@ -7,10 +7,10 @@ mod tools;
 mod words;
 
 ghost use Rattle.std.specs.Prelude.{◌≡◌, []};
+ghost use Rattle.device_table.specs.Seen.{terminals_seen};
+ghost use Rattle.file_drives.specs.Drives.{drives_seen};
 ghost use Rattle.boot_images.specs.Drives.{HaveRoom};
-ghost use Rattle.file_drives.specs.Drives.{drive_views};
 ghost use Rattle.boot_run.specs.Loaded.{AreUnloaded};
-ghost use Rattle.os9_outer.specs.TerminalState.{terminal_states};
 
 use crate::program;
 use device_table::devices::Devices;
@@ -131,10 +131,8 @@ fn call_over(
     words: &[String],
     host: MemHost,
 ) -> Result<Shown, AllocError>
-    requires terminals { AreUnloaded
-        (terminal_states ⟦<dyn CharDriver as CharDriver>⟧ devices.terms.items) }
-    requires drives { HaveRoom 4
-        (drive_views ⟦<dyn BlockDriver as BlockDriver>⟧ devices.drives.items) }
+    requires terminals { AreUnloaded (terminals_seen CharDriver-box devices) }
+    requires drives { HaveRoom 4 (drives_seen BlockDriver-box devices) }
 {
     let mut devices = devices;
     let mut host = host;

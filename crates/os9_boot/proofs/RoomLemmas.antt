@@ -5,7 +5,7 @@ use Rattle.std.proofs.lemmas.List.{length-map}
 use Rattle.std.specs.declared.alloc.Global.{Global}
 use Rattle.std.specs.declared.dyn_box.DynBox.{DynBox}
 use Rattle.os9_outer.specs.declared.drive.BlockDriver.{Ghosts}
-use Rattle.file_drives.specs.Drives.{DriveView, boxed_drive_view, drive_views}
+use Rattle.file_drives.specs.Drives.{DriveView, boxed_seen, drive_views}
 use Rattle.boot_run.specs.Loaded.{AreUnloaded}
 use Rattle.os9_words.specs.declared.command.Command.{Command}
 use Rattle.os9_words.specs.declared.command.Command.TheVariants.{Run, Boot, Check, Stress, Vol, Asm, Debug}
@@ -46,19 +46,19 @@ free-for words devices unloaded room = record {
 }
 
 -- one drive more
-pub empty-more : {Table : Type 0} {Driver : Table → Type 0} (members : (table : Table) → Ghosts (Driver table))
+pub empty-more : {Table : Type 0} {Driver : Table → Type 0} (members : (drive : DynBox Table Global Driver) → Ghosts (Driver drive.vtable))
     (drives : List (DynBox Table Global Driver)) (drive : DynBox Table Global Driver)
-    → IsEmpty (boxed_drive_view members drive) → All IsEmpty (drive_views members drives)
+    → IsEmpty (boxed_seen members drive) → All IsEmpty (drive_views members drives)
     → All IsEmpty (drive_views members (drives ++ drive ∷ []))
-empty-more members [] drive is empty = All-cons IsEmpty (boxed_drive_view members drive) [] is empty
+empty-more members [] drive is empty = All-cons IsEmpty (boxed_seen members drive) [] is empty
 empty-more members (first ∷ drives) drive is empty =
-    All-cons IsEmpty (boxed_drive_view members first) (drive_views members (drives ++ drive ∷ []))
-    (All-head IsEmpty (boxed_drive_view members first) (drive_views members drives) empty)
-    (empty-more members drives drive is (All-tail IsEmpty (boxed_drive_view members first)
+    All-cons IsEmpty (boxed_seen members first) (drive_views members (drives ++ drive ∷ []))
+    (All-head IsEmpty (boxed_seen members first) (drive_views members drives) empty)
+    (empty-more members drives drive is (All-tail IsEmpty (boxed_seen members first)
     (drive_views members drives) empty))
 
 -- four drives without images
-pub four-drives : {Table : Type 0} {Driver : Table → Type 0} (members : (table : Table) → Ghosts (Driver table))
+pub four-drives : {Table : Type 0} {Driver : Table → Type 0} (members : (drive : DynBox Table Global Driver) → Ghosts (Driver drive.vtable))
     (drives : List (DynBox Table Global Driver)) → length drives ≡ 4 → All IsEmpty (drive_views members drives)
     → HaveRoom 4 (drive_views members drives)
 four-drives members drives count empty = record {

@@ -33,14 +33,12 @@ pub fn boot_images<H: Host>(
     host: &mut H,
     devices: &mut Devices,
 ) -> End
-    requires devices { AreFree (length boot.now.files) (outside ⟦<dyn BlockDriver as BlockDriver>⟧
-        devices.old.drives.items ⟦<dyn CharDriver as CharDriver>⟧ devices.old.terms.items) }
+    requires devices { AreFree (length boot.now.files)
+        (outside BlockDriver-box CharDriver-box devices.old) }
     requires words { IsCommand (Command.Boot boot.now) }
     ensures call { CommandCall (Command.Boot boot.now)
-        (world_of H.Host host.old (outside ⟦<dyn BlockDriver as BlockDriver>⟧
-        devices.old.drives.items ⟦<dyn CharDriver as CharDriver>⟧ devices.old.terms.items))
-        (world_of H.Host host.new (outside ⟦<dyn BlockDriver as BlockDriver>⟧
-        devices.new.drives.items ⟦<dyn CharDriver as CharDriver>⟧ devices.new.terms.items)) result }
+        (world_of H.Host host.old (outside BlockDriver-box CharDriver-box devices.old))
+        (world_of H.Host host.new (outside BlockDriver-box CharDriver-box devices.new)) result }
     ensures noted { NotesFiles (Command.Boot boot.now) result
         (notes_of H.Host host.old) (notes_of H.Host host.new) }
     ensures drives { AreEmptyAgain (drives_seen BlockDriver-box devices.old)
@@ -84,14 +82,11 @@ pub fn run_modules<H: Host>(
     host: &mut H,
     devices: &mut Devices,
 ) -> End
-    requires devices { AreFree 0 (outside ⟦<dyn BlockDriver as BlockDriver>⟧
-        devices.old.drives.items ⟦<dyn CharDriver as CharDriver>⟧ devices.old.terms.items) }
+    requires devices { AreFree 0 (outside BlockDriver-box CharDriver-box devices.old) }
     requires words { IsCommand (Command.Run run.now) }
     ensures call { CommandCall (Command.Run run.now)
-        (world_of H.Host host.old (outside ⟦<dyn BlockDriver as BlockDriver>⟧
-        devices.old.drives.items ⟦<dyn CharDriver as CharDriver>⟧ devices.old.terms.items))
-        (world_of H.Host host.new (outside ⟦<dyn BlockDriver as BlockDriver>⟧
-        devices.new.drives.items ⟦<dyn CharDriver as CharDriver>⟧ devices.new.terms.items)) result }
+        (world_of H.Host host.old (outside BlockDriver-box CharDriver-box devices.old))
+        (world_of H.Host host.new (outside BlockDriver-box CharDriver-box devices.new)) result }
     ensures noted { NotesFiles (Command.Run run.now) result
         (notes_of H.Host host.old) (notes_of H.Host host.new) }
     ensures drives { AreEmptyAgain (drives_seen BlockDriver-box devices.old)

@@ -19,9 +19,8 @@ pub fn add_drive(
     requires { media drive ≡ None }
     ensures count { OnOk result
         (length drives.new.items ≡ length drives.old.items + 1) }
-    ensures empty { OnOk result
-        (All IsEmpty (drive_views ⟦<dyn BlockDriver as BlockDriver>⟧ drives.old.items)
-        → All IsEmpty (drive_views ⟦<dyn BlockDriver as BlockDriver>⟧ drives.new.items)) }
+    ensures empty { OnOk result (All IsEmpty (drive_views BlockDriver-box drives.old.items)
+        → All IsEmpty (drive_views BlockDriver-box drives.new.items)) }
 {
     drives.push(drive)?;
     Ok(())

@@ -67,14 +67,11 @@ const NO_COMMAND: u8 = 1;
 /// The line that says why the call ended goes to the error stream: the whole of it, or that stream
 /// counts a fault.
 pub fn os9_main<H: Host>(alloc: Global, words: &[String], host: &mut H, devices: &mut Devices) -> u8
-    requires devices { AreFree (drives_for (map string_bytes words.now)) (outside
-        ⟦<dyn BlockDriver as BlockDriver>⟧ devices.old.drives.items
-        ⟦<dyn CharDriver as CharDriver>⟧ devices.old.terms.items) }
+    requires devices { AreFree (drives_for (map string_bytes words.now))
+        (outside BlockDriver-box CharDriver-box devices.old) }
     ensures call { TopCall (map string_bytes words.now)
-        (world_of H.Host host.old (outside ⟦<dyn BlockDriver as BlockDriver>⟧
-        devices.old.drives.items ⟦<dyn CharDriver as CharDriver>⟧ devices.old.terms.items))
-        (world_of H.Host host.new (outside ⟦<dyn BlockDriver as BlockDriver>⟧
-        devices.new.drives.items ⟦<dyn CharDriver as CharDriver>⟧ devices.new.terms.items))
+        (world_of H.Host host.old (outside BlockDriver-box CharDriver-box devices.old))
+        (world_of H.Host host.new (outside BlockDriver-box CharDriver-box devices.new))
         (notes_of H.Host host.old) (notes_of H.Host host.new) result }
     ensures drives { AreEmptyAgain (drives_seen BlockDriver-box devices.old)
         (drives_seen BlockDriver-box devices.new) }
@@ -94,14 +91,12 @@ pub fn os9_main<H: Host>(alloc: Global, words: &[String], host: &mut H, devices:
 
 /// Does a command, and reports why it ended.
 fn do_command<H: Host>(alloc: Global, command: &Command, host: &mut H, devices: &mut Devices) -> u8
-    requires devices { AreFree (drives_of command.now) (outside ⟦<dyn BlockDriver as BlockDriver>⟧
-        devices.old.drives.items ⟦<dyn CharDriver as CharDriver>⟧ devices.old.terms.items) }
+    requires devices { AreFree (drives_of command.now)
+        (outside BlockDriver-box CharDriver-box devices.old) }
     requires words { IsCommand command.now }
     ensures call { CommandReport command.now
-        (world_of H.Host host.old (outside ⟦<dyn BlockDriver as BlockDriver>⟧
-        devices.old.drives.items ⟦<dyn CharDriver as CharDriver>⟧ devices.old.terms.items))
-        (world_of H.Host host.new (outside ⟦<dyn BlockDriver as BlockDriver>⟧
-        devices.new.drives.items ⟦<dyn CharDriver as CharDriver>⟧ devices.new.terms.items))
+        (world_of H.Host host.old (outside BlockDriver-box CharDriver-box devices.old))
+        (world_of H.Host host.new (outside BlockDriver-box CharDriver-box devices.new))
         (notes_of H.Host host.old) (notes_of H.Host host.new) result }
     ensures drives { AreEmptyAgain (drives_seen BlockDriver-box devices.old)
         (drives_seen BlockDriver-box devices.new) }
@@ -113,14 +108,12 @@ fn do_command<H: Host>(alloc: Global, command: &Command, host: &mut H, devices: 
 
 /// Does a command.
 fn perform<H: Host>(alloc: Global, command: &Command, host: &mut H, devices: &mut Devices) -> End
-    requires devices { AreFree (drives_of command.now) (outside ⟦<dyn BlockDriver as BlockDriver>⟧
-        devices.old.drives.items ⟦<dyn CharDriver as CharDriver>⟧ devices.old.terms.items) }
+    requires devices { AreFree (drives_of command.now)
+        (outside BlockDriver-box CharDriver-box devices.old) }
     requires words { IsCommand command.now }
     ensures call { CommandCall command.now
-        (world_of H.Host host.old (outside ⟦<dyn BlockDriver as BlockDriver>⟧
-        devices.old.drives.items ⟦<dyn CharDriver as CharDriver>⟧ devices.old.terms.items))
-        (world_of H.Host host.new (outside ⟦<dyn BlockDriver as BlockDriver>⟧
-        devices.new.drives.items ⟦<dyn CharDriver as CharDriver>⟧ devices.new.terms.items)) result }
+        (world_of H.Host host.old (outside BlockDriver-box CharDriver-box devices.old))
+        (world_of H.Host host.new (outside BlockDriver-box CharDriver-box devices.new)) result }
     ensures noted { NotesFiles command.now result
         (notes_of H.Host host.old) (notes_of H.Host host.new) }
     ensures drives { AreEmptyAgain (drives_seen BlockDriver-box devices.old)

@@ -3,14 +3,14 @@
 #![tactic(auto)]
 
 ghost use Rattle.std.specs.Prelude.{map, string_bytes};
+ghost use Rattle.device_table.specs.Seen.{terminals_seen};
 ghost use Rattle.boot_images.specs.Drives.{HaveRoom};
 ghost use Rattle.console_boot.specs.TopCall.{TopConsole};
 ghost use Rattle.session_text.specs.Typed.{IsUntyped};
 ghost use Rattle.console_run.specs.Keyboard.{keyboard_state};
-ghost use Rattle.console_run.specs.Seen.{devices_seen, OnNotedCall};
+ghost use Rattle.console_run.specs.Seen.{OnNotedCall};
 ghost use Rattle.file_drives.specs.Drives.{drive_views, drives_seen};
 ghost use Rattle.boot_run.specs.Loaded.{AreUnloaded};
-ghost use Rattle.os9_outer.specs.TerminalState.{terminal_states};
 
 #[cfg(test)]
 mod tests;
@@ -66,7 +66,7 @@ fn run(rt: HostRuntime) -> io::Result<u8> {
 /// Does what the words say on these drives, of which there are four without an image, and on four
 /// terminals without keys.
 fn run_on(rt: HostRuntime, words: &[String], drives: Vec<Box<dyn BlockDriver>>) -> io::Result<u8>
-    requires { HaveRoom 4 (drive_views ⟦<dyn BlockDriver as BlockDriver>⟧ drives.items) }
+    requires { HaveRoom 4 (drive_views BlockDriver-box drives.items) }
 {
     let alloc = rt.alloc();
     let mut terms: Vec<Box<dyn CharDriver>> = Vec::new(alloc);
@@ -80,8 +80,7 @@ fn run_on(rt: HostRuntime, words: &[String], drives: Vec<Box<dyn BlockDriver>>) 
 /// Does what the words say at standard input, on these devices, four drives without an image and
 /// one to four terminals without keys.
 fn type_on(rt: HostRuntime, words: &[String], devices: Devices) -> io::Result<u8>
-    requires terminals { AreUnloaded
-        (terminal_states ⟦<dyn CharDriver as CharDriver>⟧ devices.terms.items) }
+    requires terminals { AreUnloaded (terminals_seen CharDriver-box devices) }
     requires drives { HaveRoom 4 (drives_seen BlockDriver-box devices) }
 {
     let alloc = rt.alloc();
@@ -101,8 +100,7 @@ fn run_with<K: Keyboard<RealHost<HostRuntime>> + Drop>(
     devices: &mut Devices,
 ) -> u8
     requires untyped { IsUntyped console.old.typed }
-    requires terminals { AreUnloaded
-        (terminal_states ⟦<dyn CharDriver as CharDriver>⟧ devices.old.terms.items) }
+    requires terminals { AreUnloaded (terminals_seen CharDriver-box devices.old) }
     requires drives { HaveRoom 4 (drives_seen BlockDriver-box devices.old) }
     ensures call { OnNotedCall (λ before after noted notes. TopConsole (map string_bytes words.now)
         (keyboard_state K.Keyboard console.old.keyboard)

@@ -1,9 +1,9 @@
 //! Sessions over a host in memory, and the boot over a record.
 
 ghost use Rattle.boot_images.specs.Drives.{HaveRoom};
+ghost use Rattle.device_table.specs.Seen.{terminals_seen};
 ghost use Rattle.file_drives.specs.Drives.{drives_seen};
 ghost use Rattle.boot_run.specs.Loaded.{AreUnloaded};
-ghost use Rattle.console_run.specs.Seen.{terms_seen};
 
 use console_boot::console_main;
 use console_run::Console;
@@ -119,7 +119,7 @@ fn call_over(
     typed: Option<&[&[u8]]>,
     host: MemHost,
 ) -> Result<Shown, AllocError>
-    requires terminals { AreUnloaded (terms_seen CharDriver-box devices) }
+    requires terminals { AreUnloaded (terminals_seen CharDriver-box devices) }
     requires drives { HaveRoom 4 (drives_seen BlockDriver-box devices) }
 {
     let mut devices = devices;

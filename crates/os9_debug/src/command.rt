@@ -1,8 +1,8 @@
 //! `debug` from its words to its end.
 
 ghost use Rattle.os9_words.specs.Notes.{notes_of};
+ghost use Rattle.file_drives.specs.Drives.{drives_seen};
 ghost use Rattle.os9_words.specs.Command.{IsRun};
-ghost use Rattle.file_drives.specs.Drives.{drive_views};
 ghost use Rattle.os9_kernel.specs.Outside.{outside};
 ghost use Rattle.boot_images.specs.Ready.{AreEmptyAgain, AreFree};
 ghost use Rattle.boot_run.specs.World.{OnWorld};
@@ -34,18 +34,14 @@ pub fn do_debug<H: Host>(
     host: &mut H,
     devices: &mut Devices,
 ) -> End
-    requires devices { AreFree 0 (outside ⟦<dyn BlockDriver as BlockDriver>⟧
-        devices.old.drives.items ⟦<dyn CharDriver as CharDriver>⟧ devices.old.terms.items) }
+    requires devices { AreFree 0 (outside BlockDriver-box CharDriver-box devices.old) }
     requires words { IsRun debug.now.run }
     ensures call { OnWorld (λ before after. DebugCall debug.now before after result)
-        H.Host host.old host.new
-        ⟦<dyn BlockDriver as BlockDriver>⟧ devices.old.drives.items devices.new.drives.items
-        ⟦<dyn CharDriver as CharDriver>⟧ devices.old.terms.items devices.new.terms.items }
+        H.Host host.old host.new BlockDriver-box CharDriver-box devices.old devices.new }
     ensures noted { NotesDebug debug.now result
         (notes_of H.Host host.old) (notes_of H.Host host.new) }
-    ensures drives { AreEmptyAgain
-        (drive_views ⟦<dyn BlockDriver as BlockDriver>⟧ devices.old.drives.items)
-        (drive_views ⟦<dyn BlockDriver as BlockDriver>⟧ devices.new.drives.items) }
+    ensures drives { AreEmptyAgain (drives_seen BlockDriver-box devices.old)
+        (drives_seen BlockDriver-box devices.new) }
 {
     let files = match read_files(alloc, debug, host) {
         Ok(files) => files,

@@ -79,16 +79,13 @@ fn to(
     k: u64,
     devices: &mut Devices,
 ) -> Result<Vec<u8>, SessionFault>
-    requires { IsUnderWay machine.now position.old (outside
-        ⟦<dyn BlockDriver as BlockDriver>⟧ devices.old.drives.items
-        ⟦<dyn CharDriver as CharDriver>⟧ devices.old.terms.items) }
+    requires { IsUnderWay machine.now position.old
+        (outside BlockDriver-box CharDriver-box devices.old) }
     ensures moved { OnDevices (MovesOn machine.now (To k) position.old position.new result)
-        ⟦<dyn BlockDriver as BlockDriver>⟧ devices.old.drives.items devices.new.drives.items
-        ⟦<dyn CharDriver as CharDriver>⟧ devices.old.terms.items devices.new.terms.items }
+        BlockDriver-box CharDriver-box devices.old devices.new }
     ensures shown { IfOk result (λ line. OnDevices
         (HasShown machine.now (To k) position.old position.new line.items)
-        ⟦<dyn BlockDriver as BlockDriver>⟧ devices.old.drives.items devices.new.drives.items
-        ⟦<dyn CharDriver as CharDriver>⟧ devices.old.terms.items devices.new.terms.items) }
+        BlockDriver-box CharDriver-box devices.old devices.new) }
     ensures terminals { vec_len devices.new.terms ≡ vec_len devices.old.terms }
     ensures drives { vec_len devices.new.drives ≡ vec_len devices.old.drives }
 {
@@ -107,16 +104,13 @@ fn back(
     n: u16,
     devices: &mut Devices,
 ) -> Result<Vec<u8>, SessionFault>
-    requires { IsUnderWay machine.now position.old (outside
-        ⟦<dyn BlockDriver as BlockDriver>⟧ devices.old.drives.items
-        ⟦<dyn CharDriver as CharDriver>⟧ devices.old.terms.items) }
+    requires { IsUnderWay machine.now position.old
+        (outside BlockDriver-box CharDriver-box devices.old) }
     ensures moved { OnDevices (MovesOn machine.now (Back n) position.old position.new result)
-        ⟦<dyn BlockDriver as BlockDriver>⟧ devices.old.drives.items devices.new.drives.items
-        ⟦<dyn CharDriver as CharDriver>⟧ devices.old.terms.items devices.new.terms.items }
+        BlockDriver-box CharDriver-box devices.old devices.new }
     ensures shown { IfOk result (λ line. OnDevices
         (HasShown machine.now (Back n) position.old position.new line.items)
-        ⟦<dyn BlockDriver as BlockDriver>⟧ devices.old.drives.items devices.new.drives.items
-        ⟦<dyn CharDriver as CharDriver>⟧ devices.old.terms.items devices.new.terms.items) }
+        BlockDriver-box CharDriver-box devices.old devices.new) }
     ensures terminals { vec_len devices.new.terms ≡ vec_len devices.old.terms }
     ensures drives { vec_len devices.new.drives ≡ vec_len devices.old.drives }
 {
@@ -135,16 +129,13 @@ pub(crate) fn obey(
     command: Command,
     devices: &mut Devices,
 ) -> Result<Vec<u8>, SessionFault>
-    requires { IsUnderWay machine.now position.old (outside
-        ⟦<dyn BlockDriver as BlockDriver>⟧ devices.old.drives.items
-        ⟦<dyn CharDriver as CharDriver>⟧ devices.old.terms.items) }
+    requires { IsUnderWay machine.now position.old
+        (outside BlockDriver-box CharDriver-box devices.old) }
     ensures moved { OnDevices (MovesOn machine.now command position.old position.new result)
-        ⟦<dyn BlockDriver as BlockDriver>⟧ devices.old.drives.items devices.new.drives.items
-        ⟦<dyn CharDriver as CharDriver>⟧ devices.old.terms.items devices.new.terms.items }
+        BlockDriver-box CharDriver-box devices.old devices.new }
     ensures shown { IfOk result (λ line. OnDevices
         (HasShown machine.now command position.old position.new line.items)
-        ⟦<dyn BlockDriver as BlockDriver>⟧ devices.old.drives.items devices.new.drives.items
-        ⟦<dyn CharDriver as CharDriver>⟧ devices.old.terms.items devices.new.terms.items) }
+        BlockDriver-box CharDriver-box devices.old devices.new) }
     ensures terminals { vec_len devices.new.terms ≡ vec_len devices.old.terms }
     ensures drives { vec_len devices.new.drives ≡ vec_len devices.old.drives }
 {

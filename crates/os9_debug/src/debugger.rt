@@ -44,12 +44,9 @@ pub fn debug<H: Host>(
     host: &mut H,
     devices: &mut Devices,
 ) -> Result<(), SessionFault>
-    requires { CanStart machine.now (outside
-        ⟦<dyn BlockDriver as BlockDriver>⟧ devices.old.drives.items
-        ⟦<dyn CharDriver as CharDriver>⟧ devices.old.terms.items) }
+    requires { CanStart machine.now (outside BlockDriver-box CharDriver-box devices.old) }
     ensures call { OnWorld (SessionCall machine.now commands.now result) H.Host host.old host.new
-        ⟦<dyn BlockDriver as BlockDriver>⟧ devices.old.drives.items devices.new.drives.items
-        ⟦<dyn CharDriver as CharDriver>⟧ devices.old.terms.items devices.new.terms.items }
+        BlockDriver-box CharDriver-box devices.old devices.new }
     ensures notes_kept { notes_of H.Host host.new ≡ notes_of H.Host host.old }
     ensures terminals { vec_len devices.new.terms ≡ vec_len devices.old.terms }
     ensures drives { vec_len devices.new.drives ≡ vec_len devices.old.drives }

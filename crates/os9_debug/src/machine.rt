@@ -60,12 +60,9 @@ pub(crate) fn start(
     machine: &Machine,
     devices: &mut Devices,
 ) -> Result<Position, SessionFault>
-    requires { CanStart machine.now (outside
-        ⟦<dyn BlockDriver as BlockDriver>⟧ devices.old.drives.items
-        ⟦<dyn CharDriver as CharDriver>⟧ devices.old.terms.items) }
+    requires { CanStart machine.now (outside BlockDriver-box CharDriver-box devices.old) }
     ensures started { OnDevices (HasStarted machine.now result)
-        ⟦<dyn BlockDriver as BlockDriver>⟧ devices.old.drives.items devices.new.drives.items
-        ⟦<dyn CharDriver as CharDriver>⟧ devices.old.terms.items devices.new.terms.items }
+        BlockDriver-box CharDriver-box devices.old devices.new }
     ensures terminals { vec_len devices.new.terms ≡ vec_len devices.old.terms }
     ensures drives { vec_len devices.new.drives ≡ vec_len devices.old.drives }
 {
@@ -92,12 +89,9 @@ pub(crate) fn restart(
     machine: &Machine,
     devices: &mut Devices,
 ) -> Result<Position, SessionFault>
-    requires { HasCome machine.now (outside
-        ⟦<dyn BlockDriver as BlockDriver>⟧ devices.old.drives.items
-        ⟦<dyn CharDriver as CharDriver>⟧ devices.old.terms.items) }
+    requires { HasCome machine.now (outside BlockDriver-box CharDriver-box devices.old) }
     ensures restarted { OnDevices (HasRestarted machine.now result)
-        ⟦<dyn BlockDriver as BlockDriver>⟧ devices.old.drives.items devices.new.drives.items
-        ⟦<dyn CharDriver as CharDriver>⟧ devices.old.terms.items devices.new.terms.items }
+        BlockDriver-box CharDriver-box devices.old devices.new }
     ensures terminals { vec_len devices.new.terms ≡ vec_len devices.old.terms }
     ensures drives { vec_len devices.new.drives ≡ vec_len devices.old.drives }
 {

@@ -20,12 +20,10 @@ fn go_back(
     k: u64,
     devices: &mut Devices,
 ) -> Result<(), SessionFault>
-    requires { IsUnderWay machine.now position.old (outside
-        ⟦<dyn BlockDriver as BlockDriver>⟧ devices.old.drives.items
-        ⟦<dyn CharDriver as CharDriver>⟧ devices.old.terms.items) }
+    requires { IsUnderWay machine.now position.old
+        (outside BlockDriver-box CharDriver-box devices.old) }
     ensures moved { OnDevices (MovesOn machine.now (To k) position.old position.new result)
-        ⟦<dyn BlockDriver as BlockDriver>⟧ devices.old.drives.items devices.new.drives.items
-        ⟦<dyn CharDriver as CharDriver>⟧ devices.old.terms.items devices.new.terms.items }
+        BlockDriver-box CharDriver-box devices.old devices.new }
     ensures earlier { OnOk result (position.new.events ≤ k) }
     ensures terminals { vec_len devices.new.terms ≡ vec_len devices.old.terms }
     ensures drives { vec_len devices.new.drives ≡ vec_len devices.old.drives }
@@ -50,16 +48,13 @@ pub(crate) fn go_to(
     k: u64,
     devices: &mut Devices,
 ) -> Result<Step, SessionFault>
-    requires { IsUnderWay machine.now position.old (outside
-        ⟦<dyn BlockDriver as BlockDriver>⟧ devices.old.drives.items
-        ⟦<dyn CharDriver as CharDriver>⟧ devices.old.terms.items) }
+    requires { IsUnderWay machine.now position.old
+        (outside BlockDriver-box CharDriver-box devices.old) }
     ensures moved { OnDevices (MovesOn machine.now (To k) position.old position.new result)
-        ⟦<dyn BlockDriver as BlockDriver>⟧ devices.old.drives.items devices.new.drives.items
-        ⟦<dyn CharDriver as CharDriver>⟧ devices.old.terms.items devices.new.terms.items }
+        BlockDriver-box CharDriver-box devices.old devices.new }
     ensures reached { result ≡ Ok Step.Event → position.new.events ≡ k }
     ensures end { result ≡ Ok Step.End → OnDevices (IsAtEnd k machine.now position.old position.new)
-        ⟦<dyn BlockDriver as BlockDriver>⟧ devices.old.drives.items devices.new.drives.items
-        ⟦<dyn CharDriver as CharDriver>⟧ devices.old.terms.items devices.new.terms.items }
+        BlockDriver-box CharDriver-box devices.old devices.new }
     ensures terminals { vec_len devices.new.terms ≡ vec_len devices.old.terms }
     ensures drives { vec_len devices.new.drives ≡ vec_len devices.old.drives }
 {

@@ -1,7 +1,7 @@
 //! The session of a call.
 
 ghost use Rattle.std.specs.Prelude.{◌≡◌};
-ghost use Rattle.file_drives.specs.Drives.{drive_views};
+ghost use Rattle.file_drives.specs.Drives.{drives_seen};
 ghost use Rattle.boot_images.specs.Drives.{HaveRoom};
 ghost use Rattle.boot_images.specs.Ready.{AreEmptyAgain};
 ghost use Rattle.boot_run.specs.World.{OnWorld};
@@ -42,18 +42,13 @@ pub(crate) fn show<H: Host>(
     host: &mut H,
     devices: &mut Devices,
 ) -> End
-    requires start { CanStart machine.now (outside
-        ⟦<dyn BlockDriver as BlockDriver>⟧ devices.old.drives.items
-        ⟦<dyn CharDriver as CharDriver>⟧ devices.old.terms.items) }
-    requires room { HaveRoom 0
-        (drive_views ⟦<dyn BlockDriver as BlockDriver>⟧ devices.old.drives.items) }
+    requires start { CanStart machine.now (outside BlockDriver-box CharDriver-box devices.old) }
+    requires room { HaveRoom 0 (drives_seen BlockDriver-box devices.old) }
     ensures session { OnWorld (HadSession machine.now commands.now result) H.Host host.old host.new
-        ⟦<dyn BlockDriver as BlockDriver>⟧ devices.old.drives.items devices.new.drives.items
-        ⟦<dyn CharDriver as CharDriver>⟧ devices.old.terms.items devices.new.terms.items }
+        BlockDriver-box CharDriver-box devices.old devices.new }
     ensures notes_kept { notes_of H.Host host.new ≡ notes_of H.Host host.old }
-    ensures drives { AreEmptyAgain
-        (drive_views ⟦<dyn BlockDriver as BlockDriver>⟧ devices.old.drives.items)
-        (drive_views ⟦<dyn BlockDriver as BlockDriver>⟧ devices.new.drives.items) }
+    ensures drives { AreEmptyAgain (drives_seen BlockDriver-box devices.old)
+        (drives_seen BlockDriver-box devices.new) }
 {
     let answer = debug(alloc, machine, commands, host, devices);
     let mut images = Images::none(alloc);

@@ -69,12 +69,9 @@ impl Kernel {
     /// hold the volumes of the state before.
     pub fn tick(&mut self, devices: &mut Devices) -> Result<(), OutOfMemory>
         requires count { ticks self.old < LAST_TICK }
-        requires stands { Stands self.old
-            (outside ⟦<dyn BlockDriver as BlockDriver>⟧ devices.old.drives.items
-            ⟦<dyn CharDriver as CharDriver>⟧ devices.old.terms.items) }
+        requires stands { Stands self.old (outside BlockDriver-box CharDriver-box devices.old) }
         ensures tick { OnDevices (λ before after. HasTick self.old self.new before after result)
-            ⟦<dyn BlockDriver as BlockDriver>⟧ devices.old.drives.items devices.new.drives.items
-            ⟦<dyn CharDriver as CharDriver>⟧ devices.old.terms.items devices.new.terms.items }
+            BlockDriver-box CharDriver-box devices.old devices.new }
         ensures terminals { vec_len devices.new.terms ≡ vec_len devices.old.terms }
         ensures drives { vec_len devices.new.drives ≡ vec_len devices.old.drives }
     {
@@ -116,12 +113,9 @@ impl Kernel {
     /// after the attempt if memory was out for its entry in the history.
     pub fn event(&mut self, devices: &mut Devices) -> EventEnd
         requires going { IsGoing self.old }
-        requires stands { Stands self.old
-            (outside ⟦<dyn BlockDriver as BlockDriver>⟧ devices.old.drives.items
-            ⟦<dyn CharDriver as CharDriver>⟧ devices.old.terms.items) }
+        requires stands { Stands self.old (outside BlockDriver-box CharDriver-box devices.old) }
         ensures event { OnDevices (λ before after. HasEvent self.old self.new before after result)
-            ⟦<dyn BlockDriver as BlockDriver>⟧ devices.old.drives.items devices.new.drives.items
-            ⟦<dyn CharDriver as CharDriver>⟧ devices.old.terms.items devices.new.terms.items }
+            BlockDriver-box CharDriver-box devices.old devices.new }
         ensures executed { (before : Outside) (s : State) → Represents self.old before s
             → executed self.old + cost s < 2 ^ 32
             → executed self.new ≡ executed self.old + cost s }
@@ -142,12 +136,9 @@ impl Kernel {
     /// and the drives hold what the tick or the event that found no memory left.
     pub fn slice(&mut self, n: u32, devices: &mut Devices) -> SliceEnd
         requires tick { ticks self.old < LAST_TICK }
-        requires stands { Stands self.old
-            (outside ⟦<dyn BlockDriver as BlockDriver>⟧ devices.old.drives.items
-            ⟦<dyn CharDriver as CharDriver>⟧ devices.old.terms.items) }
+        requires stands { Stands self.old (outside BlockDriver-box CharDriver-box devices.old) }
         ensures slice { OnDevices (λ before after. HasSlice n self.old self.new before after result)
-            ⟦<dyn BlockDriver as BlockDriver>⟧ devices.old.drives.items devices.new.drives.items
-            ⟦<dyn CharDriver as CharDriver>⟧ devices.old.terms.items devices.new.terms.items }
+            BlockDriver-box CharDriver-box devices.old devices.new }
         ensures terminals { vec_len devices.new.terms ≡ vec_len devices.old.terms }
         ensures drives { vec_len devices.new.drives ≡ vec_len devices.old.drives }
     {

@@ -4,7 +4,7 @@ ghost use Rattle.std.specs.Prelude.{◌≡◌, ◌<◌, List, vec_len};
 ghost use Rattle.os9_base.specs.declared.registers.TimePacket.{TimePacket};
 ghost use Rattle.proc_calls.specs.Telling.{LivesOn};
 ghost use Rattle.proc_rules.specs.Records.{IsLiving};
-ghost use Rattle.file_drives.specs.Drives.{DriveView, drive_views};
+ghost use Rattle.file_drives.specs.Drives.{DriveView, drives_seen};
 ghost use Rattle.file_rules.specs.Files.{Files};
 ghost use Rattle.file_state.specs.Tie.{IsSound, StandsFor};
 ghost use Rattle.machine_model.specs.Services.{service_of};
@@ -42,12 +42,9 @@ impl Kernel {
     ) -> EventEnd
         requires next { DoesNext self.old p (Act.Attempt code) }
         requires serves { service_of code ≡ load_in_machine call }
-        requires stands { Stands self.old
-            (outside ⟦<dyn BlockDriver as BlockDriver>⟧ devices.old.drives.items
-            ⟦<dyn CharDriver as CharDriver>⟧ devices.old.terms.items) }
+        requires stands { Stands self.old (outside BlockDriver-box CharDriver-box devices.old) }
         ensures event { OnDevices (λ before after. HasEvent self.old self.new before after result)
-            ⟦<dyn BlockDriver as BlockDriver>⟧ devices.old.drives.items devices.new.drives.items
-            ⟦<dyn CharDriver as CharDriver>⟧ devices.old.terms.items devices.new.terms.items }
+            BlockDriver-box CharDriver-box devices.old devices.new }
         ensures progress { result ≡ EventEnd.Ran → pending self.new < pending self.old }
         ensures executed { executed self.new ≡ executed self.old }
         ensures terminals { vec_len devices.new.terms ≡ vec_len devices.old.terms }
@@ -65,12 +62,11 @@ impl Kernel {
     /// yet.
     fn try_load(&mut self, p: Pid, call: LoadCall, devices: &mut Devices) -> CallEnd
         requires lives { IsLiving self.old.processes.table p.0 }
-        requires sound { IsSound self.old.files
-            (drive_views ⟦<dyn BlockDriver as BlockDriver>⟧ devices.old.drives.items) }
+        requires sound { IsSound self.old.files (drives_seen BlockDriver-box devices.old) }
         ensures call { (now : TimePacket)
             → LoadsOnEach call now (vec_len devices.old.terms) p.0 result
-            (kernel_standing ⟦<dyn BlockDriver as BlockDriver>⟧ self.old devices.old.drives.items)
-            (kernel_standing ⟦<dyn BlockDriver as BlockDriver>⟧ self.new devices.new.drives.items) }
+            (kernel_standing BlockDriver-box self.old devices.old)
+            (kernel_standing BlockDriver-box self.new devices.new) }
         ensures lives { LivesOn result self.new.processes.table p.0 }
         ensures clock { self.new.clock ≡ self.old.clock }
         ensures chosen { self.new.chosen ≡ self.old.chosen }

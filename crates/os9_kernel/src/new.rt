@@ -1,8 +1,8 @@
 //! The start of a kernel.
 
 ghost use Rattle.std.specs.Prelude.{◌≡◌, ◌<◌, ◌≤◌, true, IfErr, vec_len};
+ghost use Rattle.file_drives.specs.Drives.{drives_seen};
 ghost use Rattle.civil_time.specs.CivilTime.{is_time_packet};
-ghost use Rattle.file_drives.specs.Drives.{drive_views};
 ghost use Rattle.file_start.specs.Start.{HaveVolumes};
 ghost use Rattle.os9_kernel.specs.Outside.{OnDevices};
 ghost use Rattle.os9_kernel.specs.Starting.{KernelStarts, WhereRefused};
@@ -63,12 +63,10 @@ impl Kernel {
         requires time { is_time_packet config.time ≡ true }
         requires drives { (config.images ≤ vec_len devices.old.drives)
             × (vec_len devices.old.drives ≤ 4) }
-        requires volumes { HaveVolumes config.images
-            (drive_views ⟦<dyn BlockDriver as BlockDriver>⟧ devices.old.drives.items) }
+        requires volumes { HaveVolumes config.images (drives_seen BlockDriver-box devices.old) }
         requires terminals { (0 < vec_len devices.old.terms) × (vec_len devices.old.terms ≤ 4) }
         ensures starts { OnDevices (KernelStarts config boot.now result)
-            ⟦<dyn BlockDriver as BlockDriver>⟧ devices.old.drives.items devices.new.drives.items
-            ⟦<dyn CharDriver as CharDriver>⟧ devices.old.terms.items devices.new.terms.items }
+            BlockDriver-box CharDriver-box devices.old devices.new }
         ensures untouched { IfErr result (λ error. WhereRefused error (devices.new ≡ devices.old)) }
         ensures terms_kept { devices.new.terms ≡ devices.old.terms }
     {

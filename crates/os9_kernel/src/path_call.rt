@@ -61,12 +61,9 @@ impl Kernel {
     ) -> EventEnd
         requires next { DoesNext self.old p (Act.Attempt code) }
         requires serves { service_of code ≡ on_paths call }
-        requires stands { Stands self.old
-            (outside ⟦<dyn BlockDriver as BlockDriver>⟧ devices.old.drives.items
-            ⟦<dyn CharDriver as CharDriver>⟧ devices.old.terms.items) }
+        requires stands { Stands self.old (outside BlockDriver-box CharDriver-box devices.old) }
         ensures event { OnDevices (λ before after. HasEvent self.old self.new before after result)
-            ⟦<dyn BlockDriver as BlockDriver>⟧ devices.old.drives.items devices.new.drives.items
-            ⟦<dyn CharDriver as CharDriver>⟧ devices.old.terms.items devices.new.terms.items }
+            BlockDriver-box CharDriver-box devices.old devices.new }
         ensures progress { result ≡ EventEnd.Ran → pending self.new < pending self.old }
         ensures executed { executed self.new ≡ executed self.old }
         ensures terminals { vec_len devices.new.terms ≡ vec_len devices.old.terms }

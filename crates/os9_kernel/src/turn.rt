@@ -26,13 +26,10 @@ impl Kernel {
     /// The events of the chosen process until the slice is over.
     pub(crate) fn events(&mut self, n: u32, devices: &mut Devices) -> SliceEnd
         requires going { IsGoing self.old }
-        requires stands { Stands self.old
-            (outside ⟦<dyn BlockDriver as BlockDriver>⟧ devices.old.drives.items
-            ⟦<dyn CharDriver as CharDriver>⟧ devices.old.terms.items) }
+        requires stands { Stands self.old (outside BlockDriver-box CharDriver-box devices.old) }
         ensures events { OnDevices
             (λ before after. HasEvents n self.old self.new before after result)
-            ⟦<dyn BlockDriver as BlockDriver>⟧ devices.old.drives.items devices.new.drives.items
-            ⟦<dyn CharDriver as CharDriver>⟧ devices.old.terms.items devices.new.terms.items }
+            BlockDriver-box CharDriver-box devices.old devices.new }
         ensures terminals { vec_len devices.new.terms ≡ vec_len devices.old.terms }
         ensures drives { vec_len devices.new.drives ≡ vec_len devices.old.drives }
     {
@@ -53,13 +50,10 @@ impl Kernel {
     /// kernel is not used any more.
     pub fn turn(&mut self, left: u32, devices: &mut Devices) -> Turn
         requires going { IsGoing self.old }
-        requires stands { Stands self.old
-            (outside ⟦<dyn BlockDriver as BlockDriver>⟧ devices.old.drives.items
-            ⟦<dyn CharDriver as CharDriver>⟧ devices.old.terms.items) }
+        requires stands { Stands self.old (outside BlockDriver-box CharDriver-box devices.old) }
         requires some { 0 < left }
         ensures turn { OnDevices (λ old new. HasTurn left self.old self.new old new result)
-            ⟦<dyn BlockDriver as BlockDriver>⟧ devices.old.drives.items devices.new.drives.items
-            ⟦<dyn CharDriver as CharDriver>⟧ devices.old.terms.items devices.new.terms.items }
+            BlockDriver-box CharDriver-box devices.old devices.new }
         ensures executed { executed self.old + result.count < 2 ^ 32
             → executed self.new ≡ executed self.old + result.count }
         ensures terminals { vec_len devices.new.terms ≡ vec_len devices.old.terms }

@@ -1,7 +1,5 @@
 -- What can be observed of the terminals of a machine, as lists that do not depend on the kind of their drivers.
 use Rattle.std.specs.Prelude.{◌≡◌, ℕ, ◌≤◌, Option, Some, Result, List, map, slice_get, slice_set, OnOk, OnErr}
-use Rattle.std.specs.declared.alloc.Global.{Global}
-use Rattle.std.specs.declared.dyn_box.DynBox.{DynBox}
 use Rattle.os9_base.specs.Count.{Rose}
 use Rattle.os9_outer.specs.Stream.{stream_with, GainsPart}
 use Rattle.os9_outer.specs.Terminal.{OnFault, UnlessFault}
@@ -19,16 +17,6 @@ pub record TerminalState : Type 0 where
 abbrev pub terminal_state : {Driver : Type 0} → Ghosts Driver → Driver → TerminalState
 terminal_state members driver =
     record { keys = members.keys_left driver; put = members.bytes_put driver; faults = members.term_faults driver }
-
--- the state of the terminal in a box; the box's table of methods gives the driver's ghost members
-abbrev pub boxed_terminal_state : {Table : Type 0} {Driver : Table → Type 0} → ((table : Table) → Ghosts (Driver table))
-    → DynBox Table Global Driver → TerminalState
-boxed_terminal_state members terminal = terminal_state (members terminal.vtable) terminal.value
-
--- the state of each terminal, as `terminal_states ⟦<dyn CharDriver as CharDriver>⟧ devices.now.terms.items`
-abbrev pub terminal_states : {Table : Type 0} {Driver : Table → Type 0} → ((table : Table) → Ghosts (Driver table))
-    → List (DynBox Table Global Driver) → List TerminalState
-terminal_states members terminals = map (boxed_terminal_state members) terminals
 
 -- the number of faults of each terminal
 abbrev pub fault_counts : List TerminalState → List ℕ

@@ -1,12 +1,12 @@
 //! `stress N`.
 
 ghost use Rattle.std.specs.Prelude.{◌≡◌, ◌<◌, IfOk};
+ghost use Rattle.file_drives.specs.Drives.{drives_seen};
 ghost use Rattle.boot_images.specs.Outcome.{setup_of};
 ghost use Rattle.boot_images.specs.Ready.{AreEmptyAgain, AreFree, CanStart};
 ghost use Rattle.boot_run.specs.World.{world_of};
 ghost use Rattle.os9_kernel.specs.Outside.{outside};
 ghost use Rattle.os9_words.specs.Notes.{notes_of};
-ghost use Rattle.file_drives.specs.Drives.{drive_views};
 ghost use Rattle.stress_run.specs.Disk.{IsDiskOf};
 ghost use Rattle.stress_run.specs.Stress.{StressCall, stress_setup};
 ghost use Rattle.stress_run.specs.Told.{TellsEnd, WritesCounts, end_told as end_told_lem};
@@ -74,18 +74,14 @@ pub fn run_stress<H: Host>(
     host: &mut H,
     devices: &mut Devices,
 ) -> StressEnd
-    requires devices { AreFree 1 (outside ⟦<dyn BlockDriver as BlockDriver>⟧
-        devices.old.drives.items ⟦<dyn CharDriver as CharDriver>⟧ devices.old.terms.items) }
+    requires devices { AreFree 1 (outside BlockDriver-box CharDriver-box devices.old) }
     requires seed { seed < 2147483648 }
     ensures call { StressCall seed
-        (world_of H.Host host.old (outside ⟦<dyn BlockDriver as BlockDriver>⟧
-        devices.old.drives.items ⟦<dyn CharDriver as CharDriver>⟧ devices.old.terms.items))
-        (world_of H.Host host.new (outside ⟦<dyn BlockDriver as BlockDriver>⟧
-        devices.new.drives.items ⟦<dyn CharDriver as CharDriver>⟧ devices.new.terms.items)) result }
+        (world_of H.Host host.old (outside BlockDriver-box CharDriver-box devices.old))
+        (world_of H.Host host.new (outside BlockDriver-box CharDriver-box devices.new)) result }
     ensures notes_kept { notes_of H.Host host.new ≡ notes_of H.Host host.old }
-    ensures drives { AreEmptyAgain
-        (drive_views ⟦<dyn BlockDriver as BlockDriver>⟧ devices.old.drives.items)
-        (drive_views ⟦<dyn BlockDriver as BlockDriver>⟧ devices.new.drives.items) }
+    ensures drives { AreEmptyAgain (drives_seen BlockDriver-box devices.old)
+        (drives_seen BlockDriver-box devices.new) }
 {
     let mut images = match stress_disk(alloc, seed) {
         Ok(images) => images,

@@ -8,10 +8,11 @@ use Rattle.io_model.specs.Terminal.{Terminal}
 use Rattle.io_model.specs.declared.terminal.ReadKind.{ReadKind}
 use Rattle.io_model.specs.declared.terminal.Reading.{Reading}
 
--- the state of a lent terminal, as `dyn_state ⟦<dyn CharDriver as CharDriver>⟧ d.old`
-abbrev pub dyn_state : {Table : Type 0} {Driver : Table → Type 0} → ((table : Table) → Ghosts (Driver table))
-    → ((table : Table) × Driver table) → TerminalState
-dyn_state members d = terminal_state (members d.0) d.1
+-- the state of a lent terminal, as `lent_terminal_state CharDriver-dyn d.old`
+abbrev pub lent_terminal_state : {Table : Type 0} {Driver : Table → Type 0}
+    → ((terminal : (table : Table) × Driver table) → Ghosts (Driver terminal.0)) → (table : Table) × Driver table
+    → TerminalState
+lent_terminal_state members terminal = terminal_state (members terminal) terminal.1
 
 -- this process's read of this kind, of at most `most` bytes
 abbrev pub read_of : Pid → ReadKind → ℕ → Reading

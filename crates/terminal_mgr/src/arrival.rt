@@ -1,7 +1,7 @@
 ghost use Rattle.std.specs.Prelude.{◌≡◌, ◌≤◌, IfOk, OnOk, OnErr, true, None, [], ◌∷◌, ◌++◌, length, take};
 ghost use Rattle.io_model.specs.Terminal.{signal_of, typed_bytes, dropped_count};
-ghost use Rattle.terminal_mgr.specs.Term.{dyn_state};
 ghost use Rattle.terminal_mgr.specs.Polling.{Rings, RingsInAll, Polls};
+ghost use Rattle.terminal_mgr.specs.Term.{lent_terminal_state};
 
 use crate::driver::{next_key, put_byte};
 use crate::type_ahead::TypeAhead;
@@ -23,12 +23,10 @@ fn key_signal(key: u8) -> Option<u8>
 
 // Puts a bell. A failure of the terminal is ignored.
 fn ring(d: &mut dyn CharDriver) -> Result<(), OutOfMemory>
-    ensures rung { OnOk result (RingsInAll 1
-        (dyn_state ⟦<dyn CharDriver as CharDriver>⟧ d.old)
-        (dyn_state ⟦<dyn CharDriver as CharDriver>⟧ d.new)) }
-    ensures no_memory { OnErr result (Rings 0 0
-        (dyn_state ⟦<dyn CharDriver as CharDriver>⟧ d.old)
-        (dyn_state ⟦<dyn CharDriver as CharDriver>⟧ d.new)) }
+    ensures rung { OnOk result (RingsInAll 1 (lent_terminal_state CharDriver-dyn d.old)
+        (lent_terminal_state CharDriver-dyn d.new)) }
+    ensures no_memory { OnErr result (Rings 0 0 (lent_terminal_state CharDriver-dyn d.old)
+        (lent_terminal_state CharDriver-dyn d.new)) }
 {
     match put_byte(d, BELL) {
         Ok(()) => Ok(()),
@@ -43,13 +41,11 @@ fn accept(ahead: &mut TypeAhead, key: u8, d: &mut dyn CharDriver) -> Result<Opti
     ensures signal { IfOk result (λ signal. signal ≡ signal_of key) }
     ensures kept { ahead.new ≡ take 256 (ahead.old ++ typed_bytes (key ∷ [])) }
     ensures rung { OnOk result (RingsInAll (dropped_count ahead.old (key ∷ []))
-        (dyn_state ⟦<dyn CharDriver as CharDriver>⟧ d.old)
-        (dyn_state ⟦<dyn CharDriver as CharDriver>⟧ d.new)) }
+        (lent_terminal_state CharDriver-dyn d.old) (lent_terminal_state CharDriver-dyn d.new)) }
     ensures no_signal { OnErr result (signal_of key ≡ None) }
     ensures within { length ahead.new ≤ 256 }
     ensures no_memory { OnErr result ((1 ≡ dropped_count ahead.old (key ∷ [])) × Rings 0 0
-        (dyn_state ⟦<dyn CharDriver as CharDriver>⟧ d.old)
-        (dyn_state ⟦<dyn CharDriver as CharDriver>⟧ d.new)) }
+        (lent_terminal_state CharDriver-dyn d.old) (lent_terminal_state CharDriver-dyn d.new)) }
 {
     match key_signal(key) {
         Some(signal) => Ok(Some(signal)),
@@ -66,9 +62,8 @@ fn accept(ahead: &mut TypeAhead, key: u8, d: &mut dyn CharDriver) -> Result<Opti
 // bell finds no memory.
 pub(crate) fn poll(ahead: &mut TypeAhead, tick: u32, d: &mut dyn CharDriver) -> Arrival
     requires { length ahead.old ≤ 256 }
-    ensures polled { Polls tick None ahead.old ahead.new
-        (dyn_state ⟦<dyn CharDriver as CharDriver>⟧ d.old)
-        (dyn_state ⟦<dyn CharDriver as CharDriver>⟧ d.new) result }
+    ensures polled { Polls tick None ahead.old ahead.new (lent_terminal_state CharDriver-dyn d.old)
+        (lent_terminal_state CharDriver-dyn d.new) result }
     ensures within { length ahead.new ≤ 256 }
 {
     let mut signal = None;

@@ -1,7 +1,7 @@
 ghost use Rattle.std.specs.Prelude.{◌≡◌, ◌<◌, ◌≤◌, IfOk, length};
 ghost use Rattle.io_model.specs.Line.{line_length, line_put};
 ghost use Rattle.io_model.specs.Terminal.{new_terminal, reader, released, forgotten, Arrives, Reads, Writes, IsSameCall, stored_over, stored_bytes};
-ghost use Rattle.terminal_mgr.specs.Term.{dyn_state, read_of};
+ghost use Rattle.terminal_mgr.specs.Term.{lent_terminal_state, read_of};
 ghost use Rattle.io_model.specs.declared.terminal.ReadKind.TheVariants.{Bytes, WholeLine};
 
 use crate::arrival::poll;
@@ -63,9 +63,8 @@ impl Term {
     /// if the driver fails to give a key, which is not lost then. A failure to put a bell is
     /// ignored.
     pub fn arrive(&mut self, tick: u32, d: &mut dyn CharDriver) -> Arrival
-        ensures { Arrives tick self.old self.new
-            (dyn_state ⟦<dyn CharDriver as CharDriver>⟧ d.old)
-            (dyn_state ⟦<dyn CharDriver as CharDriver>⟧ d.new) result }
+        ensures { Arrives tick self.old self.new (lent_terminal_state CharDriver-dyn d.old)
+            (lent_terminal_state CharDriver-dyn d.new) result }
     {
         poll(&mut self.ahead, tick, d)
     }
@@ -97,10 +96,8 @@ impl Term {
         requires most { most ≤ 256 }
         requires buffer { most ≤ length into.old }
         requires same { IsSameCall (read_of p Bytes most) self.old }
-        ensures read { Reads (read_of p Bytes most) result
-            self.old self.new
-            (dyn_state ⟦<dyn CharDriver as CharDriver>⟧ d.old)
-            (dyn_state ⟦<dyn CharDriver as CharDriver>⟧ d.new) }
+        ensures read { Reads (read_of p Bytes most) result self.old self.new
+            (lent_terminal_state CharDriver-dyn d.old) (lent_terminal_state CharDriver-dyn d.new) }
         ensures stored { into.new ≡ stored_over (stored_bytes result
             (read_of p Bytes most) self.old) into.old }
     {
@@ -128,10 +125,8 @@ impl Term {
         requires most { most ≤ 256 }
         requires buffer { most ≤ length into.old }
         requires same { IsSameCall (read_of p WholeLine most) self.old }
-        ensures read { Reads (read_of p WholeLine most) result
-            self.old self.new
-            (dyn_state ⟦<dyn CharDriver as CharDriver>⟧ d.old)
-            (dyn_state ⟦<dyn CharDriver as CharDriver>⟧ d.new) }
+        ensures read { Reads (read_of p WholeLine most) result self.old self.new
+            (lent_terminal_state CharDriver-dyn d.old) (lent_terminal_state CharDriver-dyn d.new) }
         ensures stored { into.new ≡ stored_over (stored_bytes result
             (read_of p WholeLine most) self.old) into.old }
     {
@@ -152,8 +147,7 @@ impl Term {
         requires buffer { request.most ≤ length into.old }
         requires same { IsSameCall request self.old }
         ensures read { Reads request result self.old self.new
-            (dyn_state ⟦<dyn CharDriver as CharDriver>⟧ d.old)
-            (dyn_state ⟦<dyn CharDriver as CharDriver>⟧ d.new) }
+            (lent_terminal_state CharDriver-dyn d.old) (lent_terminal_state CharDriver-dyn d.new) }
         ensures stored { into.new ≡ stored_over (stored_bytes result request self.old) into.old }
     {
         self.user = Some(request.process);
@@ -177,8 +171,7 @@ impl Term {
     pub fn write(&mut self, p: Pid, bytes: &[u8], d: &mut dyn CharDriver) -> Progress
         requires { length bytes.now ≤ 65535 }
         ensures { Writes p bytes.now (length bytes.now) result self.old self.new
-            (dyn_state ⟦<dyn CharDriver as CharDriver>⟧ d.old)
-            (dyn_state ⟦<dyn CharDriver as CharDriver>⟧ d.new) }
+            (lent_terminal_state CharDriver-dyn d.old) (lent_terminal_state CharDriver-dyn d.new) }
     {
         self.user = Some(p);
         match put_bytes(d, bytes) {
@@ -196,8 +189,7 @@ impl Term {
     pub fn write_line(&mut self, p: Pid, bytes: &[u8], d: &mut dyn CharDriver) -> Progress
         requires { length bytes.now ≤ 65535 }
         ensures { Writes p (line_put bytes.now) (line_length bytes.now) result self.old self.new
-            (dyn_state ⟦<dyn CharDriver as CharDriver>⟧ d.old)
-            (dyn_state ⟦<dyn CharDriver as CharDriver>⟧ d.new) }
+            (lent_terminal_state CharDriver-dyn d.old) (lent_terminal_state CharDriver-dyn d.new) }
     {
         self.user = Some(p);
         match put_line(d, bytes) {

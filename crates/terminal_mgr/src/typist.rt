@@ -4,7 +4,7 @@ ghost use Rattle.os9_outer.specs.Terminal.{OnFault, UnlessFault};
 ghost use Rattle.io_model.specs.Edit.{HasRoom};
 ghost use Rattle.io_model.specs.Terminal.{key_effect, stored_over};
 ghost use Rattle.line_edit.specs.Echo.{Makes};
-ghost use Rattle.terminal_mgr.specs.Term.{dyn_state, terminal_of, HasLine};
+ghost use Rattle.terminal_mgr.specs.Term.{terminal_of, HasLine, lent_terminal_state};
 ghost use Rattle.terminal_mgr.specs.Typing.{IsTyped, TypingBreaksOff, Comes, refusal_answer};
 
 use crate::driver::put_bytes;
@@ -81,8 +81,8 @@ pub(crate) fn read_keys(
     ensures outcome { Comes request result
         (terminal_of ahead.old line.old reading.old (Some request.process))
         (terminal_of ahead.new line.new reading.new (Some request.process))
-        (dyn_state ⟦<dyn CharDriver as CharDriver>⟧ d.old)
-        (dyn_state ⟦<dyn CharDriver as CharDriver>⟧ d.new) into.old into.new }
+        (lent_terminal_state CharDriver-dyn d.old)
+        (lent_terminal_state CharDriver-dyn d.new) into.old into.new }
     ensures shape { HasLine line.new reading.new }
     ensures within { length ahead.new ≤ 256 }
 {

@@ -1,8 +1,8 @@
 //! `vol` from its words to its end.
 
 ghost use Rattle.os9_words.specs.Notes.{notes_of};
+ghost use Rattle.file_drives.specs.Drives.{drives_seen};
 ghost use Rattle.os9_words.specs.Vol.{IsVol};
-ghost use Rattle.file_drives.specs.Drives.{drive_views};
 ghost use Rattle.boot_images.specs.Drives.{HaveRoom};
 ghost use Rattle.boot_images.specs.Ready.{AreEmptyAgain};
 ghost use Rattle.boot_run.specs.World.{OnWorld};
@@ -28,16 +28,12 @@ use std::alloc::Global;
 /// refused or the drive fails, no file is written.
 pub fn do_vol<H: Host>(alloc: Global, vol: &VolWords, host: &mut H, devices: &mut Devices) -> End
     requires words { IsVol vol.now }
-    requires room { HaveRoom 1
-        (drive_views ⟦<dyn BlockDriver as BlockDriver>⟧ devices.old.drives.items) }
+    requires room { HaveRoom 1 (drives_seen BlockDriver-box devices.old) }
     ensures call { OnWorld (λ before after. VolCall vol.now before after result)
-        H.Host host.old host.new
-        ⟦<dyn BlockDriver as BlockDriver>⟧ devices.old.drives.items devices.new.drives.items
-        ⟦<dyn CharDriver as CharDriver>⟧ devices.old.terms.items devices.new.terms.items }
+        H.Host host.old host.new BlockDriver-box CharDriver-box devices.old devices.new }
     ensures noted { NotesVol vol.now result (notes_of H.Host host.old) (notes_of H.Host host.new) }
-    ensures drives { AreEmptyAgain
-        (drive_views ⟦<dyn BlockDriver as BlockDriver>⟧ devices.old.drives.items)
-        (drive_views ⟦<dyn BlockDriver as BlockDriver>⟧ devices.new.drives.items) }
+    ensures drives { AreEmptyAgain (drives_seen BlockDriver-box devices.old)
+        (drives_seen BlockDriver-box devices.new) }
 {
     match make(alloc, vol, host, devices) {
         Ok(made) => finish(vol, &made, host),
@@ -53,16 +49,13 @@ fn make<H: Host>(
     devices: &mut Devices,
 ) -> Result<Made, End>
     requires words { IsVol vol.now }
-    requires room { HaveRoom 1
-        (drive_views ⟦<dyn BlockDriver as BlockDriver>⟧ devices.old.drives.items) }
+    requires room { HaveRoom 1 (drives_seen BlockDriver-box devices.old) }
     ensures made { OnWorld (MakesCall vol.now result) H.Host host.old host.new
-        ⟦<dyn BlockDriver as BlockDriver>⟧ devices.old.drives.items devices.new.drives.items
-        ⟦<dyn CharDriver as CharDriver>⟧ devices.old.terms.items devices.new.terms.items }
+        BlockDriver-box CharDriver-box devices.old devices.new }
     ensures noted { NotesMaking vol.now result
         (notes_of H.Host host.old) (notes_of H.Host host.new) }
-    ensures drives { AreEmptyAgain
-        (drive_views ⟦<dyn BlockDriver as BlockDriver>⟧ devices.old.drives.items)
-        (drive_views ⟦<dyn BlockDriver as BlockDriver>⟧ devices.new.drives.items) }
+    ensures drives { AreEmptyAgain (drives_seen BlockDriver-box devices.old)
+        (drives_seen BlockDriver-box devices.new) }
 {
     match vol.verb {
         Verb::Format => format_disk(alloc, vol),

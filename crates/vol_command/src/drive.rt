@@ -2,7 +2,7 @@
 
 ghost use Rattle.std.specs.Prelude.{◌≡◌, ◌<◌, Some, slice_get, vec_len};
 ghost use Rattle.rbf_access.specs.Mounted.{IsSound};
-ghost use Rattle.file_drives.specs.Drives.{boxed_seen, ChangesOneDrive, DriveView, drive_views, lent_seen};
+ghost use Rattle.file_drives.specs.Drives.{boxed_seen, ChangesOneDrive, DriveView, lent_seen, drives_seen};
 ghost use Rattle.boot_images.specs.BootFile.{IsVolume};
 ghost use Rattle.boot_images.specs.Drives.{HaveRoom};
 ghost use Rattle.vol_tools.specs.Uses.{at_time, tool_of};
@@ -32,12 +32,10 @@ pub fn use_on_image(
     devices: &mut Devices,
 ) -> Result<Made, End>
     requires volume { IsVolume image.items }
-    requires room { HaveRoom 1
-        (drive_views ⟦<dyn BlockDriver as BlockDriver>⟧ devices.old.drives.items) }
+    requires room { HaveRoom 1 (drives_seen BlockDriver-box devices.old) }
     ensures used { UsesImage (tool_of tool.now) vol.now image.items result }
-    ensures drives { DrivesAfter result
-        (drive_views ⟦<dyn BlockDriver as BlockDriver>⟧ devices.old.drives.items)
-        (drive_views ⟦<dyn BlockDriver as BlockDriver>⟧ devices.new.drives.items) }
+    ensures drives { DrivesAfter result (drives_seen BlockDriver-box devices.old)
+        (drives_seen BlockDriver-box devices.new) }
     ensures terms_kept { devices.new.terms ≡ devices.old.terms }
 {
     let mut images = Images::none(alloc);
@@ -76,13 +74,11 @@ fn use_on_drive(
     now: TimePacket,
 ) -> Result<Vec<u8>, ToolFault>
     requires some { 0 < vec_len devices.old.drives }
-    requires sound { (drive : DriveView)
-        → slice_get (drive_views ⟦<dyn BlockDriver as BlockDriver>⟧ devices.old.drives.items)
+    requires sound { (drive : DriveView) → slice_get (drives_seen BlockDriver-box devices.old)
         0 ≡ Some drive → IsSound drive.media }
     ensures drive { ChangesOneDrive
         (UsesDrive (at_time now tool.now) (λ bytes. bytes.items) result) 0
-        (drive_views ⟦<dyn BlockDriver as BlockDriver>⟧ devices.old.drives.items)
-        (drive_views ⟦<dyn BlockDriver as BlockDriver>⟧ devices.new.drives.items) }
+        (drives_seen BlockDriver-box devices.old) (drives_seen BlockDriver-box devices.new) }
     ensures drives { vec_len devices.new.drives ≡ vec_len devices.old.drives }
     ensures terms_kept { devices.new.terms ≡ devices.old.terms }
 {

@@ -1,8 +1,8 @@
 //! The results of the verbs of `vol` on an image.
 
 ghost use Rattle.std.specs.Prelude.{◌≡◌, ◌≢◌, IfErr, IfOk, OnOk, Some};
+ghost use Rattle.file_drives.specs.Drives.{drives_seen};
 ghost use Rattle.os9_words.specs.Vol.{IsVol};
-ghost use Rattle.file_drives.specs.Drives.{drive_views};
 ghost use Rattle.boot_images.specs.BootFile.{IsVolume};
 ghost use Rattle.boot_images.specs.Drives.{HaveRoom};
 ghost use Rattle.vol_tools.specs.Uses.{tool_of as tool_used};
@@ -56,12 +56,10 @@ pub fn make_of(
     devices: &mut Devices,
 ) -> Result<Made, End>
     requires verb { vol.now.verb ≢ Verb.Format }
-    requires room { HaveRoom 1
-        (drive_views ⟦<dyn BlockDriver as BlockDriver>⟧ devices.old.drives.items) }
+    requires room { HaveRoom 1 (drives_seen BlockDriver-box devices.old) }
     ensures made { MakesOf vol.now files.image.items files.file.items result }
-    ensures drives { DrivesAfter result
-        (drive_views ⟦<dyn BlockDriver as BlockDriver>⟧ devices.old.drives.items)
-        (drive_views ⟦<dyn BlockDriver as BlockDriver>⟧ devices.new.drives.items) }
+    ensures drives { DrivesAfter result (drives_seen BlockDriver-box devices.old)
+        (drives_seen BlockDriver-box devices.new) }
     ensures terms_kept { devices.new.terms ≡ devices.old.terms }
 {
     let VolFiles { image, file } = files;
@@ -81,12 +79,10 @@ fn use_verb(
 ) -> Result<Made, End>
     requires no_disk { vol.now.verb ≢ Verb.Format }
     requires no_repair { vol.now.verb ≢ Verb.Repair }
-    requires room { HaveRoom 1
-        (drive_views ⟦<dyn BlockDriver as BlockDriver>⟧ devices.old.drives.items) }
+    requires room { HaveRoom 1 (drives_seen BlockDriver-box devices.old) }
     ensures made { MakesOf vol.now image.items file.now result }
-    ensures drives { DrivesAfter result
-        (drive_views ⟦<dyn BlockDriver as BlockDriver>⟧ devices.old.drives.items)
-        (drive_views ⟦<dyn BlockDriver as BlockDriver>⟧ devices.new.drives.items) }
+    ensures drives { DrivesAfter result (drives_seen BlockDriver-box devices.old)
+        (drives_seen BlockDriver-box devices.new) }
     ensures terms_kept { devices.new.terms ≡ devices.old.terms }
 {
     match check_image(alloc, &image) {

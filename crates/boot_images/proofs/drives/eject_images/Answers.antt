@@ -18,7 +18,7 @@ pub loop-number-preserved : goal.loop-number-preserved
 loop-number-preserved g c =
     let so_far = c.loop-number.invariant in
     let took = c.eject_from-image.ensures in
-    let before = drive_views (λ table. (g.dyn-1.0.entry table).1) c.args.devices.now.drives.items in
+    let before = drive_views (λ box. (g.dyn-1.0.entry box.vtable).1) c.args.devices.now.drives.items in
     let below : c.loop-number.number < length before = rw length-map (omega (arith, c.len-number-end.ensures, c.args.devices.now.drives.ok.0)) in
     let up = gives-up c.loop-number.number c.loop-number.images c.eject_from-image.result.items before _ _ below so_far.left so_far.taken took.drive in
     record {
@@ -33,7 +33,7 @@ loop-number-preserved g c =
 pub returns-clause-taken : goal.returns-clause-taken
 returns-clause-taken g c =
     let so_far = c.loop-number.invariant in
-    let before = drive_views (λ table. (g.dyn-1.0.entry table).1) c.args.devices.now.drives.items in
+    let before = drive_views (λ box. (g.dyn-1.0.entry box.vtable).1) c.args.devices.now.drives.items in
     taken-all c.loop-number.number _ before _
     (rw length-map (omega (arith, so_far.within, c.len-number-end.ensures, c.args.devices.now.drives.ok.0)))
     (rw length-map (omega (arith, so_far.count, c.requires, c.args.devices.now.drives.ok.0))) so_far.left

@@ -7,12 +7,12 @@ use Rattle.boot_images.proofs.drives.eject_images.Given as goal
 
 abbrev pub invariant-loop-number : goal.invariant-loop-number
 invariant-loop-number g l =
-    let before = drive_views (λ table. (g.dyn-1.0.entry table).1) l.initial.devices.drives.items in
+    let before = drive_views (λ box. (g.dyn-1.0.entry box.vtable).1) l.initial.devices.drives.items in
     record {
       within : l.number ≤ vec_len l.initial.devices.drives;
       count : length l.images ≡ length l.initial.images;
       drives : vec_len l.devices.drives ≡ vec_len l.initial.devices.drives;
       terms : l.devices.terms ≡ l.initial.devices.terms;
-      left : drive_views (λ table. (g.dyn-1.0.entry table).1) l.devices.drives.items ≡ given_up l.number before;
+      left : drive_views (λ box. (g.dyn-1.0.entry box.vtable).1) l.devices.drives.items ≡ given_up l.number before;
       taken : AreTaken l.number l.images before;
     }

@@ -1,5 +1,5 @@
 use Rattle.std.proofs.Common.{◌≡◌, arith, rules}
-use Rattle.file_drives.specs.Drives.{boxed_drive_view}
+use Rattle.file_drives.specs.Drives.{boxed_seen}
 use Rattle.file_drives.proofs.DriveLemmas.{changes-one}
 use Rattle.boot_images.proofs.DriveLemmas.{Inserts-in, seen-at}
 use Rattle.boot_images.proofs.drives.insert_on.Goals as goal
@@ -17,6 +17,6 @@ returns-clause-drive g c =
     rw place (changes-one _ _ c.args.devices.now.drives.items c.args.number c.index_mut.result.now
     c.insert_in_box.new.drive (omega (arith, c.requires.within, c.args.devices.now.drives.ok.0))
     (rw place at c.index_mut.ensures.value) (Inserts-in c.args.image.items
-    (boxed_drive_view (λ table. (g.dyn-1.0.entry table).1) c.index_mut.result.now)
-    (boxed_drive_view (λ table. (g.dyn-1.0.entry table).1) c.insert_in_box.new.drive) put.media put.faults_kept
+    (boxed_seen (λ box. (g.dyn-1.0.entry box.vtable).1) c.index_mut.result.now)
+    (boxed_seen (λ box. (g.dyn-1.0.entry box.vtable).1) c.insert_in_box.new.drive) put.media put.faults_kept
     put.last_kept put.calls_kept))

@@ -2,7 +2,7 @@
 use Rattle.std.proofs.Common.{◌<◌, ◌≤◌, length, arith, ◌∙◌}
 use Rattle.std.specs.Vec.{vec_len}
 use Rattle.std.proofs.lemmas.List.{length-map}
-use Rattle.os9_outer.specs.TerminalState.{terminal_states}
+use Rattle.device_table.specs.Seen.{terminal_states}
 use Rattle.boot_run.proofs.DroppedLemmas.{dropped-all, dropped-more, fails-next}
 use Rattle.boot_run.proofs.keys.drop_keys.Goals as goal
 
@@ -23,6 +23,6 @@ returns-in-Err-clause-dropped g c = fails-next c.loop-n.n _ _ _ c.loop-n.invaria
 
 pub returns-clause-dropped : goal.returns-clause-dropped
 returns-clause-dropped g c =
-    let before = terminal_states (λ table. (g.dyn-2.0.entry table).1) c.args.devices.now.terms.items in
+    let before = terminal_states (λ box. (g.dyn-2.0.entry box.vtable).1) c.args.devices.now.terms.items in
     let all : length before ≤ c.loop-n.n = rw length-map (omega (arith, c.args.devices.now.terms.ok.0, c.len-n-end.ensures)) in
     dropped-all c.loop-n.n _ _ all c.loop-n.invariant.dropped

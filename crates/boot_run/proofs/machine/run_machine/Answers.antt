@@ -1,7 +1,8 @@
 use Rattle.std.proofs.Common.{◌≡◌, List, [], All, length, ap, subst, refl, sym, ◌∙◌, arith}
 use Rattle.std.specs.Vec.{vec_len}
 use Rattle.std.proofs.lemmas.List.{length-map}
-use Rattle.os9_outer.specs.TerminalState.{TerminalState, terminal_states}
+use Rattle.os9_outer.specs.TerminalState.{TerminalState}
+use Rattle.device_table.specs.Seen.{terminal_states}
 use Rattle.boot_run.specs.Loaded.{HasNoKeys, loaded}
 use Rattle.lock_model.specs.Records.{Records}
 use Rattle.file_rules.specs.Files.{NoneFailed}
@@ -15,71 +16,65 @@ use Rattle.boot_run.proofs.machine.run_machine.Goals as goal
 pub new-requires-clause-drives : goal.new-requires-clause-drives
 new-requires-clause-drives g c =
     let drives = c.args.devices.now.drives in
-    let long : length (drive_views (λ table. (g.dyn-1.0.entry table).1) drives.items) ≡ vec_len drives = simp length-map (sym drives.ok.0) in
+    let long : length (drive_views (λ box. (g.dyn-1.0.entry box.vtable).1) drives.items) ≡ vec_len drives = simp length-map (sym drives.ok.0) in
     (omega (arith, long, c.requires.enough), omega (arith, long, c.requires.few_drives))
 
 pub load_keys-requires : goal.load_keys-requires
 load_keys-requires g c =
-    let kept = ap (λ terms. terminal_states (λ table. (g.dyn-2.0.entry table).1) terms.items) c.in-Ok.ensures.terms_kept in
+    let kept = ap (λ terms. terminal_states (λ box. (g.dyn-2.0.entry box.vtable).1) terms.items) c.in-Ok.ensures.terms_kept in
     subst (λ (terms : List TerminalState). All HasNoKeys terms) (sym kept) c.requires.terminals.unloaded
 
 pub run_slices-requires-clause-stands : goal.run_slices-requires-clause-stands
 run_slices-requires-clause-stands g c =
-    let (images, have) = images-there c.args.config.images (drive_views (λ table. (g.dyn-1.0.entry table).1) c.args.devices.now.drives.items) c.requires.volumes in
+    let (images, have) = images-there c.args.config.images (drive_views (λ box. (g.dyn-1.0.entry box.vtable).1) c.args.devices.now.drives.items) c.requires.volumes in
     let setup = setup_with c.args.config c.args.file.now images c.args.keys.now c.args.slices.now in
-    let before = world_of g.H.Host c.args.host.now (outside (λ table. (g.dyn-1.0.entry table).1) c.args.devices.now.drives.items (λ table. (g.dyn-2.0.entry table).1) c.args.devices.now.terms.items) in
-    let drives = ap (λ drives. drive_views (λ table. (g.dyn-1.0.entry table).1) drives.items) c.in-Ok-load_keys.ensures.drives_kept in
+    let before = world_of g.H.Host c.args.host.now (outside (λ box. (g.dyn-1.0.entry box.vtable).1) (λ box. (g.dyn-2.0.entry box.vtable).1) c.args.devices.now) in
+    let drives = ap (λ drives. drive_views (λ box. (g.dyn-1.0.entry box.vtable).1) drives.items) c.in-Ok-load_keys.ensures.drives_kept in
     let terms = c.in-Ok-load_keys.ensures.loaded ∙ ap (λ terms. loaded c.args.keys.now terms)
-    (ap (λ terms. terminal_states (λ table. (g.dyn-2.0.entry table).1) terms.items) c.in-Ok.ensures.terms_kept) in
-    stands-loaded setup c.in-Ok.kernel before (outside (λ table. (g.dyn-1.0.entry table).1)
-    c.new.new.devices.drives.items (λ table. (g.dyn-2.0.entry table).1) c.new.new.devices.terms.items)
-    (outside (λ table. (g.dyn-1.0.entry table).1) c.load_keys.new.devices.drives.items
-    (λ table. (g.dyn-2.0.entry table).1) c.load_keys.new.devices.terms.items) c.requires.terminals c.requires.time
+    (ap (λ terms. terminal_states (λ box. (g.dyn-2.0.entry box.vtable).1) terms.items) c.in-Ok.ensures.terms_kept) in
+    stands-loaded setup c.in-Ok.kernel before (outside (λ box. (g.dyn-1.0.entry box.vtable).1) (λ box. (g.dyn-2.0.entry box.vtable).1) c.new.new.devices)
+    (outside (λ box. (g.dyn-1.0.entry box.vtable).1) (λ box. (g.dyn-2.0.entry box.vtable).1) c.load_keys.new.devices) c.requires.terminals c.requires.time
     c.in-Ok.ensures.starts.drives.moves drives c.in-Ok.ensures.starts.drives.media terms
     (c.in-Ok.ensures.starts.stands images have)
 
 pub returns-in-Err-clause-call : goal.returns-in-Err-clause-call
 returns-in-Err-clause-call g c = λ images have.
     let setup = setup_with c.args.config c.args.file.now images c.args.keys.now c.args.slices.now in
-    let before = world_of g.H.Host c.args.host.now (outside (λ table. (g.dyn-1.0.entry table).1) c.args.devices.now.drives.items (λ table. (g.dyn-2.0.entry table).1) c.args.devices.now.terms.items) in
-    let started = outside (λ table. (g.dyn-1.0.entry table).1) c.new.new.devices.drives.items (λ table. (g.dyn-2.0.entry table).1) c.new.new.devices.terms.items in
-    let untouched = where-refused c.in-Err.error (λ same. ap (λ devices. outside (λ table. (g.dyn-1.0.entry table).1)
-    devices.drives.items (λ table. (g.dyn-2.0.entry table).1) devices.terms.items) same)
+    let before = world_of g.H.Host c.args.host.now (outside (λ box. (g.dyn-1.0.entry box.vtable).1) (λ box. (g.dyn-2.0.entry box.vtable).1) c.args.devices.now) in
+    let started = outside (λ box. (g.dyn-1.0.entry box.vtable).1) (λ box. (g.dyn-2.0.entry box.vtable).1) c.new.new.devices in
+    let untouched = where-refused c.in-Err.error (λ same. ap (λ devices. outside (λ box. (g.dyn-1.0.entry box.vtable).1) (λ box. (g.dyn-2.0.entry box.vtable).1) devices) same)
     c.in-Err.ensures.untouched in
     subst (MachineCall setup [] before (world_of g.H.Host c.args.host.now started)) (sym c.end_of_start-end.ensures)
     (called-refused setup c.args.config before started c.in-Err.error refl have.as_many
     c.in-Err.ensures.starts.refused untouched c.in-Err.ensures.starts.drives (drives-started c.args.config.images
     _ _ _ c.requires.volumes c.in-Err.ensures.starts.drives)
-    (ap (λ terms. terminal_states (λ table. (g.dyn-2.0.entry table).1) terms.items) c.in-Err.ensures.terms_kept))
+    (ap (λ terms. terminal_states (λ box. (g.dyn-2.0.entry box.vtable).1) terms.items) c.in-Err.ensures.terms_kept))
 
 pub returns-in-Err-load_keys-clause-call : goal.returns-in-Err-load_keys-clause-call
 returns-in-Err-load_keys-clause-call g c = λ images have.
     let setup = setup_with c.args.config c.args.file.now images c.args.keys.now c.args.slices.now in
-    let before = world_of g.H.Host c.args.host.now (outside (λ table. (g.dyn-1.0.entry table).1) c.args.devices.now.drives.items (λ table. (g.dyn-2.0.entry table).1) c.args.devices.now.terms.items) in
-    let terms = ap (λ devices. terminal_states (λ table. (g.dyn-2.0.entry table).1) devices.terms.items)
-    c.in-Err-load_keys.ensures.kept ∙ ap (λ terms. terminal_states (λ table. (g.dyn-2.0.entry table).1)
+    let before = world_of g.H.Host c.args.host.now (outside (λ box. (g.dyn-1.0.entry box.vtable).1) (λ box. (g.dyn-2.0.entry box.vtable).1) c.args.devices.now) in
+    let terms = ap (λ devices. terminal_states (λ box. (g.dyn-2.0.entry box.vtable).1) devices.terms.items)
+    c.in-Err-load_keys.ensures.kept ∙ ap (λ terms. terminal_states (λ box. (g.dyn-2.0.entry box.vtable).1)
     terms.items) c.in-Ok.ensures.terms_kept in
-    let drives = ap (λ devices. drive_states (drive_views (λ table. (g.dyn-1.0.entry table).1) devices.drives.items)) c.in-Err-load_keys.ensures.kept in
-    let started = drive_views (λ table. (g.dyn-1.0.entry table).1) c.new.new.devices.drives.items in
-    let media = ap (λ devices. media_of (drive_views (λ table. (g.dyn-1.0.entry table).1) devices.drives.items)) c.in-Err-load_keys.ensures.kept
+    let drives = ap (λ devices. drive_states (drive_views (λ box. (g.dyn-1.0.entry box.vtable).1) devices.drives.items)) c.in-Err-load_keys.ensures.kept in
+    let started = drive_views (λ box. (g.dyn-1.0.entry box.vtable).1) c.new.new.devices.drives.items in
+    let media = ap (λ devices. media_of (drive_views (λ box. (g.dyn-1.0.entry box.vtable).1) devices.drives.items)) c.in-Err-load_keys.ensures.kept
     ∙ media-kept before.devices.drives started (drives-started c.args.config.images _ before.devices.drives started
     c.requires.volumes c.in-Ok.ensures.starts.drives) c.in-Ok.ensures.starts.drives.media in
-    called-nothing setup before (outside (λ table. (g.dyn-1.0.entry table).1) c.load_keys.new.devices.drives.items
-    (λ table. (g.dyn-2.0.entry table).1) c.load_keys.new.devices.terms.items)
+    called-nothing setup before (outside (λ box. (g.dyn-1.0.entry box.vtable).1) (λ box. (g.dyn-2.0.entry box.vtable).1) c.load_keys.new.devices)
     (subst (NoneFailed (drive_states before.devices.drives)) (sym drives) c.in-Ok.ensures.starts.drives.moves)
     media terms
 
 pub returns-in-Ok-run_slices-clause-call : goal.returns-in-Ok-run_slices-clause-call
 returns-in-Ok-run_slices-clause-call g c = λ images have.
     let setup = setup_with c.args.config c.args.file.now images c.args.keys.now c.args.slices.now in
-    let before = world_of g.H.Host c.args.host.now (outside (λ table. (g.dyn-1.0.entry table).1) c.args.devices.now.drives.items (λ table. (g.dyn-2.0.entry table).1) c.args.devices.now.terms.items) in
-    let drives = ap (λ drives. drive_views (λ table. (g.dyn-1.0.entry table).1) drives.items) c.in-Ok-load_keys.ensures.drives_kept in
+    let before = world_of g.H.Host c.args.host.now (outside (λ box. (g.dyn-1.0.entry box.vtable).1) (λ box. (g.dyn-2.0.entry box.vtable).1) c.args.devices.now) in
+    let drives = ap (λ drives. drive_views (λ box. (g.dyn-1.0.entry box.vtable).1) drives.items) c.in-Ok-load_keys.ensures.drives_kept in
     let terms = c.in-Ok-load_keys.ensures.loaded ∙ ap (λ terms. loaded c.args.keys.now terms)
-    (ap (λ terms. terminal_states (λ table. (g.dyn-2.0.entry table).1) terms.items) c.in-Ok.ensures.terms_kept) in
-    called-whole setup c.in-Ok.kernel before (outside (λ table. (g.dyn-1.0.entry table).1)
-    c.new.new.devices.drives.items (λ table. (g.dyn-2.0.entry table).1) c.new.new.devices.terms.items)
-    (outside (λ table. (g.dyn-1.0.entry table).1) c.load_keys.new.devices.drives.items
-    (λ table. (g.dyn-2.0.entry table).1) c.load_keys.new.devices.terms.items) c.requires.terminals c.requires.time
+    (ap (λ terms. terminal_states (λ box. (g.dyn-2.0.entry box.vtable).1) terms.items) c.in-Ok.ensures.terms_kept) in
+    called-whole setup c.in-Ok.kernel before (outside (λ box. (g.dyn-1.0.entry box.vtable).1) (λ box. (g.dyn-2.0.entry box.vtable).1) c.new.new.devices)
+    (outside (λ box. (g.dyn-1.0.entry box.vtable).1) (λ box. (g.dyn-2.0.entry box.vtable).1) c.load_keys.new.devices) c.requires.terminals c.requires.time
     c.in-Ok.ensures.starts.drives.moves drives c.in-Ok.ensures.starts.drives.media terms
     (c.in-Ok.ensures.starts.stands images have) _ _ _ c.living.result c.ticks.result c.run_end-end.result
     c.in-Ok-run_slices.ensures.ran (λ t tied. c.living.ensures _ t tied) (λ t tied. c.ticks.ensures.machine _ t
@@ -89,28 +84,24 @@ returns-in-Ok-run_slices-clause-call g c = λ images have.
 pub returns-in-Err-Output-clause-call : goal.returns-in-Err-Output-clause-call
 returns-in-Err-Output-clause-call g c = λ images have.
     let setup = setup_with c.args.config c.args.file.now images c.args.keys.now c.args.slices.now in
-    let before = world_of g.H.Host c.args.host.now (outside (λ table. (g.dyn-1.0.entry table).1) c.args.devices.now.drives.items (λ table. (g.dyn-2.0.entry table).1) c.args.devices.now.terms.items) in
-    let drives = ap (λ drives. drive_views (λ table. (g.dyn-1.0.entry table).1) drives.items) c.in-Ok-load_keys.ensures.drives_kept in
+    let before = world_of g.H.Host c.args.host.now (outside (λ box. (g.dyn-1.0.entry box.vtable).1) (λ box. (g.dyn-2.0.entry box.vtable).1) c.args.devices.now) in
+    let drives = ap (λ drives. drive_views (λ box. (g.dyn-1.0.entry box.vtable).1) drives.items) c.in-Ok-load_keys.ensures.drives_kept in
     let terms = c.in-Ok-load_keys.ensures.loaded ∙ ap (λ terms. loaded c.args.keys.now terms)
-    (ap (λ terms. terminal_states (λ table. (g.dyn-2.0.entry table).1) terms.items) c.in-Ok.ensures.terms_kept) in
-    called-output setup c.in-Ok.kernel before (outside (λ table. (g.dyn-1.0.entry table).1)
-    c.new.new.devices.drives.items (λ table. (g.dyn-2.0.entry table).1) c.new.new.devices.terms.items)
-    (outside (λ table. (g.dyn-1.0.entry table).1) c.load_keys.new.devices.drives.items
-    (λ table. (g.dyn-2.0.entry table).1) c.load_keys.new.devices.terms.items) c.requires.terminals c.requires.time
+    (ap (λ terms. terminal_states (λ box. (g.dyn-2.0.entry box.vtable).1) terms.items) c.in-Ok.ensures.terms_kept) in
+    called-output setup c.in-Ok.kernel before (outside (λ box. (g.dyn-1.0.entry box.vtable).1) (λ box. (g.dyn-2.0.entry box.vtable).1) c.new.new.devices)
+    (outside (λ box. (g.dyn-1.0.entry box.vtable).1) (λ box. (g.dyn-2.0.entry box.vtable).1) c.load_keys.new.devices) c.requires.terminals c.requires.time
     c.in-Ok.ensures.starts.drives.moves drives c.in-Ok.ensures.starts.drives.media terms
     (c.in-Ok.ensures.starts.stands images have) _ _ (rw c.in-Err-Output.field-0-is at c.in-Err-Output.ensures.ran)
 
 pub returns-clause-call : goal.returns-clause-call
 returns-clause-call g c = λ images have.
     let setup = setup_with c.args.config c.args.file.now images c.args.keys.now c.args.slices.now in
-    let before = world_of g.H.Host c.args.host.now (outside (λ table. (g.dyn-1.0.entry table).1) c.args.devices.now.drives.items (λ table. (g.dyn-2.0.entry table).1) c.args.devices.now.terms.items) in
-    let drives = ap (λ drives. drive_views (λ table. (g.dyn-1.0.entry table).1) drives.items) c.in-Ok-load_keys.ensures.drives_kept in
+    let before = world_of g.H.Host c.args.host.now (outside (λ box. (g.dyn-1.0.entry box.vtable).1) (λ box. (g.dyn-2.0.entry box.vtable).1) c.args.devices.now) in
+    let drives = ap (λ drives. drive_views (λ box. (g.dyn-1.0.entry box.vtable).1) drives.items) c.in-Ok-load_keys.ensures.drives_kept in
     let terms = c.in-Ok-load_keys.ensures.loaded ∙ ap (λ terms. loaded c.args.keys.now terms)
-    (ap (λ terms. terminal_states (λ table. (g.dyn-2.0.entry table).1) terms.items) c.in-Ok.ensures.terms_kept) in
-    called-without_memory setup c.in-Ok.kernel before (outside (λ table. (g.dyn-1.0.entry table).1)
-    c.new.new.devices.drives.items (λ table. (g.dyn-2.0.entry table).1) c.new.new.devices.terms.items)
-    (outside (λ table. (g.dyn-1.0.entry table).1) c.load_keys.new.devices.drives.items
-    (λ table. (g.dyn-2.0.entry table).1) c.load_keys.new.devices.terms.items) c.requires.terminals c.requires.time
+    (ap (λ terms. terminal_states (λ box. (g.dyn-2.0.entry box.vtable).1) terms.items) c.in-Ok.ensures.terms_kept) in
+    called-without_memory setup c.in-Ok.kernel before (outside (λ box. (g.dyn-1.0.entry box.vtable).1) (λ box. (g.dyn-2.0.entry box.vtable).1) c.new.new.devices)
+    (outside (λ box. (g.dyn-1.0.entry box.vtable).1) (λ box. (g.dyn-2.0.entry box.vtable).1) c.load_keys.new.devices) c.requires.terminals c.requires.time
     c.in-Ok.ensures.starts.drives.moves drives c.in-Ok.ensures.starts.drives.media terms
     (c.in-Ok.ensures.starts.stands images have) _ _ (rw c.in-Err-NoMemory.field-0-is at
     c.in-Err-NoMemory.ensures.ran)
@@ -121,7 +112,7 @@ pub returns-in-Err-clause-drives : goal.returns-in-Err-clause-drives
 returns-in-Err-clause-drives g c =
     omega (
       arith,
-      drives-counted (λ table. (g.dyn-1.0.entry table).1) c.args.config.images _
+      drives-counted (λ box. (g.dyn-1.0.entry box.vtable).1) c.args.config.images _
           c.args.devices.now.drives.items c.new.new.devices.drives.items c.requires.volumes
           c.in-Err.ensures.starts.drives,
       c.args.devices.now.drives.ok.0,
@@ -132,7 +123,7 @@ pub returns-in-Err-load_keys-clause-drives : goal.returns-in-Err-load_keys-claus
 returns-in-Err-load_keys-clause-drives g c =
     omega (
       arith,
-      drives-counted (λ table. (g.dyn-1.0.entry table).1) c.args.config.images _
+      drives-counted (λ box. (g.dyn-1.0.entry box.vtable).1) c.args.config.images _
           c.args.devices.now.drives.items c.new.new.devices.drives.items c.requires.volumes
           c.in-Ok.ensures.starts.drives,
       c.args.devices.now.drives.ok.0,
@@ -145,7 +136,7 @@ pub returns-in-Ok-run_slices-clause-drives : goal.returns-in-Ok-run_slices-claus
 returns-in-Ok-run_slices-clause-drives g c =
     omega (
       arith,
-      drives-counted (λ table. (g.dyn-1.0.entry table).1) c.args.config.images _
+      drives-counted (λ box. (g.dyn-1.0.entry box.vtable).1) c.args.config.images _
           c.args.devices.now.drives.items c.new.new.devices.drives.items c.requires.volumes
           c.in-Ok.ensures.starts.drives,
       c.args.devices.now.drives.ok.0,
@@ -159,7 +150,7 @@ pub returns-in-Err-Output-clause-drives : goal.returns-in-Err-Output-clause-driv
 returns-in-Err-Output-clause-drives g c =
     omega (
       arith,
-      drives-counted (λ table. (g.dyn-1.0.entry table).1) c.args.config.images _
+      drives-counted (λ box. (g.dyn-1.0.entry box.vtable).1) c.args.config.images _
           c.args.devices.now.drives.items c.new.new.devices.drives.items c.requires.volumes
           c.in-Ok.ensures.starts.drives,
       c.args.devices.now.drives.ok.0,
@@ -173,7 +164,7 @@ pub returns-clause-drives : goal.returns-clause-drives
 returns-clause-drives g c =
     omega (
       arith,
-      drives-counted (λ table. (g.dyn-1.0.entry table).1) c.args.config.images _
+      drives-counted (λ box. (g.dyn-1.0.entry box.vtable).1) c.args.config.images _
           c.args.devices.now.drives.items c.new.new.devices.drives.items c.requires.volumes
           c.in-Ok.ensures.starts.drives,
       c.args.devices.now.drives.ok.0,

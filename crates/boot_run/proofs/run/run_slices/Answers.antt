@@ -23,7 +23,7 @@ loop-n-preserved g c =
     let so_far = c.loop-n.invariant in
     let slice = c.slice.ensures.slice in
     let passed = c.in-Ok.ensures in
-    let drives = ap (λ drives. drive_views (λ table. (g.dyn-1.0.entry table).1) drives.items) passed.drives_kept in
+    let drives = ap (λ drives. drive_views (λ box. (g.dyn-1.0.entry box.vtable).1) drives.items) passed.drives_kept in
     let more : take (c.loop-n.n-index + 1) c.args.slices.now ≡ take c.loop-n.n-index c.args.slices.now ++ get_or
     c.args.slices.now c.loop-n.n-index 0 ∷ [] = take_more c.args.slices.now c.loop-n.n-index 0 (search rules) in
     record {
@@ -82,7 +82,7 @@ pub returns-in-Err-Failed-clause-ran : goal.returns-in-Err-Failed-clause-ran
 returns-in-Err-Failed-clause-ran g c =
     let within : c.loop-n.n-index < length c.args.slices.now = search rules in
     let passed = rw c.in-Err-Failed.field-0-is at c.in-Err-Failed.ensures.passed in
-    let drives = ap (λ drives. drive_views (λ table. (g.dyn-1.0.entry table).1) drives.items) c.in-Err-Failed.ensures.drives_kept in
+    let drives = ap (λ drives. drive_views (λ box. (g.dyn-1.0.entry box.vtable).1) drives.items) c.in-Err-Failed.ensures.drives_kept in
     record {
       run = tt;
       partial = λ s told stood.
@@ -99,7 +99,7 @@ pub returns-in-Err-OutOfMemory-clause-ran : goal.returns-in-Err-OutOfMemory-clau
 returns-in-Err-OutOfMemory-clause-ran g c =
     let within : c.loop-n.n-index < length c.args.slices.now = search rules in
     let passed = rw c.in-Err-OutOfMemory.field-0-is at c.in-Err-OutOfMemory.ensures.passed in
-    let drives = ap (λ drives. drive_views (λ table. (g.dyn-1.0.entry table).1) drives.items) c.in-Err-OutOfMemory.ensures.drives_kept in
+    let drives = ap (λ drives. drive_views (λ box. (g.dyn-1.0.entry box.vtable).1) drives.items) c.in-Err-OutOfMemory.ensures.drives_kept in
     record {
       run = tt;
       partial = λ s told stood.

@@ -12,8 +12,8 @@ use Rattle.boot_run.proofs.run.run_slices.Given as goal
 
 abbrev pub invariant-loop-n : goal.invariant-loop-n
 invariant-loop-n g l =
-    let before = outside (λ table. (g.dyn-1.0.entry table).1) l.initial.devices.drives.items (λ table. (g.dyn-2.0.entry table).1) l.initial.devices.terms.items in
-    let now = outside (λ table. (g.dyn-1.0.entry table).1) l.devices.drives.items (λ table. (g.dyn-2.0.entry table).1) l.devices.terms.items in
+    let before = outside (λ box. (g.dyn-1.0.entry box.vtable).1) (λ box. (g.dyn-2.0.entry box.vtable).1) l.initial.devices in
+    let now = outside (λ box. (g.dyn-1.0.entry box.vtable).1) (λ box. (g.dyn-2.0.entry box.vtable).1) l.devices in
     record {
       few : ticks l.kernel + (length l.slices - l.n-index) < 4294000000;
       stands : Stands l.kernel now;

@@ -16,19 +16,19 @@ use Rattle.console_boot.proofs.boot.boot_console.Goals as goal
 
 pub returns-in-Err-clause-call : goal.returns-in-Err-clause-call
 returns-in-Err-clause-call g c =
-    let devices = outside (λ table. (g.dyn-1.0.entry table).1) c.args.devices.now.drives.items (λ table. (g.dyn-2.0.entry table).1) c.args.devices.now.terms.items in
+    let devices = outside (λ box. (g.dyn-1.0.entry box.vtable).1) (λ box. (g.dyn-2.0.entry box.vtable).1) c.args.devices.now in
     console-stopped c.args.boot.now c.args.console.now.typed _ _ _ _ (keeps-none _ _ c.requires.untyped) (c.in-Err.ensures.ended devices)
 
 pub returns-in-Err-accept_images-clause-call : goal.returns-in-Err-accept_images-clause-call
 returns-in-Err-accept_images-clause-call g c =
-    let devices = outside (λ table. (g.dyn-1.0.entry table).1) c.args.devices.now.drives.items (λ table. (g.dyn-2.0.entry table).1) c.args.devices.now.terms.items in
+    let devices = outside (λ box. (g.dyn-1.0.entry box.vtable).1) (λ box. (g.dyn-2.0.entry box.vtable).1) c.args.devices.now in
     console-refused c.args.boot.now c.args.console.now.typed _ _ _ c.in-Err-accept_images.end c.in-Ok.images
     (keeps-none _ _ c.requires.untyped) (c.in-Ok.ensures.kept devices) c.in-Ok.ensures.contents c.in-Err-accept_images.ensures.refused
 
 pub returns-in-OfRun-clause-call : goal.returns-in-OfRun-clause-call
 returns-in-OfRun-clause-call g c =
-    let devices = outside (λ table. (g.dyn-1.0.entry table).1) c.args.devices.now.drives.items (λ table. (g.dyn-2.0.entry table).1) c.args.devices.now.terms.items in
-    let left = outside (λ table. (g.dyn-1.0.entry table).1) c.run_on_images-session.new.devices.drives.items (λ table. (g.dyn-2.0.entry table).1) c.run_on_images-session.new.devices.terms.items in
+    let devices = outside (λ box. (g.dyn-1.0.entry box.vtable).1) (λ box. (g.dyn-2.0.entry box.vtable).1) c.args.devices.now in
+    let left = outside (λ box. (g.dyn-1.0.entry box.vtable).1) (λ box. (g.dyn-2.0.entry box.vtable).1) c.run_on_images-session.new.devices in
     let typed = c.run_on_images-session.new.console.typed in
     let file = c.in-Ok-accept_images.file.items in
     let from = keyboard_state g.K.Keyboard c.args.console.now.keyboard in
@@ -49,8 +49,8 @@ returns-in-OfRun-clause-call g c =
 
 pub returns-clause-call : goal.returns-clause-call
 returns-clause-call g c =
-    let devices = outside (λ table. (g.dyn-1.0.entry table).1) c.args.devices.now.drives.items (λ table. (g.dyn-2.0.entry table).1) c.args.devices.now.terms.items in
-    let left = outside (λ table. (g.dyn-1.0.entry table).1) c.run_on_images-session.new.devices.drives.items (λ table. (g.dyn-2.0.entry table).1) c.run_on_images-session.new.devices.terms.items in
+    let devices = outside (λ box. (g.dyn-1.0.entry box.vtable).1) (λ box. (g.dyn-2.0.entry box.vtable).1) c.args.devices.now in
+    let left = outside (λ box. (g.dyn-1.0.entry box.vtable).1) (λ box. (g.dyn-2.0.entry box.vtable).1) c.run_on_images-session.new.devices in
     let typed = c.run_on_images-session.new.console.typed in
     let file = c.in-Ok-accept_images.file.items in
     let from = keyboard_state g.K.Keyboard c.args.console.now.keyboard in
@@ -81,7 +81,7 @@ returns-in-Err-accept_images-clause-noted g c =
 
 pub returns-in-OfRun-clause-noted : goal.returns-in-OfRun-clause-noted
 returns-in-OfRun-clause-noted g c =
-    let left = outside (λ table. (g.dyn-1.0.entry table).1) c.run_on_images-session.new.devices.drives.items (λ table. (g.dyn-2.0.entry table).1) c.run_on_images-session.new.devices.terms.items in
+    let left = outside (λ box. (g.dyn-1.0.entry box.vtable).1) (λ box. (g.dyn-2.0.entry box.vtable).1) c.run_on_images-session.new.devices in
     let back = c.write_back.ensures.noted in
     let outputs = outputs_of c.args.boot.now in
     let bytes = output_bytes outputs c.run_on_images-session.new.images (history_left c.run_on_images-session.result.records) in

@@ -1,7 +1,8 @@
 use Rattle.std.proofs.Common.{◌≡◌, ◌∙◌, All, List, length, ap, subst, sym, arith}
 use Rattle.std.proofs.lemmas.List.{length-map}
-use Rattle.os9_outer.specs.TerminalState.{TerminalState, terminal_states}
-use Rattle.file_drives.specs.Drives.{boxed_drive_view, drive_views}
+use Rattle.os9_outer.specs.TerminalState.{TerminalState}
+use Rattle.device_table.specs.Seen.{terminal_states}
+use Rattle.file_drives.specs.Drives.{boxed_seen, drive_views}
 use Rattle.file_start.specs.Start.{HaveImages}
 use Rattle.os9_kernel.specs.Outside.{outside}
 use Rattle.boot_run.specs.Console.{IsObserved}
@@ -18,7 +19,7 @@ pub run_session-outcome-requires-clause-machine : goal.run_session-outcome-requi
 run_session-outcome-requires-clause-machine g c =
     let was = c.args.devices.now.drives in
     let now = c.insert_images.new.devices.drives in
-    let view = boxed_drive_view (λ table. (g.dyn-1.0.entry table).1) in
+    let view = boxed_seen (λ box. (g.dyn-1.0.entry box.vtable).1) in
     let items : length now.items ≡ length was.items = omega (arith, c.insert_images.ensures.drives, now.ok.0, was.ok.0) in
     let many = length-map now.items view ∙ items ∙ sym (length-map was.items view) in
     record {
@@ -36,12 +37,10 @@ run_session-outcome-requires-clause-machine g c =
 pub returns-clause-run : goal.returns-clause-run
 returns-clause-run g c =
     let typed = c.run_session-outcome.new.console.typed in
-    let before = world_of g.H.Host c.args.host.now (outside (λ table. (g.dyn-1.0.entry table).1) c.args.devices.now.drives.items (λ table. (g.dyn-2.0.entry table).1) c.args.devices.now.terms.items) in
-    let inside = outside (λ table. (g.dyn-1.0.entry table).1) c.insert_images.new.devices.drives.items (λ table. (g.dyn-2.0.entry table).1) c.insert_images.new.devices.terms.items in
-    let ran = world_of g.H.Host c.run_session-outcome.new.host (outside (λ table. (g.dyn-1.0.entry table).1)
-    c.run_session-outcome.new.devices.drives.items (λ table. (g.dyn-2.0.entry table).1)
-    c.run_session-outcome.new.devices.terms.items) in
-    let left = outside (λ table. (g.dyn-1.0.entry table).1) c.eject_images.new.devices.drives.items (λ table. (g.dyn-2.0.entry table).1) c.eject_images.new.devices.terms.items in
+    let before = world_of g.H.Host c.args.host.now (outside (λ box. (g.dyn-1.0.entry box.vtable).1) (λ box. (g.dyn-2.0.entry box.vtable).1) c.args.devices.now) in
+    let inside = outside (λ box. (g.dyn-1.0.entry box.vtable).1) (λ box. (g.dyn-2.0.entry box.vtable).1) c.insert_images.new.devices in
+    let ran = world_of g.H.Host c.run_session-outcome.new.host (outside (λ box. (g.dyn-1.0.entry box.vtable).1) (λ box. (g.dyn-2.0.entry box.vtable).1) c.run_session-outcome.new.devices) in
+    let left = outside (λ box. (g.dyn-1.0.entry box.vtable).1) (λ box. (g.dyn-2.0.entry box.vtable).1) c.eject_images.new.devices in
     let setup = session_setup c.args.start.now c.args.images.now typed in
     let given : Setup = record setup { file = c.as_slice.result.now } in
     let same : given ≡ setup = λ i. record setup { file = c.as_slice.ensures.value i } in
@@ -53,16 +52,16 @@ returns-clause-run g c =
       c.args.devices.now.drives.ok.0,
     ) in
     let many = length-map c.run_session-outcome.new.devices.drives.items
-    (boxed_drive_view (λ table. (g.dyn-1.0.entry table).1)) ∙ items ∙ sym
-    (length-map c.args.devices.now.drives.items (boxed_drive_view (λ table. (g.dyn-1.0.entry table).1))) in
-    let have : HaveImages c.len.result c.args.images.now (drive_views (λ table. (g.dyn-1.0.entry table).1)
+    (boxed_seen (λ box. (g.dyn-1.0.entry box.vtable).1)) ∙ items ∙ sym
+    (length-map c.args.devices.now.drives.items (boxed_seen (λ box. (g.dyn-1.0.entry box.vtable).1))) in
+    let have : HaveImages c.len.result c.args.images.now (drive_views (λ box. (g.dyn-1.0.entry box.vtable).1)
     c.insert_images.new.devices.drives.items) = rw (
       c.len.ensures,
       c.insert_images.ensures.count,
       c.insert_images.ensures.held,
     ) (have-images c.args.images.now _ c.requires.devices.room.enough) in
-    let terms_put = ap (λ terms. terminal_states (λ table. (g.dyn-2.0.entry table).1) terms.items) c.insert_images.ensures.terms_kept in
-    let terms_left = ap (λ terms. terminal_states (λ table. (g.dyn-2.0.entry table).1) terms.items) c.eject_images.ensures.terms_kept in
+    let terms_put = ap (λ terms. terminal_states (λ box. (g.dyn-2.0.entry box.vtable).1) terms.items) c.insert_images.ensures.terms_kept in
+    let terms_left = ap (λ terms. terminal_states (λ box. (g.dyn-2.0.entry box.vtable).1) terms.items) c.eject_images.ensures.terms_kept in
     let from = keyboard_state g.K.Keyboard c.args.console.now.keyboard in
     let to = keyboard_state g.K.Keyboard c.run_session-outcome.new.console.keyboard in
     let history = history_left c.run_session-outcome.result.records in

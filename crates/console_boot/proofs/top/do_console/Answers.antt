@@ -9,8 +9,8 @@ use Rattle.console_boot.proofs.top.do_console.Goals as goal
 
 pub returns-clause-call : goal.returns-clause-call
 returns-clause-call g c =
-    let devices = outside (λ table. (g.dyn-1.0.entry table).1) c.args.devices.now.drives.items (λ table. (g.dyn-2.0.entry table).1) c.args.devices.now.terms.items in
-    let left = outside (λ table. (g.dyn-1.0.entry table).1) c.boot_console-end.new.devices.drives.items (λ table. (g.dyn-2.0.entry table).1) c.boot_console-end.new.devices.terms.items in
+    let devices = outside (λ box. (g.dyn-1.0.entry box.vtable).1) (λ box. (g.dyn-2.0.entry box.vtable).1) c.args.devices.now in
+    let left = outside (λ box. (g.dyn-1.0.entry box.vtable).1) (λ box. (g.dyn-2.0.entry box.vtable).1) c.boot_console-end.new.devices in
     let from = keyboard_state g.K.Keyboard c.args.console.now.keyboard in
     let to = keyboard_state g.K.Keyboard c.boot_console-end.new.console.keyboard in
     let before = world_of g.H.Host c.args.host.now devices in

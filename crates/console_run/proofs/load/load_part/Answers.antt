@@ -1,7 +1,7 @@
 use Rattle.std.proofs.Common.{◌∷◌, [], List, ap, refl, sym, ◌∙◌}
 use Rattle.std.specs.Prelude.{Err, Ok, OnErr, Result}
-use Rattle.os9_outer.specs.TerminalState.{terminal_states}
 use Rattle.os9_outer.specs.declared.terminal.Key.{Key}
+use Rattle.device_table.specs.Seen.{terminal_states}
 use Rattle.run_laws.specs.Session.{keys_loaded}
 use Rattle.session_text.specs.declared.typed.Typed.{Typed}
 use Rattle.console_run.specs.Kept.{IsKept}
@@ -13,7 +13,7 @@ returns-clause-loaded g c =
     let old : Typed = c.args.typed.now in
     let new : Typed = record old { parts = c.push.new.self } in
     let part = c.in_ok-part.ensures in
-    let before = terminal_states (λ table. (g.dyn-2.0.entry table).1) c.args.devices.now.terms.items in
+    let before = terminal_states (λ box. (g.dyn-2.0.entry box.vtable).1) c.args.devices.now.terms.items in
     record {
       kept = part-kept old new _ c.args.tick c.args.bytes.now c.in_ok-push.ensures.items part.tick part.bytes;
       slices = refl;

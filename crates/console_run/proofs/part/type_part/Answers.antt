@@ -1,5 +1,5 @@
 use Rattle.std.proofs.Common.{◌-◌, ◌≤◌, ℕ, List, arith, drop, length, take, subst}
-use Rattle.os9_outer.specs.TerminalState.{terminal_states}
+use Rattle.device_table.specs.Seen.{terminal_states}
 use Rattle.session_text.specs.Typed.{keys_typed}
 use Rattle.console_run.specs.Turn.{LoadsKeys}
 use Rattle.console_run.proofs.PartLemmas.{part-left, part-taken}
@@ -13,8 +13,8 @@ returns-clause-typed g c =
     let place : ℕ = console.place in
     let to : ℕ = c.part_end-end.result in
     let within : to ≤ length items = omega (arith, end.within, c.len.ensures, console.line.ok.0) in
-    let before = terminal_states (λ table. (g.dyn-2.0.entry table).1) c.args.devices.now.terms.items in
-    let after = terminal_states (λ table. (g.dyn-2.0.entry table).1) c.load_part.new.devices.terms.items in
+    let before = terminal_states (λ box. (g.dyn-2.0.entry box.vtable).1) c.args.devices.now.terms.items in
+    let after = terminal_states (λ box. (g.dyn-2.0.entry box.vtable).1) c.load_part.new.devices.terms.items in
     record {
       bytes = take (to - place) (drop place items);
       part = part-taken items place to end.ahead within end.few (λ below. end.most (omega (arith, below, c.len.ensures, console.line.ok.0)));

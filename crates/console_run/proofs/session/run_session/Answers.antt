@@ -1,7 +1,8 @@
 use Rattle.std.proofs.Common.{◌≡◌, [], List, length, ap, subst, refl, sym, ◌∙◌, arith, inr}
 use Rattle.std.specs.Vec.{vec_len}
 use Rattle.std.proofs.lemmas.List.{length-map}
-use Rattle.os9_outer.specs.TerminalState.{TerminalState, terminal_states}
+use Rattle.os9_outer.specs.TerminalState.{TerminalState}
+use Rattle.device_table.specs.Seen.{terminal_states}
 use Rattle.boot_run.specs.Loaded.{AreUnloaded, loaded}
 use Rattle.file_drives.specs.Drives.{drive_views}
 use Rattle.lock_model.specs.Records.{Records}
@@ -21,7 +22,7 @@ use Rattle.console_run.proofs.session.run_session.Goals as goal
 pub new-requires-clause-drives : goal.new-requires-clause-drives
 new-requires-clause-drives g c =
     let drives = c.args.devices.now.drives in
-    let long : length (drive_views (λ table. (g.dyn-1.0.entry table).1) drives.items) ≡ vec_len drives = simp length-map (sym drives.ok.0) in
+    let long : length (drive_views (λ box. (g.dyn-1.0.entry box.vtable).1) drives.items) ≡ vec_len drives = simp length-map (sym drives.ok.0) in
     (omega (arith, long, c.requires.machine.enough), omega (arith, long, c.requires.machine.few_drives))
 
 pub run_turns-requires-clause-begins : goal.run_turns-requires-clause-begins
@@ -29,26 +30,24 @@ run_turns-requires-clause-begins g c = c.in-Ok.ensures.starts.count
 
 pub run_turns-requires-clause-unloaded : goal.run_turns-requires-clause-unloaded
 run_turns-requires-clause-unloaded g c =
-    let kept = ap (λ terms. terminal_states (λ table. (g.dyn-2.0.entry table).1) terms.items) c.in-Ok.ensures.terms_kept in
+    let kept = ap (λ terms. terminal_states (λ box. (g.dyn-2.0.entry box.vtable).1) terms.items) c.in-Ok.ensures.terms_kept in
     subst (λ (terms : List TerminalState). AreUnloaded terms) (sym kept) c.requires.machine.terminals
 
 pub run_turns-requires-clause-stands : goal.run_turns-requires-clause-stands
 run_turns-requires-clause-stands g c =
-    let drives = drive_views (λ table. (g.dyn-1.0.entry table).1) c.args.devices.now.drives.items in
+    let drives = drive_views (λ box. (g.dyn-1.0.entry box.vtable).1) c.args.devices.now.drives.items in
     let (images, have) = images-there c.args.config.images drives c.requires.machine.volumes in
     stands-begun (setup_with c.args.config c.args.file.now images [] []) c.in-Ok.kernel
-    (outside (λ table. (g.dyn-1.0.entry table).1) c.new.new.devices.drives.items
-    (λ table. (g.dyn-2.0.entry table).1) c.new.new.devices.terms.items) (c.in-Ok.ensures.starts.stands images
+    (outside (λ box. (g.dyn-1.0.entry box.vtable).1) (λ box. (g.dyn-2.0.entry box.vtable).1) c.new.new.devices) (c.in-Ok.ensures.starts.stands images
     have)
 
 -- ---- the start was refused
 
 pub returns-in-Err-clause-call : goal.returns-in-Err-clause-call
 returns-in-Err-clause-call g c =
-    let before = world_of g.H.Host c.args.host.now (outside (λ table. (g.dyn-1.0.entry table).1) c.args.devices.now.drives.items (λ table. (g.dyn-2.0.entry table).1) c.args.devices.now.terms.items) in
-    let started = outside (λ table. (g.dyn-1.0.entry table).1) c.new.new.devices.drives.items (λ table. (g.dyn-2.0.entry table).1) c.new.new.devices.terms.items in
-    let untouched = where-refused c.in-Err.error (λ same. ap (λ devices. outside (λ table. (g.dyn-1.0.entry table).1)
-    devices.drives.items (λ table. (g.dyn-2.0.entry table).1) devices.terms.items) same)
+    let before = world_of g.H.Host c.args.host.now (outside (λ box. (g.dyn-1.0.entry box.vtable).1) (λ box. (g.dyn-2.0.entry box.vtable).1) c.args.devices.now) in
+    let started = outside (λ box. (g.dyn-1.0.entry box.vtable).1) (λ box. (g.dyn-2.0.entry box.vtable).1) c.new.new.devices in
+    let untouched = where-refused c.in-Err.error (λ same. ap (λ devices. outside (λ box. (g.dyn-1.0.entry box.vtable).1) (λ box. (g.dyn-2.0.entry box.vtable).1) devices) same)
     c.in-Err.ensures.untouched in
     let typed = c.args.console.now.typed in
     λ images have.
@@ -59,14 +58,14 @@ returns-in-Err-clause-call g c =
           (called-refused setup c.args.config before started c.in-Err.error refl have.as_many
           c.in-Err.ensures.starts.refused untouched c.in-Err.ensures.starts.drives
           (drives-started c.args.config.images _ _ _ c.requires.machine.volumes c.in-Err.ensures.starts.drives)
-          (ap (λ terms. terminal_states (λ table. (g.dyn-2.0.entry table).1) terms.items)
+          (ap (λ terms. terminal_states (λ box. (g.dyn-2.0.entry box.vtable).1) terms.items)
           c.in-Err.ensures.terms_kept));
       at_line = tt;
       keyboard = rw c.end_of_start.ensures (asks-none c.in-Err.error _);
       lines = keeps-none typed _ c.requires.untyped;
       stopped = λ told. rw c.end_of_start.ensures (never-part _ c.args.config.images before started c.in-Err.error _
           c.in-Err.ensures.starts.drives (drives-started c.args.config.images _ _ _ c.requires.machine.volumes
-          c.in-Err.ensures.starts.drives) (ap (λ terms. terminal_states (λ table. (g.dyn-2.0.entry table).1) terms.items) c.in-Err.ensures.terms_kept));
+          c.in-Err.ensures.starts.drives) (ap (λ terms. terminal_states (λ box. (g.dyn-2.0.entry box.vtable).1) terms.items) c.in-Err.ensures.terms_kept));
       session = λ told. rw c.end_of_start.ensures (never-began _ c.in-Err.error _ _ _ _);
     }
 
@@ -74,12 +73,11 @@ returns-in-Err-clause-call g c =
 
 pub returns-in-Over-clause-call : goal.returns-in-Over-clause-call
 returns-in-Over-clause-call g c =
-    let before = world_of g.H.Host c.args.host.now (outside (λ table. (g.dyn-1.0.entry table).1) c.args.devices.now.drives.items (λ table. (g.dyn-2.0.entry table).1) c.args.devices.now.terms.items) in
-    let started = outside (λ table. (g.dyn-1.0.entry table).1) c.new.new.devices.drives.items (λ table. (g.dyn-2.0.entry table).1) c.new.new.devices.terms.items in
+    let before = world_of g.H.Host c.args.host.now (outside (λ box. (g.dyn-1.0.entry box.vtable).1) (λ box. (g.dyn-2.0.entry box.vtable).1) c.args.devices.now) in
+    let started = outside (λ box. (g.dyn-1.0.entry box.vtable).1) (λ box. (g.dyn-2.0.entry box.vtable).1) c.new.new.devices in
     let starts = c.in-Ok.ensures.starts in
-    let kept = ap (λ terms. terminal_states (λ table. (g.dyn-2.0.entry table).1) terms.items) c.in-Ok.ensures.terms_kept in
-    let after = world_of g.H.Host c.run_turns.new.host (outside (λ table. (g.dyn-1.0.entry table).1)
-    c.run_turns.new.devices.drives.items (λ table. (g.dyn-2.0.entry table).1) c.run_turns.new.devices.terms.items)
+    let kept = ap (λ terms. terminal_states (λ box. (g.dyn-2.0.entry box.vtable).1) terms.items) c.in-Ok.ensures.terms_kept in
+    let after = world_of g.H.Host c.run_turns.new.host (outside (λ box. (g.dyn-1.0.entry box.vtable).1) (λ box. (g.dyn-2.0.entry box.vtable).1) c.run_turns.new.devices)
     in
     let typed = c.run_turns.new.console.typed in
     let from = keyboard_state g.K.Keyboard c.args.console.now.keyboard in
@@ -110,12 +108,11 @@ returns-in-Over-clause-call g c =
 
 pub returns-in-LineLost-clause-call : goal.returns-in-LineLost-clause-call
 returns-in-LineLost-clause-call g c =
-    let before = world_of g.H.Host c.args.host.now (outside (λ table. (g.dyn-1.0.entry table).1) c.args.devices.now.drives.items (λ table. (g.dyn-2.0.entry table).1) c.args.devices.now.terms.items) in
-    let started = outside (λ table. (g.dyn-1.0.entry table).1) c.new.new.devices.drives.items (λ table. (g.dyn-2.0.entry table).1) c.new.new.devices.terms.items in
+    let before = world_of g.H.Host c.args.host.now (outside (λ box. (g.dyn-1.0.entry box.vtable).1) (λ box. (g.dyn-2.0.entry box.vtable).1) c.args.devices.now) in
+    let started = outside (λ box. (g.dyn-1.0.entry box.vtable).1) (λ box. (g.dyn-2.0.entry box.vtable).1) c.new.new.devices in
     let starts = c.in-Ok.ensures.starts in
-    let kept = ap (λ terms. terminal_states (λ table. (g.dyn-2.0.entry table).1) terms.items) c.in-Ok.ensures.terms_kept in
-    let after = world_of g.H.Host c.run_turns.new.host (outside (λ table. (g.dyn-1.0.entry table).1)
-    c.run_turns.new.devices.drives.items (λ table. (g.dyn-2.0.entry table).1) c.run_turns.new.devices.terms.items)
+    let kept = ap (λ terms. terminal_states (λ box. (g.dyn-2.0.entry box.vtable).1) terms.items) c.in-Ok.ensures.terms_kept in
+    let after = world_of g.H.Host c.run_turns.new.host (outside (λ box. (g.dyn-1.0.entry box.vtable).1) (λ box. (g.dyn-2.0.entry box.vtable).1) c.run_turns.new.devices)
     in
     let typed = c.run_turns.new.console.typed in
     let from = keyboard_state g.K.Keyboard c.args.console.now.keyboard in
@@ -145,12 +142,11 @@ returns-in-LineLost-clause-call g c =
 
 pub returns-in-Err-Output-clause-call : goal.returns-in-Err-Output-clause-call
 returns-in-Err-Output-clause-call g c =
-    let before = world_of g.H.Host c.args.host.now (outside (λ table. (g.dyn-1.0.entry table).1) c.args.devices.now.drives.items (λ table. (g.dyn-2.0.entry table).1) c.args.devices.now.terms.items) in
-    let started = outside (λ table. (g.dyn-1.0.entry table).1) c.new.new.devices.drives.items (λ table. (g.dyn-2.0.entry table).1) c.new.new.devices.terms.items in
+    let before = world_of g.H.Host c.args.host.now (outside (λ box. (g.dyn-1.0.entry box.vtable).1) (λ box. (g.dyn-2.0.entry box.vtable).1) c.args.devices.now) in
+    let started = outside (λ box. (g.dyn-1.0.entry box.vtable).1) (λ box. (g.dyn-2.0.entry box.vtable).1) c.new.new.devices in
     let starts = c.in-Ok.ensures.starts in
-    let kept = ap (λ terms. terminal_states (λ table. (g.dyn-2.0.entry table).1) terms.items) c.in-Ok.ensures.terms_kept in
-    let after = world_of g.H.Host c.run_turns.new.host (outside (λ table. (g.dyn-1.0.entry table).1)
-    c.run_turns.new.devices.drives.items (λ table. (g.dyn-2.0.entry table).1) c.run_turns.new.devices.terms.items)
+    let kept = ap (λ terms. terminal_states (λ box. (g.dyn-2.0.entry box.vtable).1) terms.items) c.in-Ok.ensures.terms_kept in
+    let after = world_of g.H.Host c.run_turns.new.host (outside (λ box. (g.dyn-1.0.entry box.vtable).1) (λ box. (g.dyn-2.0.entry box.vtable).1) c.run_turns.new.devices)
     in
     let typed = c.run_turns.new.console.typed in
     let from = keyboard_state g.K.Keyboard c.args.console.now.keyboard in
@@ -175,12 +171,11 @@ returns-in-Err-Output-clause-call g c =
 
 pub returns-in-Err-NoMemory-clause-call : goal.returns-in-Err-NoMemory-clause-call
 returns-in-Err-NoMemory-clause-call g c =
-    let before = world_of g.H.Host c.args.host.now (outside (λ table. (g.dyn-1.0.entry table).1) c.args.devices.now.drives.items (λ table. (g.dyn-2.0.entry table).1) c.args.devices.now.terms.items) in
-    let started = outside (λ table. (g.dyn-1.0.entry table).1) c.new.new.devices.drives.items (λ table. (g.dyn-2.0.entry table).1) c.new.new.devices.terms.items in
+    let before = world_of g.H.Host c.args.host.now (outside (λ box. (g.dyn-1.0.entry box.vtable).1) (λ box. (g.dyn-2.0.entry box.vtable).1) c.args.devices.now) in
+    let started = outside (λ box. (g.dyn-1.0.entry box.vtable).1) (λ box. (g.dyn-2.0.entry box.vtable).1) c.new.new.devices in
     let starts = c.in-Ok.ensures.starts in
-    let kept = ap (λ terms. terminal_states (λ table. (g.dyn-2.0.entry table).1) terms.items) c.in-Ok.ensures.terms_kept in
-    let after = world_of g.H.Host c.run_turns.new.host (outside (λ table. (g.dyn-1.0.entry table).1)
-    c.run_turns.new.devices.drives.items (λ table. (g.dyn-2.0.entry table).1) c.run_turns.new.devices.terms.items)
+    let kept = ap (λ terms. terminal_states (λ box. (g.dyn-2.0.entry box.vtable).1) terms.items) c.in-Ok.ensures.terms_kept in
+    let after = world_of g.H.Host c.run_turns.new.host (outside (λ box. (g.dyn-1.0.entry box.vtable).1) (λ box. (g.dyn-2.0.entry box.vtable).1) c.run_turns.new.devices)
     in
     let typed = c.run_turns.new.console.typed in
     let from = keyboard_state g.K.Keyboard c.args.console.now.keyboard in
@@ -212,7 +207,7 @@ returns-in-Err-clause-places g c = record {
   drives =
       omega (
         arith,
-        drives-counted (λ table. (g.dyn-1.0.entry table).1) c.args.config.images _
+        drives-counted (λ box. (g.dyn-1.0.entry box.vtable).1) c.args.config.images _
             c.args.devices.now.drives.items c.new.new.devices.drives.items c.requires.machine.volumes
             c.in-Err.ensures.starts.drives,
         c.args.devices.now.drives.ok.0,
@@ -226,7 +221,7 @@ returns-in-Over-clause-places g c = record {
   drives =
       omega (
         arith,
-        drives-counted (λ table. (g.dyn-1.0.entry table).1) c.args.config.images _
+        drives-counted (λ box. (g.dyn-1.0.entry box.vtable).1) c.args.config.images _
             c.args.devices.now.drives.items c.new.new.devices.drives.items c.requires.machine.volumes
             c.in-Ok.ensures.starts.drives,
         c.args.devices.now.drives.ok.0,
@@ -241,7 +236,7 @@ returns-in-LineLost-clause-places g c = record {
   drives =
       omega (
         arith,
-        drives-counted (λ table. (g.dyn-1.0.entry table).1) c.args.config.images _
+        drives-counted (λ box. (g.dyn-1.0.entry box.vtable).1) c.args.config.images _
             c.args.devices.now.drives.items c.new.new.devices.drives.items c.requires.machine.volumes
             c.in-Ok.ensures.starts.drives,
         c.args.devices.now.drives.ok.0,
@@ -256,7 +251,7 @@ returns-in-Err-Output-clause-places g c = record {
   drives =
       omega (
         arith,
-        drives-counted (λ table. (g.dyn-1.0.entry table).1) c.args.config.images _
+        drives-counted (λ box. (g.dyn-1.0.entry box.vtable).1) c.args.config.images _
             c.args.devices.now.drives.items c.new.new.devices.drives.items c.requires.machine.volumes
             c.in-Ok.ensures.starts.drives,
         c.args.devices.now.drives.ok.0,
@@ -271,7 +266,7 @@ returns-in-Err-NoMemory-clause-places g c = record {
   drives =
       omega (
         arith,
-        drives-counted (λ table. (g.dyn-1.0.entry table).1) c.args.config.images _
+        drives-counted (λ box. (g.dyn-1.0.entry box.vtable).1) c.args.config.images _
             c.args.devices.now.drives.items c.new.new.devices.drives.items c.requires.machine.volumes
             c.in-Ok.ensures.starts.drives,
         c.args.devices.now.drives.ok.0,

@@ -9,8 +9,8 @@ use Rattle.console_run.proofs.turn.run_turn.Goals as goal
 
 pub returns-in-NoMemory-clause-turn : goal.returns-in-NoMemory-clause-turn
 returns-in-NoMemory-clause-turn g c =
-    let before = world_of g.H.Host c.args.host.now (outside (λ table. (g.dyn-1.0.entry table).1) c.args.devices.now.drives.items (λ table. (g.dyn-2.0.entry table).1) c.args.devices.now.terms.items) in
-    let sliced = outside (λ table. (g.dyn-1.0.entry table).1) c.slice-end.new.devices.drives.items (λ table. (g.dyn-2.0.entry table).1) c.slice-end.new.devices.terms.items in
+    let before = world_of g.H.Host c.args.host.now (outside (λ box. (g.dyn-1.0.entry box.vtable).1) (λ box. (g.dyn-2.0.entry box.vtable).1) c.args.devices.now) in
+    let sliced = outside (λ box. (g.dyn-1.0.entry box.vtable).1) (λ box. (g.dyn-2.0.entry box.vtable).1) c.slice-end.new.devices in
     record {
       ran = tt;
       stopped = λ s told tied.
@@ -27,11 +27,10 @@ pub returns-in-Ok-clause-turn : goal.returns-in-Ok-clause-turn
 returns-in-Ok-clause-turn g c =
     let slice = c.slice-end.ensures.slice in
     let passed = c.in-Ok.ensures in
-    let before = world_of g.H.Host c.args.host.now (outside (λ table. (g.dyn-1.0.entry table).1) c.args.devices.now.drives.items (λ table. (g.dyn-2.0.entry table).1) c.args.devices.now.terms.items) in
-    let sliced = outside (λ table. (g.dyn-1.0.entry table).1) c.slice-end.new.devices.drives.items (λ table. (g.dyn-2.0.entry table).1) c.slice-end.new.devices.terms.items in
-    let after = world_of g.H.Host c.pass_on.new.host (outside (λ table. (g.dyn-1.0.entry table).1)
-    c.pass_on.new.devices.drives.items (λ table. (g.dyn-2.0.entry table).1) c.pass_on.new.devices.terms.items) in
-    let left = ap (λ drives. drive_views (λ table. (g.dyn-1.0.entry table).1) drives.items) passed.drives_kept in
+    let before = world_of g.H.Host c.args.host.now (outside (λ box. (g.dyn-1.0.entry box.vtable).1) (λ box. (g.dyn-2.0.entry box.vtable).1) c.args.devices.now) in
+    let sliced = outside (λ box. (g.dyn-1.0.entry box.vtable).1) (λ box. (g.dyn-2.0.entry box.vtable).1) c.slice-end.new.devices in
+    let after = world_of g.H.Host c.pass_on.new.host (outside (λ box. (g.dyn-1.0.entry box.vtable).1) (λ box. (g.dyn-2.0.entry box.vtable).1) c.pass_on.new.devices) in
+    let left = ap (λ drives. drive_views (λ box. (g.dyn-1.0.entry box.vtable).1) drives.items) passed.drives_kept in
     record {
       ran = λ s tied.
           passes-slice c.args.kernel.now c.slice-end.new.self before after sliced c.slice-end.result slice (λ e. c.in_default.not-NoMemory e) left s tied passed.passed.taken passed.passed.written;
@@ -47,11 +46,10 @@ returns-in-Ok-clause-turn g c =
 pub returns-in-Err-Failed-clause-turn : goal.returns-in-Err-Failed-clause-turn
 returns-in-Err-Failed-clause-turn g c =
     let passed = rw c.in-Err-Failed.field-0-is at c.in-Err-Failed.ensures.passed in
-    let before = world_of g.H.Host c.args.host.now (outside (λ table. (g.dyn-1.0.entry table).1) c.args.devices.now.drives.items (λ table. (g.dyn-2.0.entry table).1) c.args.devices.now.terms.items) in
-    let sliced = outside (λ table. (g.dyn-1.0.entry table).1) c.slice-end.new.devices.drives.items (λ table. (g.dyn-2.0.entry table).1) c.slice-end.new.devices.terms.items in
-    let after = world_of g.H.Host c.pass_on.new.host (outside (λ table. (g.dyn-1.0.entry table).1)
-    c.pass_on.new.devices.drives.items (λ table. (g.dyn-2.0.entry table).1) c.pass_on.new.devices.terms.items) in
-    let left = ap (λ drives. drive_views (λ table. (g.dyn-1.0.entry table).1) drives.items) c.in-Err-Failed.ensures.drives_kept in
+    let before = world_of g.H.Host c.args.host.now (outside (λ box. (g.dyn-1.0.entry box.vtable).1) (λ box. (g.dyn-2.0.entry box.vtable).1) c.args.devices.now) in
+    let sliced = outside (λ box. (g.dyn-1.0.entry box.vtable).1) (λ box. (g.dyn-2.0.entry box.vtable).1) c.slice-end.new.devices in
+    let after = world_of g.H.Host c.pass_on.new.host (outside (λ box. (g.dyn-1.0.entry box.vtable).1) (λ box. (g.dyn-2.0.entry box.vtable).1) c.pass_on.new.devices) in
+    let left = ap (λ drives. drive_views (λ box. (g.dyn-1.0.entry box.vtable).1) drives.items) c.in-Err-Failed.ensures.drives_kept in
     record {
       ran = tt;
       stopped = λ s told tied.
@@ -68,11 +66,10 @@ returns-in-Err-Failed-clause-turn g c =
 pub returns-in-Err-OutOfMemory-clause-turn : goal.returns-in-Err-OutOfMemory-clause-turn
 returns-in-Err-OutOfMemory-clause-turn g c =
     let passed = rw c.in-Err-OutOfMemory.field-0-is at c.in-Err-OutOfMemory.ensures.passed in
-    let before = world_of g.H.Host c.args.host.now (outside (λ table. (g.dyn-1.0.entry table).1) c.args.devices.now.drives.items (λ table. (g.dyn-2.0.entry table).1) c.args.devices.now.terms.items) in
-    let sliced = outside (λ table. (g.dyn-1.0.entry table).1) c.slice-end.new.devices.drives.items (λ table. (g.dyn-2.0.entry table).1) c.slice-end.new.devices.terms.items in
-    let after = world_of g.H.Host c.pass_on.new.host (outside (λ table. (g.dyn-1.0.entry table).1)
-    c.pass_on.new.devices.drives.items (λ table. (g.dyn-2.0.entry table).1) c.pass_on.new.devices.terms.items) in
-    let left = ap (λ drives. drive_views (λ table. (g.dyn-1.0.entry table).1) drives.items) c.in-Err-OutOfMemory.ensures.drives_kept in
+    let before = world_of g.H.Host c.args.host.now (outside (λ box. (g.dyn-1.0.entry box.vtable).1) (λ box. (g.dyn-2.0.entry box.vtable).1) c.args.devices.now) in
+    let sliced = outside (λ box. (g.dyn-1.0.entry box.vtable).1) (λ box. (g.dyn-2.0.entry box.vtable).1) c.slice-end.new.devices in
+    let after = world_of g.H.Host c.pass_on.new.host (outside (λ box. (g.dyn-1.0.entry box.vtable).1) (λ box. (g.dyn-2.0.entry box.vtable).1) c.pass_on.new.devices) in
+    let left = ap (λ drives. drive_views (λ box. (g.dyn-1.0.entry box.vtable).1) drives.items) c.in-Err-OutOfMemory.ensures.drives_kept in
     record {
       ran = tt;
       stopped = λ s told tied.

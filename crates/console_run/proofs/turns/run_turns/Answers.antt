@@ -3,7 +3,7 @@ use Rattle.std.specs.Prelude.{Err}
 use Rattle.std.specs.Vec.{vec_len}
 use Rattle.std.proofs.lemmas.List.{length-map}
 use Rattle.std.proofs.lemmas.List.Elements.{All-append, All-nil}
-use Rattle.os9_outer.specs.TerminalState.{terminal_states}
+use Rattle.device_table.specs.Seen.{terminal_states}
 use Rattle.script_text.specs.declared.script.ScriptKey.{ScriptKey}
 use Rattle.os9_kernel.specs.Outside.{outside}
 use Rattle.os9_kernel.specs.Tie.{ticks}
@@ -50,11 +50,10 @@ loop-preserved g c =
     let so_far = c.loop.invariant in
     let typed = c.in-GoesOn.ensures.asked in
     let ran = c.in-Ok.ensures in
-    let before = world_of g.H.Host c.args.host.now (outside (λ table. (g.dyn-1.0.entry table).1) c.args.devices.now.drives.items (λ table. (g.dyn-2.0.entry table).1) c.args.devices.now.terms.items) in
-    let mid = world_of g.H.Host c.loop.host (outside (λ table. (g.dyn-1.0.entry table).1) c.loop.devices.drives.items (λ table. (g.dyn-2.0.entry table).1) c.loop.devices.terms.items) in
-    let loaded = outside (λ table. (g.dyn-1.0.entry table).1) c.type_line.new.devices.drives.items (λ table. (g.dyn-2.0.entry table).1) c.type_line.new.devices.terms.items in
-    let now = world_of g.H.Host c.run_turn.new.host (outside (λ table. (g.dyn-1.0.entry table).1)
-    c.run_turn.new.devices.drives.items (λ table. (g.dyn-2.0.entry table).1) c.run_turn.new.devices.terms.items)
+    let before = world_of g.H.Host c.args.host.now (outside (λ box. (g.dyn-1.0.entry box.vtable).1) (λ box. (g.dyn-2.0.entry box.vtable).1) c.args.devices.now) in
+    let mid = world_of g.H.Host c.loop.host (outside (λ box. (g.dyn-1.0.entry box.vtable).1) (λ box. (g.dyn-2.0.entry box.vtable).1) c.loop.devices) in
+    let loaded = outside (λ box. (g.dyn-1.0.entry box.vtable).1) (λ box. (g.dyn-2.0.entry box.vtable).1) c.type_line.new.devices in
+    let now = world_of g.H.Host c.run_turn.new.host (outside (λ box. (g.dyn-1.0.entry box.vtable).1) (λ box. (g.dyn-2.0.entry box.vtable).1) c.run_turn.new.devices)
     in
     let from = keyboard_state g.K.Keyboard c.args.console.now.keyboard in
     let was = console_state g.K.Keyboard c.loop.console in
@@ -94,7 +93,7 @@ type_line-requires-clause-early g c = omega (arith, c.loop.invariant.begun)
 pub type_line-requires-clause-some : goal.type_line-requires-clause-some
 type_line-requires-clause-some g c =
     let terms = c.args.devices.now.terms in
-    let long : length (terminal_states (λ table. (g.dyn-2.0.entry table).1) terms.items) ≡ vec_len terms = simp length-map (sym terms.ok.0) in
+    let long : length (terminal_states (λ box. (g.dyn-2.0.entry box.vtable).1) terms.items) ≡ vec_len terms = simp length-map (sym terms.ok.0) in
     omega (arith, long, c.requires.unloaded.some, c.loop.invariant.terminals)
 
 pub type_line-requires-clause-stands : goal.type_line-requires-clause-stands
@@ -113,8 +112,8 @@ run_turn-requires-clause-stands g c =
 pub returns-then-living-eq0-clause-ran : goal.returns-then-living-eq0-clause-ran
 returns-then-living-eq0-clause-ran g c =
     let so_far = c.loop.invariant in
-    let before = world_of g.H.Host c.args.host.now (outside (λ table. (g.dyn-1.0.entry table).1) c.args.devices.now.drives.items (λ table. (g.dyn-2.0.entry table).1) c.args.devices.now.terms.items) in
-    let now = world_of g.H.Host c.loop.host (outside (λ table. (g.dyn-1.0.entry table).1) c.loop.devices.drives.items (λ table. (g.dyn-2.0.entry table).1) c.loop.devices.terms.items) in
+    let before = world_of g.H.Host c.args.host.now (outside (λ box. (g.dyn-1.0.entry box.vtable).1) (λ box. (g.dyn-2.0.entry box.vtable).1) c.args.devices.now) in
+    let now = world_of g.H.Host c.loop.host (outside (λ box. (g.dyn-1.0.entry box.vtable).1) (λ box. (g.dyn-2.0.entry box.vtable).1) c.loop.devices) in
     let from = keyboard_state g.K.Keyboard c.args.console.now.keyboard in
     let was = console_state g.K.Keyboard c.loop.console in
     record {
@@ -140,10 +139,9 @@ pub returns-in-AtEnd-clause-ran : goal.returns-in-AtEnd-clause-ran
 returns-in-AtEnd-clause-ran g c =
     let so_far = c.loop.invariant in
     let (waits, same, meets) = c.in-AtEnd.ensures.asked in
-    let before = world_of g.H.Host c.args.host.now (outside (λ table. (g.dyn-1.0.entry table).1) c.args.devices.now.drives.items (λ table. (g.dyn-2.0.entry table).1) c.args.devices.now.terms.items) in
-    let mid = world_of g.H.Host c.loop.host (outside (λ table. (g.dyn-1.0.entry table).1) c.loop.devices.drives.items (λ table. (g.dyn-2.0.entry table).1) c.loop.devices.terms.items) in
-    let now = world_of g.H.Host c.loop.host (outside (λ table. (g.dyn-1.0.entry table).1)
-    c.type_line.new.devices.drives.items (λ table. (g.dyn-2.0.entry table).1) c.type_line.new.devices.terms.items)
+    let before = world_of g.H.Host c.args.host.now (outside (λ box. (g.dyn-1.0.entry box.vtable).1) (λ box. (g.dyn-2.0.entry box.vtable).1) c.args.devices.now) in
+    let mid = world_of g.H.Host c.loop.host (outside (λ box. (g.dyn-1.0.entry box.vtable).1) (λ box. (g.dyn-2.0.entry box.vtable).1) c.loop.devices) in
+    let now = world_of g.H.Host c.loop.host (outside (λ box. (g.dyn-1.0.entry box.vtable).1) (λ box. (g.dyn-2.0.entry box.vtable).1) c.type_line.new.devices)
     in
     let from = keyboard_state g.K.Keyboard c.args.console.now.keyboard in
     let was = console_state g.K.Keyboard c.loop.console in
@@ -180,10 +178,9 @@ pub returns-in-NoMemory-clause-ran : goal.returns-in-NoMemory-clause-ran
 returns-in-NoMemory-clause-ran g c =
     let so_far = c.loop.invariant in
     let (waits, same, loses) = c.in-NoMemory.ensures.asked in
-    let before = world_of g.H.Host c.args.host.now (outside (λ table. (g.dyn-1.0.entry table).1) c.args.devices.now.drives.items (λ table. (g.dyn-2.0.entry table).1) c.args.devices.now.terms.items) in
-    let mid = world_of g.H.Host c.loop.host (outside (λ table. (g.dyn-1.0.entry table).1) c.loop.devices.drives.items (λ table. (g.dyn-2.0.entry table).1) c.loop.devices.terms.items) in
-    let now = world_of g.H.Host c.loop.host (outside (λ table. (g.dyn-1.0.entry table).1)
-    c.type_line.new.devices.drives.items (λ table. (g.dyn-2.0.entry table).1) c.type_line.new.devices.terms.items)
+    let before = world_of g.H.Host c.args.host.now (outside (λ box. (g.dyn-1.0.entry box.vtable).1) (λ box. (g.dyn-2.0.entry box.vtable).1) c.args.devices.now) in
+    let mid = world_of g.H.Host c.loop.host (outside (λ box. (g.dyn-1.0.entry box.vtable).1) (λ box. (g.dyn-2.0.entry box.vtable).1) c.loop.devices) in
+    let now = world_of g.H.Host c.loop.host (outside (λ box. (g.dyn-1.0.entry box.vtable).1) (λ box. (g.dyn-2.0.entry box.vtable).1) c.type_line.new.devices)
     in
     let from = keyboard_state g.K.Keyboard c.args.console.now.keyboard in
     let was = console_state g.K.Keyboard c.loop.console in
@@ -221,11 +218,10 @@ returns-in-Err-clause-ran g c =
     let so_far = c.loop.invariant in
     let typed = c.in-GoesOn.ensures.asked in
     let turn = c.in-Err.ensures.turn in
-    let before = world_of g.H.Host c.args.host.now (outside (λ table. (g.dyn-1.0.entry table).1) c.args.devices.now.drives.items (λ table. (g.dyn-2.0.entry table).1) c.args.devices.now.terms.items) in
-    let mid = world_of g.H.Host c.loop.host (outside (λ table. (g.dyn-1.0.entry table).1) c.loop.devices.drives.items (λ table. (g.dyn-2.0.entry table).1) c.loop.devices.terms.items) in
-    let loaded = outside (λ table. (g.dyn-1.0.entry table).1) c.type_line.new.devices.drives.items (λ table. (g.dyn-2.0.entry table).1) c.type_line.new.devices.terms.items in
-    let now = world_of g.H.Host c.run_turn.new.host (outside (λ table. (g.dyn-1.0.entry table).1)
-    c.run_turn.new.devices.drives.items (λ table. (g.dyn-2.0.entry table).1) c.run_turn.new.devices.terms.items)
+    let before = world_of g.H.Host c.args.host.now (outside (λ box. (g.dyn-1.0.entry box.vtable).1) (λ box. (g.dyn-2.0.entry box.vtable).1) c.args.devices.now) in
+    let mid = world_of g.H.Host c.loop.host (outside (λ box. (g.dyn-1.0.entry box.vtable).1) (λ box. (g.dyn-2.0.entry box.vtable).1) c.loop.devices) in
+    let loaded = outside (λ box. (g.dyn-1.0.entry box.vtable).1) (λ box. (g.dyn-2.0.entry box.vtable).1) c.type_line.new.devices in
+    let now = world_of g.H.Host c.run_turn.new.host (outside (λ box. (g.dyn-1.0.entry box.vtable).1) (λ box. (g.dyn-2.0.entry box.vtable).1) c.run_turn.new.devices)
     in
     let from = keyboard_state g.K.Keyboard c.args.console.now.keyboard in
     let was = console_state g.K.Keyboard c.loop.console in
@@ -268,8 +264,8 @@ returns-in-Err-clause-ran g c =
 pub returns-clause-ran : goal.returns-clause-ran
 returns-clause-ran g c =
     let so_far = c.loop.invariant in
-    let before = world_of g.H.Host c.args.host.now (outside (λ table. (g.dyn-1.0.entry table).1) c.args.devices.now.drives.items (λ table. (g.dyn-2.0.entry table).1) c.args.devices.now.terms.items) in
-    let now = world_of g.H.Host c.loop.host (outside (λ table. (g.dyn-1.0.entry table).1) c.loop.devices.drives.items (λ table. (g.dyn-2.0.entry table).1) c.loop.devices.terms.items) in
+    let before = world_of g.H.Host c.args.host.now (outside (λ box. (g.dyn-1.0.entry box.vtable).1) (λ box. (g.dyn-2.0.entry box.vtable).1) c.args.devices.now) in
+    let now = world_of g.H.Host c.loop.host (outside (λ box. (g.dyn-1.0.entry box.vtable).1) (λ box. (g.dyn-2.0.entry box.vtable).1) c.loop.devices) in
     let from = keyboard_state g.K.Keyboard c.args.console.now.keyboard in
     let was = console_state g.K.Keyboard c.loop.console in
     record {

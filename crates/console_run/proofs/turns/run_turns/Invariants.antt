@@ -15,8 +15,8 @@ use Rattle.console_run.proofs.turns.run_turns.Given as goal
 
 abbrev pub invariant-loop : goal.invariant-loop
 invariant-loop g l =
-    let before = outside (λ table. (g.dyn-1.0.entry table).1) l.initial.devices.drives.items (λ table. (g.dyn-2.0.entry table).1) l.initial.devices.terms.items in
-    let now = outside (λ table. (g.dyn-1.0.entry table).1) l.devices.drives.items (λ table. (g.dyn-2.0.entry table).1) l.devices.terms.items in
+    let before = outside (λ box. (g.dyn-1.0.entry box.vtable).1) (λ box. (g.dyn-2.0.entry box.vtable).1) l.initial.devices in
+    let now = outside (λ box. (g.dyn-1.0.entry box.vtable).1) (λ box. (g.dyn-2.0.entry box.vtable).1) l.devices in
     record {
       begun : ticks l.kernel ≡ l.counter;
       within : l.counter < 4294000000;

@@ -30,9 +30,9 @@ type_part-requires-clause-rest g c = c.in-GoesOn.ensures.1.some
 
 pub returns-in-Ok-clause-asked : goal.returns-in-Ok-clause-asked
 returns-in-Ok-clause-asked g c =
-    let before = outside (λ table. (g.dyn-1.0.entry table).1) c.args.devices.now.drives.items (λ table. (g.dyn-2.0.entry table).1) c.args.devices.now.terms.items in
-    let between = outside (λ table. (g.dyn-1.0.entry table).1) c.waits_for_line.new.devices.drives.items (λ table. (g.dyn-2.0.entry table).1) c.waits_for_line.new.devices.terms.items in
-    let after = outside (λ table. (g.dyn-1.0.entry table).1) c.type_part.new.devices.drives.items (λ table. (g.dyn-2.0.entry table).1) c.type_part.new.devices.terms.items in
+    let before = outside (λ box. (g.dyn-1.0.entry box.vtable).1) (λ box. (g.dyn-2.0.entry box.vtable).1) c.args.devices.now in
+    let between = outside (λ box. (g.dyn-1.0.entry box.vtable).1) (λ box. (g.dyn-2.0.entry box.vtable).1) c.waits_for_line.new.devices in
+    let after = outside (λ box. (g.dyn-1.0.entry box.vtable).1) (λ box. (g.dyn-2.0.entry box.vtable).1) c.type_part.new.devices in
     let old = console_state g.K.Keyboard c.args.console.now in
     let mid = console_state g.K.Keyboard c.ask_line.new.console in
     let new = console_state g.K.Keyboard c.type_part.new.console in
@@ -42,7 +42,7 @@ returns-in-Ok-clause-asked g c =
     c.args.kernel.now (c.ticks.result + 1) before between after
     (c.waits_for_line.ensures.all c.if-not-waits_for_line.false) c.waits_for_line.ensures.kept
     (ap (λ (tick : ℕ). tick + 1) c.ticks.ensures.count) c.in-Ok.ensures.typed
-    (ap (λ drives. drive_views (λ table. (g.dyn-1.0.entry table).1) drives.items) c.type_part.ensures.drives_kept)
+    (ap (λ drives. drive_views (λ box. (g.dyn-1.0.entry box.vtable).1) drives.items) c.type_part.ensures.drives_kept)
 
 pub returns-in-Err-clause-asked : goal.returns-in-Err-clause-asked
 returns-in-Err-clause-asked g c =
@@ -51,8 +51,7 @@ returns-in-Err-clause-asked g c =
     let new = console_state g.K.Keyboard c.type_part.new.console in
     let (line, asks) = c.in-GoesOn.ensures in (
       c.waits_for_line.ensures.all c.if-not-waits_for_line.false,
-      ap (λ devices. outside (λ table. (g.dyn-1.0.entry table).1) devices.drives.items
-          (λ table. (g.dyn-2.0.entry table).1) devices.terms.items) c.in-Err.ensures.devices_kept ∙
+      ap (λ devices. outside (λ box. (g.dyn-1.0.entry box.vtable).1) (λ box. (g.dyn-2.0.entry box.vtable).1) devices) c.in-Err.ensures.devices_kept ∙
           c.waits_for_line.ensures.kept,
       loses-part (g.H.Host.bytes_out c.args.host.now) line old mid new asks
           (ap (λ keyboard. keyboard_state g.K.Keyboard keyboard) c.type_part.ensures.keyboard_kept)

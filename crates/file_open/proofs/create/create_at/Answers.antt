@@ -40,7 +40,7 @@ returns-in-Err-clause-makes g c m was list dir most before tied read found next 
     let place = c.args.last.directory in
     let number = c.in-Some.field-0 in
     let new : FileState = record c.args.files.now { disks = c.create_at.new.self } in
-    let views = drive_views (λ table. (g.dyn-1.0.entry table).1) c.create_at.new.devices.drives.items in
+    let views = drive_views (λ box. (g.dyn-1.0.entry box.vtable).1) c.create_at.new.devices.drives.items in
     let numbered : new_number was.io.paths p ≡ Some number = sym (c.next_number.ensures _ _ read.read.stands) ∙ c.in-Some.is in
     let bits : c.regs-attr.result.b ≡ (regs_at m p).b = ap (λ (r : Regs). r.b) (c.regs-attr.ensures.regs ∙ sym (regs-tied c.args.s.now m p tied)) in
     let user : c.args.found.now.user ≡ user_at m p = c.requires.place.user ∙ sym (user-tied c.args.s.now m p tied) in
@@ -63,7 +63,7 @@ returns-in-Ok-clause-makes g c m was list dir most before tied read found next t
     let place = c.args.last.directory in
     let number = c.in-Some.field-0 in
     let new : FileState = record c.args.files.now { disks = c.create_at.new.self } in
-    let views = drive_views (λ table. (g.dyn-1.0.entry table).1) c.create_at.new.devices.drives.items in
+    let views = drive_views (λ box. (g.dyn-1.0.entry box.vtable).1) c.create_at.new.devices.drives.items in
     let numbered : new_number was.io.paths p ≡ Some number = sym (c.next_number.ensures _ _ read.read.stands) ∙ c.in-Some.is in
     let bits : c.regs-attr.result.b ≡ (regs_at m p).b = ap (λ (r : Regs). r.b) (c.regs-attr.ensures.regs ∙ sym (regs-tied c.args.s.now m p tied)) in
     let user : c.args.found.now.user ≡ user_at m p = c.requires.place.user ∙ sym (user-tied c.args.s.now m p tied) in

@@ -48,7 +48,7 @@ returns-in-Ok-clause-creates g c m was list tied stands names next proper terms 
     let it = whole.walks in
     let found = (finds m was now p terms walker c.args.from (before_last list.names) c.args.files.now new _ _ who.user
     stands c.requires.file refl refl refl (creates_in asker was list name) place it).found in
-    let views = drive_views (λ table. (g.dyn-1.0.entry table).1) c.create_in.new.devices.drives.items in
+    let views = drive_views (λ box. (g.dyn-1.0.entry box.vtable).1) c.create_in.new.devices.drives.items in
     along-named m was now p list c.args.from name whole.name c.create_in.result c.create_in.new.s c.create_in.new.files _ views terms
     (walk-goes m was now p terms walker c.args.from (before_last list.names) c.args.files.now new _ _ who.user stands
     c.requires.file refl refl refl (creates_in asker was list name) (new_file_calls asker name) _ who.execute

@@ -43,7 +43,7 @@ returns-in-Err-clause-creates g c m was list dir most before tied read found nex
     let place = c.args.last.directory in
     let walker = c.walker_of-walker.result in
     let new : FileState = record c.args.files.now { disks = c.find_place.new.self } in
-    let views = drive_views (λ table. (g.dyn-1.0.entry table).1) c.find_place.new.devices.drives.items in
+    let views = drive_views (λ box. (g.dyn-1.0.entry box.vtable).1) c.find_place.new.devices.drives.items in
     let who = walker-tied c.args.s.now m c.args.p walker c.walker_of-walker.ensures.process tied c.walker_of-walker.ensures.walker in
     let bits : (regs_at m p).b ≡ c.regs-attr.result.b = ap (λ (r : Regs). r.b) (regs-tied c.args.s.now m p tied ∙ sym c.regs-attr.ensures.regs) in
     let says : says_directory (regs_at m p).b ≡ false = ap says_directory bits ∙ sym c.says_directory.ensures.says ∙ c.if-says_directory.false in
@@ -70,8 +70,8 @@ returns-in-Ok-clause-creates g c m was list dir most before tied read found next
     let place = c.args.last.directory in
     let walker = c.walker_of-walker.result in
     let new : FileState = record c.args.files.now { disks = c.find_place.new.self } in
-    let views = drive_views (λ table. (g.dyn-1.0.entry table).1) c.find_place.new.devices.drives.items in
-    let later = drive_views (λ table. (g.dyn-1.0.entry table).1) c.create_at.new.devices.drives.items in
+    let views = drive_views (λ box. (g.dyn-1.0.entry box.vtable).1) c.find_place.new.devices.drives.items in
+    let later = drive_views (λ box. (g.dyn-1.0.entry box.vtable).1) c.create_at.new.devices.drives.items in
     let who = walker-tied c.args.s.now m c.args.p walker c.walker_of-walker.ensures.process tied c.walker_of-walker.ensures.walker in
     let bits : (regs_at m p).b ≡ c.regs-attr.result.b = ap (λ (r : Regs). r.b) (regs-tied c.args.s.now m p tied ∙ sym c.regs-attr.ensures.regs) in
     let says : says_directory (regs_at m p).b ≡ false = ap says_directory bits ∙ sym c.says_directory.ensures.says ∙ c.if-says_directory.false in

@@ -35,7 +35,7 @@ returns-in-Ok-clause-opens g c now m was list tied stands names next terms =
     let who = walker-tied c.args.s.now m c.args.p walker c.walker_of-walker.ensures.process tied c.walker_of-walker.ensures.walker in
     let it = c.in-Ok.ensures.walks list.names (who.names c.args.first list.names names) in
     let found = (finds m was now p terms walker c.args.from list.names c.args.files.now new _ _ who.user stands c.requires.file refl refl refl (opens_found asker was list) place it).found in
-    let views = drive_views (λ table. (g.dyn-1.0.entry table).1) c.open_place.new.devices.drives.items in
+    let views = drive_views (λ box. (g.dyn-1.0.entry box.vtable).1) c.open_place.new.devices.drives.items in
     walk-goes m was now p terms walker c.args.from list.names c.args.files.now new _ _ who.user stands c.requires.file refl refl refl (opens_found asker was list) (λ v file. 1) _ who.execute
     c.open_place.result c.open_place.new.s place it c.open_place.new.files views
     (c.open_place.ensures.opens now m was list found _ _ (c.walk_from.ensures.same.represents m tied)

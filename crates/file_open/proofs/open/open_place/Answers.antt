@@ -32,7 +32,7 @@ pub returns-in-Ok-clause-opens : goal.returns-in-Ok-clause-opens
 returns-in-Ok-clause-opens g c now m was list found most before tied read it next terms =
     let p = c.args.p.0 in
     let new : FileState = record c.args.files.now { disks = c.fd.new.self } in
-    let views = drive_views (λ table. (g.dyn-1.0.entry table).1) c.fd.new.devices.drives.items in
+    let views = drive_views (λ box. (g.dyn-1.0.entry box.vtable).1) c.fd.new.devices.drives.items in
     let after = read-on was c.args.place found it c.args.files.now new before _ views most read None _ refl refl refl c.in-Ok.ensures.drive in
     late-ends m was now p c.open_found.result c.open_found.new.s c.open_found.new.files before views terms (most + 1)
     (opens_there (asker_of m p now) was list found) (opens_found (asker_of m p now)

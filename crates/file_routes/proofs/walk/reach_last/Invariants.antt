@@ -10,10 +10,10 @@ abbrev pub invariant-names : goal.invariant-names
 invariant-names g l = record {
   walked : (names : List (List ℕ)) → NamesStand (cells_of l.initial.memory l.walker.process.0) l.first names
       → IsWalkedTo (cells_of l.initial.memory l.walker.process.0) l.walker l.fn.from names l.directory l.at
-      l.initial.disks (drive_views (λ table. (g.dyn-1.0.entry table).1) l.initial.devices.drives.items) l.disks
-      (drive_views (λ table. (g.dyn-1.0.entry table).1) l.devices.drives.items);
-  there : IsThere l.fn.from l.directory l.initial.disks (drive_views (λ table. (g.dyn-1.0.entry table).1)
-      l.initial.devices.drives.items) l.disks (drive_views (λ table. (g.dyn-1.0.entry table).1)
+      l.initial.disks (drive_views (λ box. (g.dyn-1.0.entry box.vtable).1) l.initial.devices.drives.items) l.disks
+      (drive_views (λ box. (g.dyn-1.0.entry box.vtable).1) l.devices.drives.items);
+  there : IsThere l.fn.from l.directory l.initial.disks (drive_views (λ box. (g.dyn-1.0.entry box.vtable).1)
+      l.initial.devices.drives.items) l.disks (drive_views (λ box. (g.dyn-1.0.entry box.vtable).1)
       l.devices.drives.items);
   within : l.at < 65536;
   same : IsSame l.initial.memory l.memory;

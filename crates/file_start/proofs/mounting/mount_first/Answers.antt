@@ -1,6 +1,6 @@
 use Rattle.std.proofs.Common.{◌∙◌, Err, refl, arith}
 use Rattle.std.proofs.lemmas.List.{length-map}
-use Rattle.file_drives.specs.Drives.{boxed_drive_view}
+use Rattle.file_drives.specs.Drives.{boxed_seen}
 use Rattle.file_start.proofs.FirstLemmas.{mounted-all, mounted-none, mounted-one, mounted-read-all, next-held, read-to}
 use Rattle.file_start.proofs.ReadLemmas.{fails-among, moves-then}
 use Rattle.file_start.proofs.mounting.mount_first.Goals as goal
@@ -13,8 +13,8 @@ mount_one-requires-clause-drive g c =
     let low = c.loop-n-test.true in
     let there = c.requires.there in
     let many = c.loop-n.invariant.so_far.read.as_many in
-    let was = length-map c.args.devices.now.drives.items (boxed_drive_view (λ table. (g.dyn-1.0.entry table).1)) in
-    let is = length-map c.loop-n.devices.drives.items (boxed_drive_view (λ table. (g.dyn-1.0.entry table).1)) in
+    let was = length-map c.args.devices.now.drives.items (boxed_seen (λ box. (g.dyn-1.0.entry box.vtable).1)) in
+    let is = length-map c.loop-n.devices.drives.items (boxed_seen (λ box. (g.dyn-1.0.entry box.vtable).1)) in
     omega (arith, low, there, many, was, is)
 
 pub mount_one-requires-clause-volume : goal.mount_one-requires-clause-volume
@@ -24,7 +24,7 @@ mount_one-requires-clause-volume g c =
 pub loop-n-preserved : goal.loop-n-preserved
 loop-n-preserved g c =
     let there = c.requires.there in
-    let was = length-map c.args.devices.now.drives.items (boxed_drive_view (λ table. (g.dyn-1.0.entry table).1)) in
+    let was = length-map c.args.devices.now.drives.items (boxed_seen (λ box. (g.dyn-1.0.entry box.vtable).1)) in
     record {
       so_far = mounted-one c.loop-n.n c.args.drives c.args.state.now c.loop-n.state c.mount_one.new.state _ _ _
           c.loop-n-test.true (omega (arith, there, was)) c.loop-n.invariant.so_far c.in-Ok.ensures.mounts.read
@@ -35,7 +35,7 @@ loop-n-preserved g c =
 pub returns-in-Err-clause-mounts : goal.returns-in-Err-clause-mounts
 returns-in-Err-clause-mounts g c =
     let there = c.requires.there in
-    let was = length-map c.args.devices.now.drives.items (boxed_drive_view (λ table. (g.dyn-1.0.entry table).1)) in
+    let was = length-map c.args.devices.now.drives.items (boxed_seen (λ box. (g.dyn-1.0.entry box.vtable).1)) in
     record {
       mounted = λ volumes many hold has. tt;
       read = mounted-read-all c.loop-n.n c.args.drives c.args.state.now c.loop-n.state c.mount_one.new.state _ _ _

@@ -6,7 +6,7 @@ use Rattle.file_start.proofs.mounting.mount_first.Given as goal
 
 abbrev pub invariant-loop-n : goal.invariant-loop-n
 invariant-loop-n g l = record {
-  so_far : MountedTo l.n l.drives l.initial.state l.state (drive_views (λ table. (g.dyn-1.0.entry table).1)
-      l.initial.devices.drives.items) (drive_views (λ table. (g.dyn-1.0.entry table).1) l.devices.drives.items);
+  so_far : MountedTo l.n l.drives l.initial.state l.state (drive_views (λ box. (g.dyn-1.0.entry box.vtable).1)
+      l.initial.devices.drives.items) (drive_views (λ box. (g.dyn-1.0.entry box.vtable).1) l.devices.drives.items);
   terms : l.devices.terms ≡ l.initial.devices.terms;
 }

@@ -1,7 +1,7 @@
 -- The keys of the terminals below the index have arrived.
 use Rattle.std.proofs.Common.{◌≡◌, ◌≤◌, false}
 use Rattle.std.specs.Vec.{vec_len}
-use Rattle.os9_outer.specs.TerminalState.{terminal_states}
+use Rattle.device_table.specs.Seen.{terminal_states}
 use Rattle.key_arrivals.specs.Keys.{KeysArriveFrom}
 use Rattle.key_arrivals.proofs.keys.arrive_keys.Given as goal
 
@@ -12,6 +12,6 @@ invariant-loop-n g l = record {
   drives : l.devices.drives ≡ l.initial.devices.drives;
   tick : l.s.tick ≡ l.initial.s.tick;
   quiet : l.changed ≡ false → (l.s ≡ l.initial.s) × (l.io ≡ l.initial.io);
-  arrived : KeysArriveFrom l.initial.s l.initial.io (terminal_states (λ table. (g.dyn-2.0.entry table).1) l.initial.devices.terms.items)
-      l.s l.io (terminal_states (λ table. (g.dyn-2.0.entry table).1) l.devices.terms.items) 0 l.n;
+  arrived : KeysArriveFrom l.initial.s l.initial.io (terminal_states (λ box. (g.dyn-2.0.entry box.vtable).1) l.initial.devices.terms.items)
+      l.s l.io (terminal_states (λ box. (g.dyn-2.0.entry box.vtable).1) l.devices.terms.items) 0 l.n;
 }

@@ -1,6 +1,6 @@
 use Rattle.std.proofs.Common.{◌≡◌, ◌∙◌, length, refl, arith}
 use Rattle.std.proofs.lemmas.List.{length-map}
-use Rattle.os9_outer.specs.TerminalState.{terminal_states}
+use Rattle.device_table.specs.Seen.{terminal_states}
 use Rattle.os9_kernel.specs.Outside.{outside}
 use Rattle.os9_boot.proofs.BootCallLemmas.{stopped-call}
 use Rattle.os9_boot.proofs.BootLemmas.{boot-ended, boot-refused, boot-texts-refused}
@@ -17,13 +17,12 @@ use Rattle.os9_boot.proofs.boot.boot_images.Goals as goal
 pub returns-in-Err-clause-call : goal.returns-in-Err-clause-call
 returns-in-Err-clause-call g c =
     stopped-call (BootCommand c.args.boot.now) _ _ _ (λ input. tt)
-    (c.in-Err.ensures.ended (outside (λ table. (g.dyn-1.0.entry table).1) c.args.devices.now.drives.items
-    (λ table. (g.dyn-2.0.entry table).1) c.args.devices.now.terms.items))
+    (c.in-Err.ensures.ended (outside (λ box. (g.dyn-1.0.entry box.vtable).1) (λ box. (g.dyn-2.0.entry box.vtable).1) c.args.devices.now))
 
 pub returns-in-Err-read_texts-clause-call : goal.returns-in-Err-read_texts-clause-call
 returns-in-Err-read_texts-clause-call g c =
-    let devices = outside (λ table. (g.dyn-1.0.entry table).1) c.args.devices.now.drives.items (λ table. (g.dyn-2.0.entry table).1) c.args.devices.now.terms.items in
-    let count : c.len-terminals.result ≡ length (terminal_states (λ table. (g.dyn-2.0.entry table).1)
+    let devices = outside (λ box. (g.dyn-1.0.entry box.vtable).1) (λ box. (g.dyn-2.0.entry box.vtable).1) c.args.devices.now in
+    let count : c.len-terminals.result ≡ length (terminal_states (λ box. (g.dyn-2.0.entry box.vtable).1)
     c.args.devices.now.terms.items) = rw length-map
     (omega (arith, c.len-terminals.ensures, c.args.devices.now.terms.ok.0)) in
     boot-texts-refused _ c.args.boot.now c.in-Ok.files c.in-Ok.ensures.contents _ (c.in-Ok.ensures.kept devices)
@@ -32,8 +31,8 @@ returns-in-Err-read_texts-clause-call g c =
 
 pub returns-in-Err-accept_images-clause-call : goal.returns-in-Err-accept_images-clause-call
 returns-in-Err-accept_images-clause-call g c =
-    let devices = outside (λ table. (g.dyn-1.0.entry table).1) c.args.devices.now.drives.items (λ table. (g.dyn-2.0.entry table).1) c.args.devices.now.terms.items in
-    let count : c.len-terminals.result ≡ length (terminal_states (λ table. (g.dyn-2.0.entry table).1)
+    let devices = outside (λ box. (g.dyn-1.0.entry box.vtable).1) (λ box. (g.dyn-2.0.entry box.vtable).1) c.args.devices.now in
+    let count : c.len-terminals.result ≡ length (terminal_states (λ box. (g.dyn-2.0.entry box.vtable).1)
     c.args.devices.now.terms.items) = rw length-map
     (omega (arith, c.len-terminals.ensures, c.args.devices.now.terms.ok.0)) in
     boot-refused _ c.args.boot.now c.in-Ok.files c.in-Ok.ensures.contents c.in-Ok-read_texts.texts.keys.items
@@ -43,9 +42,9 @@ returns-in-Err-accept_images-clause-call g c =
 
 pub returns-clause-call : goal.returns-clause-call
 returns-clause-call g c =
-    let devices = outside (λ table. (g.dyn-1.0.entry table).1) c.args.devices.now.drives.items (λ table. (g.dyn-2.0.entry table).1) c.args.devices.now.terms.items in
-    let left = outside (λ table. (g.dyn-1.0.entry table).1) c.run_images-outcome.new.devices.drives.items (λ table. (g.dyn-2.0.entry table).1) c.run_images-outcome.new.devices.terms.items in
-    let count : c.len-terminals.result ≡ length (terminal_states (λ table. (g.dyn-2.0.entry table).1)
+    let devices = outside (λ box. (g.dyn-1.0.entry box.vtable).1) (λ box. (g.dyn-2.0.entry box.vtable).1) c.args.devices.now in
+    let left = outside (λ box. (g.dyn-1.0.entry box.vtable).1) (λ box. (g.dyn-2.0.entry box.vtable).1) c.run_images-outcome.new.devices in
+    let count : c.len-terminals.result ≡ length (terminal_states (λ box. (g.dyn-2.0.entry box.vtable).1)
     c.args.devices.now.terms.items) = rw length-map
     (omega (arith, c.len-terminals.ensures, c.args.devices.now.terms.ok.0)) in
     boot-ended _ c.args.boot.now c.in-Ok.files c.in-Ok.ensures.contents c.in-Ok-read_texts.texts.keys.items
@@ -81,7 +80,7 @@ returns-in-Err-accept_images-clause-noted g c =
 
 pub returns-clause-noted : goal.returns-clause-noted
 returns-clause-noted g c =
-    let left = outside (λ table. (g.dyn-1.0.entry table).1) c.run_images-outcome.new.devices.drives.items (λ table. (g.dyn-2.0.entry table).1) c.run_images-outcome.new.devices.terms.items in
+    let left = outside (λ box. (g.dyn-1.0.entry box.vtable).1) (λ box. (g.dyn-2.0.entry box.vtable).1) c.run_images-outcome.new.devices in
     let back = c.write_back.ensures.noted in
     let behind = behind-end (outputs_of c.args.boot.now)
     (output_bytes (outputs_of c.args.boot.now) c.run_images-outcome.new.images

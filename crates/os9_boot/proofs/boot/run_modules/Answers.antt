@@ -1,6 +1,6 @@
 use Rattle.std.proofs.Common.{◌≡◌, length, refl, arith}
 use Rattle.std.proofs.lemmas.List.{length-map}
-use Rattle.os9_outer.specs.TerminalState.{terminal_states}
+use Rattle.device_table.specs.Seen.{terminal_states}
 use Rattle.os9_kernel.specs.Outside.{outside}
 use Rattle.os9_boot.proofs.BootCallLemmas.{stopped-call}
 use Rattle.os9_boot.proofs.RunLemmas.{run-ended, run-texts-refused}
@@ -13,13 +13,12 @@ use Rattle.os9_boot.proofs.boot.run_modules.Goals as goal
 pub returns-in-Err-clause-call : goal.returns-in-Err-clause-call
 returns-in-Err-clause-call g c =
     stopped-call (RunCommand c.args.run.now) _ _ _ (λ input. tt)
-    (c.in-Err.ensures.ended (outside (λ table. (g.dyn-1.0.entry table).1) c.args.devices.now.drives.items
-    (λ table. (g.dyn-2.0.entry table).1) c.args.devices.now.terms.items))
+    (c.in-Err.ensures.ended (outside (λ box. (g.dyn-1.0.entry box.vtable).1) (λ box. (g.dyn-2.0.entry box.vtable).1) c.args.devices.now))
 
 pub returns-in-Err-read_texts-clause-call : goal.returns-in-Err-read_texts-clause-call
 returns-in-Err-read_texts-clause-call g c =
-    let devices = outside (λ table. (g.dyn-1.0.entry table).1) c.args.devices.now.drives.items (λ table. (g.dyn-2.0.entry table).1) c.args.devices.now.terms.items in
-    let count : c.len-terminals.result ≡ length (terminal_states (λ table. (g.dyn-2.0.entry table).1)
+    let devices = outside (λ box. (g.dyn-1.0.entry box.vtable).1) (λ box. (g.dyn-2.0.entry box.vtable).1) c.args.devices.now in
+    let count : c.len-terminals.result ≡ length (terminal_states (λ box. (g.dyn-2.0.entry box.vtable).1)
     c.args.devices.now.terms.items) = rw length-map
     (omega (arith, c.len-terminals.ensures, c.args.devices.now.terms.ok.0)) in
     run-texts-refused _ c.args.run.now c.in-Ok.files c.in-Ok.ensures.contents _ (c.in-Ok.ensures.kept devices)
@@ -28,8 +27,8 @@ returns-in-Err-read_texts-clause-call g c =
 
 pub returns-clause-call : goal.returns-clause-call
 returns-clause-call g c =
-    let devices = outside (λ table. (g.dyn-1.0.entry table).1) c.args.devices.now.drives.items (λ table. (g.dyn-2.0.entry table).1) c.args.devices.now.terms.items in
-    let count : c.len-terminals.result ≡ length (terminal_states (λ table. (g.dyn-2.0.entry table).1)
+    let devices = outside (λ box. (g.dyn-1.0.entry box.vtable).1) (λ box. (g.dyn-2.0.entry box.vtable).1) c.args.devices.now in
+    let count : c.len-terminals.result ≡ length (terminal_states (λ box. (g.dyn-2.0.entry box.vtable).1)
     c.args.devices.now.terms.items) = rw length-map
     (omega (arith, c.len-terminals.ensures, c.args.devices.now.terms.ok.0)) in
     rw c.end_of_run.ensures (run-ended _ c.args.run.now c.in-Ok.files c.in-Ok.ensures.contents

@@ -14,7 +14,7 @@ returns-in-Ok-clause-call g c =
 
 pub returns-in-Err-Refused-clause-call : goal.returns-in-Err-Refused-clause-call
 returns-in-Err-Refused-clause-call g c =
-    let devices = outside (λ table. (g.dyn-1.0.entry table).1) c.args.devices.now.drives.items (λ table. (g.dyn-2.0.entry table).1) c.args.devices.now.terms.items in
+    let devices = outside (λ box. (g.dyn-1.0.entry box.vtable).1) (λ box. (g.dyn-2.0.entry box.vtable).1) c.args.devices.now in
     top-refused (map string_bytes c.args.words.now) _ _ (notes_of g.H.Host c.args.host.now)
     (notes_of g.H.Host c.report.new.host) (reported g.H.Host _ _ _ _ c.report.ensures)
     (rw c.in-Err-Refused.field-0-is at c.in-Err-Refused.ensures.refused) (err-only g.H.Host c.args.host.now
@@ -22,7 +22,7 @@ returns-in-Err-Refused-clause-call g c =
 
 pub returns-in-Err-OutOfMemory-clause-call : goal.returns-in-Err-OutOfMemory-clause-call
 returns-in-Err-OutOfMemory-clause-call g c =
-    let devices = outside (λ table. (g.dyn-1.0.entry table).1) c.args.devices.now.drives.items (λ table. (g.dyn-2.0.entry table).1) c.args.devices.now.terms.items in
+    let devices = outside (λ box. (g.dyn-1.0.entry box.vtable).1) (λ box. (g.dyn-2.0.entry box.vtable).1) c.args.devices.now in
     rw c.number.ensures (top-memory (map string_bytes c.args.words.now) _ _ (notes_of g.H.Host c.args.host.now)
     (notes_of g.H.Host c.report-in-Err-OutOfMemory.new.host)
     (reported g.H.Host _ _ _ _ c.report-in-Err-OutOfMemory.ensures) (err-only g.H.Host c.args.host.now

@@ -1,7 +1,7 @@
 -- Each step is one of the call.
 use Rattle.std.proofs.Common.{◌≡◌, length, refl, arith}
 use Rattle.std.proofs.lemmas.List.{length-map}
-use Rattle.os9_outer.specs.TerminalState.{terminal_states}
+use Rattle.device_table.specs.Seen.{terminal_states}
 use Rattle.os9_kernel.specs.Outside.{outside}
 use Rattle.os9_debug.proofs.CallLemmas.{commands-refused, read-ended, session-ended, texts-refused}
 use Rattle.os9_debug.proofs.NoteLemmas.{notes-refused, notes-session, notes-stopped, notes-uncommanded}
@@ -12,13 +12,12 @@ use Rattle.os9_debug.proofs.command.do_debug.Goals as goal
 
 pub returns-in-Err-clause-call : goal.returns-in-Err-clause-call
 returns-in-Err-clause-call g c =
-    read-ended c.args.debug.now _ _ c.in-Err.end (c.in-Err.ensures.ended (outside (λ table. (g.dyn-1.0.entry table).1)
-    c.args.devices.now.drives.items (λ table. (g.dyn-2.0.entry table).1) c.args.devices.now.terms.items))
+    read-ended c.args.debug.now _ _ c.in-Err.end (c.in-Err.ensures.ended (outside (λ box. (g.dyn-1.0.entry box.vtable).1) (λ box. (g.dyn-2.0.entry box.vtable).1) c.args.devices.now))
 
 pub returns-in-Err-read_texts-clause-call : goal.returns-in-Err-read_texts-clause-call
 returns-in-Err-read_texts-clause-call g c =
-    let devices = outside (λ table. (g.dyn-1.0.entry table).1) c.args.devices.now.drives.items (λ table. (g.dyn-2.0.entry table).1) c.args.devices.now.terms.items in
-    let count : c.len-terminals.result ≡ length (terminal_states (λ table. (g.dyn-2.0.entry table).1)
+    let devices = outside (λ box. (g.dyn-1.0.entry box.vtable).1) (λ box. (g.dyn-2.0.entry box.vtable).1) c.args.devices.now in
+    let count : c.len-terminals.result ≡ length (terminal_states (λ box. (g.dyn-2.0.entry box.vtable).1)
     c.args.devices.now.terms.items) = rw length-map
     (omega (arith, c.len-terminals.ensures, c.args.devices.now.terms.ok.0)) in
     texts-refused c.args.debug.now _ c.in-Ok.files c.in-Ok.ensures.contents _ (c.in-Ok.ensures.kept devices)
@@ -27,8 +26,8 @@ returns-in-Err-read_texts-clause-call g c =
 
 pub returns-in-Err-commands_in-clause-call : goal.returns-in-Err-commands_in-clause-call
 returns-in-Err-commands_in-clause-call g c =
-    let devices = outside (λ table. (g.dyn-1.0.entry table).1) c.args.devices.now.drives.items (λ table. (g.dyn-2.0.entry table).1) c.args.devices.now.terms.items in
-    let count : c.len-terminals.result ≡ length (terminal_states (λ table. (g.dyn-2.0.entry table).1)
+    let devices = outside (λ box. (g.dyn-1.0.entry box.vtable).1) (λ box. (g.dyn-2.0.entry box.vtable).1) c.args.devices.now in
+    let count : c.len-terminals.result ≡ length (terminal_states (λ box. (g.dyn-2.0.entry box.vtable).1)
     c.args.devices.now.terms.items) = rw length-map
     (omega (arith, c.len-terminals.ensures, c.args.devices.now.terms.ok.0)) in
     commands-refused c.args.debug.now _ c.in-Ok.files c.in-Ok.ensures.contents _ (c.in-Ok.ensures.kept devices)
@@ -47,8 +46,8 @@ show-requires g c = record {
 
 pub returns-clause-call : goal.returns-clause-call
 returns-clause-call g c =
-    let devices = outside (λ table. (g.dyn-1.0.entry table).1) c.args.devices.now.drives.items (λ table. (g.dyn-2.0.entry table).1) c.args.devices.now.terms.items in
-    let count : c.len-terminals.result ≡ length (terminal_states (λ table. (g.dyn-2.0.entry table).1)
+    let devices = outside (λ box. (g.dyn-1.0.entry box.vtable).1) (λ box. (g.dyn-2.0.entry box.vtable).1) c.args.devices.now in
+    let count : c.len-terminals.result ≡ length (terminal_states (λ box. (g.dyn-2.0.entry box.vtable).1)
     c.args.devices.now.terms.items) = rw length-map
     (omega (arith, c.len-terminals.ensures, c.args.devices.now.terms.ok.0)) in
     session-ended c.args.debug.now _ c.in-Ok.files c.in-Ok.ensures.contents _ (c.in-Ok.ensures.kept devices)

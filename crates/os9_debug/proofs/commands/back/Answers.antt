@@ -14,8 +14,8 @@ returns-in-Ok-clause-moved g c =
 
 pub returns-in-Ok-clause-shown : goal.returns-in-Ok-clause-shown
 returns-in-Ok-clause-shown g c =
-    let before = outside (λ table. (g.dyn-1.0.entry table).1) c.args.devices.now.drives.items (λ table. (g.dyn-2.0.entry table).1) c.args.devices.now.terms.items in
-    let after = outside (λ table. (g.dyn-1.0.entry table).1) c.go_to.new.devices.drives.items (λ table. (g.dyn-2.0.entry table).1) c.go_to.new.devices.terms.items in
+    let before = outside (λ box. (g.dyn-1.0.entry box.vtable).1) (λ box. (g.dyn-2.0.entry box.vtable).1) c.args.devices.now in
+    let after = outside (λ box. (g.dyn-1.0.entry box.vtable).1) (λ box. (g.dyn-2.0.entry box.vtable).1) c.go_to.new.devices in
     let place : c.saturating_sub-k.result ≡ c.args.position.now.events - c.args.n = omega arith in
     subst (λ (line : List ℕ). HasShown c.args.machine.now (Back c.args.n) c.args.position.now c.go_to.new.position line before after) (sym c.new.ensures.items)
     (shown-any c.in-Ok.field-0 c.args.machine.now c.args.n c.saturating_sub-k.result c.args.position.now

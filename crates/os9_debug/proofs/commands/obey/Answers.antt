@@ -26,39 +26,39 @@ instruction_lines-requires g c =
 
 pub returns-in-To-clause-moved : goal.returns-in-To-clause-moved
 returns-in-To-clause-moved g c =
-    let before = outside (λ table. (g.dyn-1.0.entry table).1) c.args.devices.now.drives.items (λ table. (g.dyn-2.0.entry table).1) c.args.devices.now.terms.items in
-    let after = outside (λ table. (g.dyn-1.0.entry table).1) c.to.new.devices.drives.items (λ table. (g.dyn-2.0.entry table).1) c.to.new.devices.terms.items in
+    let before = outside (λ box. (g.dyn-1.0.entry box.vtable).1) (λ box. (g.dyn-2.0.entry box.vtable).1) c.args.devices.now in
+    let after = outside (λ box. (g.dyn-1.0.entry box.vtable).1) (λ box. (g.dyn-2.0.entry box.vtable).1) c.to.new.devices in
     subst (λ (command : Command). MovesOn c.args.machine.now command c.args.position.now c.to.new.position c.to.result before after) (sym c.in-To.is) c.to.ensures.moved
 
 pub returns-in-Back-clause-moved : goal.returns-in-Back-clause-moved
 returns-in-Back-clause-moved g c =
-    let before = outside (λ table. (g.dyn-1.0.entry table).1) c.args.devices.now.drives.items (λ table. (g.dyn-2.0.entry table).1) c.args.devices.now.terms.items in
-    let after = outside (λ table. (g.dyn-1.0.entry table).1) c.back.new.devices.drives.items (λ table. (g.dyn-2.0.entry table).1) c.back.new.devices.terms.items in
+    let before = outside (λ box. (g.dyn-1.0.entry box.vtable).1) (λ box. (g.dyn-2.0.entry box.vtable).1) c.args.devices.now in
+    let after = outside (λ box. (g.dyn-1.0.entry box.vtable).1) (λ box. (g.dyn-2.0.entry box.vtable).1) c.back.new.devices in
     subst (λ (command : Command). MovesOn c.args.machine.now command c.args.position.now c.back.new.position c.back.result before after) (sym c.in-Back.is) c.back.ensures.moved
 
 pub returns-in-To-clause-shown : goal.returns-in-To-clause-shown
 returns-in-To-clause-shown g c =
-    let before = outside (λ table. (g.dyn-1.0.entry table).1) c.args.devices.now.drives.items (λ table. (g.dyn-2.0.entry table).1) c.args.devices.now.terms.items in
-    let after = outside (λ table. (g.dyn-1.0.entry table).1) c.to.new.devices.drives.items (λ table. (g.dyn-2.0.entry table).1) c.to.new.devices.terms.items in
+    let before = outside (λ box. (g.dyn-1.0.entry box.vtable).1) (λ box. (g.dyn-2.0.entry box.vtable).1) c.args.devices.now in
+    let after = outside (λ box. (g.dyn-1.0.entry box.vtable).1) (λ box. (g.dyn-2.0.entry box.vtable).1) c.to.new.devices in
     subst (λ (command : Command). IfOk c.to.result (λ line. HasShown c.args.machine.now command c.args.position.now c.to.new.position line.items before after)) (sym c.in-To.is) c.to.ensures.shown
 
 pub returns-in-Back-clause-shown : goal.returns-in-Back-clause-shown
 returns-in-Back-clause-shown g c =
-    let before = outside (λ table. (g.dyn-1.0.entry table).1) c.args.devices.now.drives.items (λ table. (g.dyn-2.0.entry table).1) c.args.devices.now.terms.items in
-    let after = outside (λ table. (g.dyn-1.0.entry table).1) c.back.new.devices.drives.items (λ table. (g.dyn-2.0.entry table).1) c.back.new.devices.terms.items in
+    let before = outside (λ box. (g.dyn-1.0.entry box.vtable).1) (λ box. (g.dyn-2.0.entry box.vtable).1) c.args.devices.now in
+    let after = outside (λ box. (g.dyn-1.0.entry box.vtable).1) (λ box. (g.dyn-2.0.entry box.vtable).1) c.back.new.devices in
     subst (λ (command : Command). IfOk c.back.result (λ line. HasShown c.args.machine.now command c.args.position.now
     c.back.new.position line.items before after)) (sym c.in-Back.is) c.back.ensures.shown
 
 pub returns-in-Regs-clause-moved : goal.returns-in-Regs-clause-moved
 returns-in-Regs-clause-moved g c =
-    let devices = outside (λ table. (g.dyn-1.0.entry table).1) c.args.devices.now.drives.items (λ table. (g.dyn-2.0.entry table).1) c.args.devices.now.terms.items in
+    let devices = outside (λ box. (g.dyn-1.0.entry box.vtable).1) (λ box. (g.dyn-2.0.entry box.vtable).1) c.args.devices.now in
     subst (λ answer. MovesOn c.args.machine.now c.args.command c.args.position.now c.args.position.now answer devices devices) (sym c.told.ensures)
     (moves-told c.regs_line.result (tt {0}) c.args.machine.now c.args.command c.args.position.now c.args.position.now
     devices devices (moves-nowhere (tt {0}) c.args.machine.now c.args.command c.args.position.now devices))
 
 pub returns-in-Regs-clause-shown : goal.returns-in-Regs-clause-shown
 returns-in-Regs-clause-shown g c =
-    let devices = outside (λ table. (g.dyn-1.0.entry table).1) c.args.devices.now.drives.items (λ table. (g.dyn-2.0.entry table).1) c.args.devices.now.terms.items in
+    let devices = outside (λ box. (g.dyn-1.0.entry box.vtable).1) (λ box. (g.dyn-2.0.entry box.vtable).1) c.args.devices.now in
     let position = c.args.position.now in
     subst (λ (command : Command). IfOk c.told.result (λ line. HasShown c.args.machine.now command position position line.items devices devices)) (sym c.in-Regs.is)
     (subst (λ answer. IfOk answer (λ line. HasShown c.args.machine.now Regs position position line.items devices devices)) (sym c.told.ensures)
@@ -68,7 +68,7 @@ returns-in-Regs-clause-shown g c =
 
 pub returns-in-Mem-clause-moved : goal.returns-in-Mem-clause-moved
 returns-in-Mem-clause-moved g c =
-    let devices = outside (λ table. (g.dyn-1.0.entry table).1) c.args.devices.now.drives.items (λ table. (g.dyn-2.0.entry table).1) c.args.devices.now.terms.items in
+    let devices = outside (λ box. (g.dyn-1.0.entry box.vtable).1) (λ box. (g.dyn-2.0.entry box.vtable).1) c.args.devices.now in
     subst (λ answer. MovesOn c.args.machine.now c.args.command c.args.position.now c.args.position.now answer devices devices) (sym c.told-in-Mem.ensures)
     (moves-told c.memory_line.result (tt {0}) c.args.machine.now c.args.command c.args.position.now
     c.args.position.now devices devices (moves-nowhere (tt {0}) c.args.machine.now c.args.command
@@ -76,7 +76,7 @@ returns-in-Mem-clause-moved g c =
 
 pub returns-in-Mem-clause-shown : goal.returns-in-Mem-clause-shown
 returns-in-Mem-clause-shown g c =
-    let devices = outside (λ table. (g.dyn-1.0.entry table).1) c.args.devices.now.drives.items (λ table. (g.dyn-2.0.entry table).1) c.args.devices.now.terms.items in
+    let devices = outside (λ box. (g.dyn-1.0.entry box.vtable).1) (λ box. (g.dyn-2.0.entry box.vtable).1) c.args.devices.now in
     let position = c.args.position.now in
     subst (λ (command : Command). IfOk c.told-in-Mem.result (λ line. HasShown c.args.machine.now command position position line.items devices devices)) (sym c.in-Mem.is)
     (subst (λ answer. IfOk answer (λ line. HasShown c.args.machine.now (Mem c.in-Mem.span) position position line.items devices devices)) (sym c.told-in-Mem.ensures)
@@ -87,7 +87,7 @@ returns-in-Mem-clause-shown g c =
 
 pub returns-in-Dis-clause-moved : goal.returns-in-Dis-clause-moved
 returns-in-Dis-clause-moved g c =
-    let devices = outside (λ table. (g.dyn-1.0.entry table).1) c.args.devices.now.drives.items (λ table. (g.dyn-2.0.entry table).1) c.args.devices.now.terms.items in
+    let devices = outside (λ box. (g.dyn-1.0.entry box.vtable).1) (λ box. (g.dyn-2.0.entry box.vtable).1) c.args.devices.now in
     subst (λ answer. MovesOn c.args.machine.now c.args.command c.args.position.now c.args.position.now answer devices devices) (sym c.told-in-Dis.ensures)
     (moves-told c.instruction_lines.result (tt {0}) c.args.machine.now c.args.command c.args.position.now
     c.args.position.now devices devices (moves-nowhere (tt {0}) c.args.machine.now c.args.command
@@ -95,7 +95,7 @@ returns-in-Dis-clause-moved g c =
 
 pub returns-in-Dis-clause-shown : goal.returns-in-Dis-clause-shown
 returns-in-Dis-clause-shown g c =
-    let devices = outside (λ table. (g.dyn-1.0.entry table).1) c.args.devices.now.drives.items (λ table. (g.dyn-2.0.entry table).1) c.args.devices.now.terms.items in
+    let devices = outside (λ box. (g.dyn-1.0.entry box.vtable).1) (λ box. (g.dyn-2.0.entry box.vtable).1) c.args.devices.now in
     let position = c.args.position.now in
     subst (λ (command : Command). IfOk c.told-in-Dis.result (λ line. HasShown c.args.machine.now command position position line.items devices devices)) (sym c.in-Dis.is)
     (subst (λ answer. IfOk answer (λ line. HasShown c.args.machine.now (Dis c.in-Dis.span) position position line.items devices devices)) (sym c.told-in-Dis.ensures)

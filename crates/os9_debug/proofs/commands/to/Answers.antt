@@ -16,22 +16,22 @@ returns-in-Ok-Event-clause-moved g c =
 
 pub returns-in-Ok-Event-clause-shown : goal.returns-in-Ok-Event-clause-shown
 returns-in-Ok-Event-clause-shown g c =
-    let before = outside (λ table. (g.dyn-1.0.entry table).1) c.args.devices.now.drives.items (λ table. (g.dyn-2.0.entry table).1) c.args.devices.now.terms.items in
-    let after = outside (λ table. (g.dyn-1.0.entry table).1) c.go_to.new.devices.drives.items (λ table. (g.dyn-2.0.entry table).1) c.go_to.new.devices.terms.items in
+    let before = outside (λ box. (g.dyn-1.0.entry box.vtable).1) (λ box. (g.dyn-2.0.entry box.vtable).1) c.args.devices.now in
+    let after = outside (λ box. (g.dyn-1.0.entry box.vtable).1) (λ box. (g.dyn-2.0.entry box.vtable).1) c.go_to.new.devices in
     subst (λ (line : List ℕ). HasShown c.args.machine.now (To c.args.k) c.args.position.now c.go_to.new.position line before after) (sym c.new.ensures.items)
     (shown-there _ c.args.machine.now c.args.k c.args.position.now c.go_to.new.position before after c.in-Ok-Event.ensures.moved (c.in-Ok-Event.ensures.reached cc))
 
 pub returns-in-Ok-End-clause-moved : goal.returns-in-Ok-End-clause-moved
 returns-in-Ok-End-clause-moved g c =
-    let before = outside (λ table. (g.dyn-1.0.entry table).1) c.args.devices.now.drives.items (λ table. (g.dyn-2.0.entry table).1) c.args.devices.now.terms.items in
-    let after = outside (λ table. (g.dyn-1.0.entry table).1) c.go_to.new.devices.drives.items (λ table. (g.dyn-2.0.entry table).1) c.go_to.new.devices.terms.items in
+    let before = outside (λ box. (g.dyn-1.0.entry box.vtable).1) (λ box. (g.dyn-2.0.entry box.vtable).1) c.args.devices.now in
+    let after = outside (λ box. (g.dyn-1.0.entry box.vtable).1) (λ box. (g.dyn-2.0.entry box.vtable).1) c.go_to.new.devices in
     subst (λ answer. MovesOn c.args.machine.now (To c.args.k) c.args.position.now c.go_to.new.position answer before after) (sym c.told.ensures)
     (moves-told c.end_line.result _ c.args.machine.now (To c.args.k) c.args.position.now c.go_to.new.position before after c.in-Ok-End.ensures.moved)
 
 pub returns-in-Ok-End-clause-shown : goal.returns-in-Ok-End-clause-shown
 returns-in-Ok-End-clause-shown g c =
-    let before = outside (λ table. (g.dyn-1.0.entry table).1) c.args.devices.now.drives.items (λ table. (g.dyn-2.0.entry table).1) c.args.devices.now.terms.items in
-    let after = outside (λ table. (g.dyn-1.0.entry table).1) c.go_to.new.devices.drives.items (λ table. (g.dyn-2.0.entry table).1) c.go_to.new.devices.terms.items in
+    let before = outside (λ box. (g.dyn-1.0.entry box.vtable).1) (λ box. (g.dyn-2.0.entry box.vtable).1) c.args.devices.now in
+    let after = outside (λ box. (g.dyn-1.0.entry box.vtable).1) (λ box. (g.dyn-2.0.entry box.vtable).1) c.go_to.new.devices in
     subst (λ answer. IfOk answer (λ line. HasShown c.args.machine.now (To c.args.k) c.args.position.now c.go_to.new.position line.items before after)) (sym c.told.ensures)
     (shown-told c.end_line.result (λ line. line.items ≡ end_line c.events.result) (λ line. HasShown c.args.machine.now (To c.args.k) c.args.position.now c.go_to.new.position line.items before after)
     (λ line is. shown-end c.args.machine.now c.args.k c.args.position.now c.go_to.new.position before after

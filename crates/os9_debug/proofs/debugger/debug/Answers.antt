@@ -12,8 +12,8 @@ use Rattle.os9_debug.proofs.debugger.debug.Goals as goal
 
 pub returns-in-Err-clause-call : goal.returns-in-Err-clause-call
 returns-in-Err-clause-call g c =
-    let first = outside (λ table. (g.dyn-1.0.entry table).1) c.args.devices.now.drives.items (λ table. (g.dyn-2.0.entry table).1) c.args.devices.now.terms.items in
-    let after = outside (λ table. (g.dyn-1.0.entry table).1) c.start.new.devices.drives.items (λ table. (g.dyn-2.0.entry table).1) c.start.new.devices.terms.items in
+    let first = outside (λ box. (g.dyn-1.0.entry box.vtable).1) (λ box. (g.dyn-2.0.entry box.vtable).1) c.args.devices.now in
+    let after = outside (λ box. (g.dyn-1.0.entry box.vtable).1) (λ box. (g.dyn-2.0.entry box.vtable).1) c.start.new.devices in
     let fails = c.in-Err.ensures.started.fails in
     session-stopped c.args.machine.now c.args.commands.now (world_of g.H.Host c.args.host.now first) (world_of g.H.Host c.args.host.now after) refl c.in-Err.fault
     (start-no-output c.args.machine.now first after c.in-Err.fault fails) (refl, refl, refl)
@@ -21,8 +21,8 @@ returns-in-Err-clause-call g c =
 
 pub loop-command-init : goal.loop-command-init
 loop-command-init g c =
-    let first = outside (λ table. (g.dyn-1.0.entry table).1) c.args.devices.now.drives.items (λ table. (g.dyn-2.0.entry table).1) c.args.devices.now.terms.items in
-    let after = outside (λ table. (g.dyn-1.0.entry table).1) c.start.new.devices.drives.items (λ table. (g.dyn-2.0.entry table).1) c.start.new.devices.terms.items in
+    let first = outside (λ box. (g.dyn-1.0.entry box.vtable).1) (λ box. (g.dyn-2.0.entry box.vtable).1) c.args.devices.now in
+    let after = outside (λ box. (g.dyn-1.0.entry box.vtable).1) (λ box. (g.dyn-2.0.entry box.vtable).1) c.start.new.devices in
     let started = c.in-Ok.ensures.started in
     record {
       at = first-position c.args.machine.now c.in-Ok.position first after started;
@@ -38,14 +38,14 @@ loop-command-init g c =
 
 pub obey-requires : goal.obey-requires
 obey-requires g c =
-    let first = outside (λ table. (g.dyn-1.0.entry table).1) c.args.devices.now.drives.items (λ table. (g.dyn-2.0.entry table).1) c.args.devices.now.terms.items in
+    let first = outside (λ box. (g.dyn-1.0.entry box.vtable).1) (λ box. (g.dyn-2.0.entry box.vtable).1) c.args.devices.now in
     (first, c.requires, c.loop-command.invariant.at)
 
 pub returns-in-Err-obey-clause-call : goal.returns-in-Err-obey-clause-call
 returns-in-Err-obey-clause-call g c =
-    let first = outside (λ table. (g.dyn-1.0.entry table).1) c.args.devices.now.drives.items (λ table. (g.dyn-2.0.entry table).1) c.args.devices.now.terms.items in
-    let between = outside (λ table. (g.dyn-1.0.entry table).1) c.loop-command.devices.drives.items (λ table. (g.dyn-2.0.entry table).1) c.loop-command.devices.terms.items in
-    let after = outside (λ table. (g.dyn-1.0.entry table).1) c.obey.new.devices.drives.items (λ table. (g.dyn-2.0.entry table).1) c.obey.new.devices.terms.items in
+    let first = outside (λ box. (g.dyn-1.0.entry box.vtable).1) (λ box. (g.dyn-2.0.entry box.vtable).1) c.args.devices.now in
+    let between = outside (λ box. (g.dyn-1.0.entry box.vtable).1) (λ box. (g.dyn-2.0.entry box.vtable).1) c.loop-command.devices in
+    let after = outside (λ box. (g.dyn-1.0.entry box.vtable).1) (λ box. (g.dyn-2.0.entry box.vtable).1) c.obey.new.devices in
     let inv = c.loop-command.invariant in
     let fails = c.in-Err-obey.ensures.moved.fails in
     let i = c.loop-command.command-index in
@@ -62,9 +62,9 @@ returns-in-Err-obey-clause-call g c =
 
 pub loop-command-preserved : goal.loop-command-preserved
 loop-command-preserved g c =
-    let first = outside (λ table. (g.dyn-1.0.entry table).1) c.args.devices.now.drives.items (λ table. (g.dyn-2.0.entry table).1) c.args.devices.now.terms.items in
-    let between = outside (λ table. (g.dyn-1.0.entry table).1) c.loop-command.devices.drives.items (λ table. (g.dyn-2.0.entry table).1) c.loop-command.devices.terms.items in
-    let after = outside (λ table. (g.dyn-1.0.entry table).1) c.obey.new.devices.drives.items (λ table. (g.dyn-2.0.entry table).1) c.obey.new.devices.terms.items in
+    let first = outside (λ box. (g.dyn-1.0.entry box.vtable).1) (λ box. (g.dyn-2.0.entry box.vtable).1) c.args.devices.now in
+    let between = outside (λ box. (g.dyn-1.0.entry box.vtable).1) (λ box. (g.dyn-2.0.entry box.vtable).1) c.loop-command.devices in
+    let after = outside (λ box. (g.dyn-1.0.entry box.vtable).1) (λ box. (g.dyn-2.0.entry box.vtable).1) c.obey.new.devices in
     let inv = c.loop-command.invariant in
     let done = c.in-Ok-obey.ensures in
     let wrote = c.in-Ok-write_out.ensures.written in
@@ -89,9 +89,9 @@ loop-command-preserved g c =
 
 pub returns-in-Err-Failed-clause-call : goal.returns-in-Err-Failed-clause-call
 returns-in-Err-Failed-clause-call g c =
-    let first = outside (λ table. (g.dyn-1.0.entry table).1) c.args.devices.now.drives.items (λ table. (g.dyn-2.0.entry table).1) c.args.devices.now.terms.items in
-    let between = outside (λ table. (g.dyn-1.0.entry table).1) c.loop-command.devices.drives.items (λ table. (g.dyn-2.0.entry table).1) c.loop-command.devices.terms.items in
-    let after = outside (λ table. (g.dyn-1.0.entry table).1) c.obey.new.devices.drives.items (λ table. (g.dyn-2.0.entry table).1) c.obey.new.devices.terms.items in
+    let first = outside (λ box. (g.dyn-1.0.entry box.vtable).1) (λ box. (g.dyn-2.0.entry box.vtable).1) c.args.devices.now in
+    let between = outside (λ box. (g.dyn-1.0.entry box.vtable).1) (λ box. (g.dyn-2.0.entry box.vtable).1) c.loop-command.devices in
+    let after = outside (λ box. (g.dyn-1.0.entry box.vtable).1) (λ box. (g.dyn-2.0.entry box.vtable).1) c.obey.new.devices in
     let inv = c.loop-command.invariant in
     let done = c.in-Ok-obey.ensures in
     let wrote = rw c.in-Err-Failed.field-0-is at c.in-Err-Failed.ensures.written in
@@ -111,9 +111,9 @@ returns-in-Err-Failed-clause-call g c =
 
 pub returns-in-Err-OutOfMemory-clause-call : goal.returns-in-Err-OutOfMemory-clause-call
 returns-in-Err-OutOfMemory-clause-call g c =
-    let first = outside (λ table. (g.dyn-1.0.entry table).1) c.args.devices.now.drives.items (λ table. (g.dyn-2.0.entry table).1) c.args.devices.now.terms.items in
-    let between = outside (λ table. (g.dyn-1.0.entry table).1) c.loop-command.devices.drives.items (λ table. (g.dyn-2.0.entry table).1) c.loop-command.devices.terms.items in
-    let after = outside (λ table. (g.dyn-1.0.entry table).1) c.obey.new.devices.drives.items (λ table. (g.dyn-2.0.entry table).1) c.obey.new.devices.terms.items in
+    let first = outside (λ box. (g.dyn-1.0.entry box.vtable).1) (λ box. (g.dyn-2.0.entry box.vtable).1) c.args.devices.now in
+    let between = outside (λ box. (g.dyn-1.0.entry box.vtable).1) (λ box. (g.dyn-2.0.entry box.vtable).1) c.loop-command.devices in
+    let after = outside (λ box. (g.dyn-1.0.entry box.vtable).1) (λ box. (g.dyn-2.0.entry box.vtable).1) c.obey.new.devices in
     let inv = c.loop-command.invariant in
     let done = c.in-Ok-obey.ensures in
     let wrote = rw c.in-Err-OutOfMemory.field-0-is at c.in-Err-OutOfMemory.ensures.written in
@@ -149,8 +149,8 @@ returns-clause-notes_kept g c = c.loop-command.invariant.notes
 
 pub returns-clause-call : goal.returns-clause-call
 returns-clause-call g c =
-    let first = outside (λ table. (g.dyn-1.0.entry table).1) c.args.devices.now.drives.items (λ table. (g.dyn-2.0.entry table).1) c.args.devices.now.terms.items in
-    let between = outside (λ table. (g.dyn-1.0.entry table).1) c.loop-command.devices.drives.items (λ table. (g.dyn-2.0.entry table).1) c.loop-command.devices.terms.items in
+    let first = outside (λ box. (g.dyn-1.0.entry box.vtable).1) (λ box. (g.dyn-2.0.entry box.vtable).1) c.args.devices.now in
+    let between = outside (λ box. (g.dyn-1.0.entry box.vtable).1) (λ box. (g.dyn-2.0.entry box.vtable).1) c.loop-command.devices in
     let inv = c.loop-command.invariant in
     let before = world_of g.H.Host c.args.host.now first in
     let all : length c.args.commands.now ≤ c.loop-command.command-index = search rules in

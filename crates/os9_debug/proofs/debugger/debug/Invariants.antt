@@ -14,8 +14,8 @@ use Rattle.os9_debug.proofs.debugger.debug.Given as goal
 
 abbrev pub invariant-loop-command : goal.invariant-loop-command
 invariant-loop-command g l =
-    let first = outside (λ table. (g.dyn-1.0.entry table).1) l.fn.devices.drives.items (λ table. (g.dyn-2.0.entry table).1) l.fn.devices.terms.items in
-    let now = outside (λ table. (g.dyn-1.0.entry table).1) l.devices.drives.items (λ table. (g.dyn-2.0.entry table).1) l.devices.terms.items in
+    let first = outside (λ box. (g.dyn-1.0.entry box.vtable).1) (λ box. (g.dyn-2.0.entry box.vtable).1) l.fn.devices in
+    let now = outside (λ box. (g.dyn-1.0.entry box.vtable).1) (λ box. (g.dyn-2.0.entry box.vtable).1) l.devices in
     record {
       at : IsPositionOf l.machine first l.position now;
       so_far : SoFar l.machine l.commands first now l.command-index (g.H.Host.bytes_out l.fn.host) (g.H.Host.bytes_out l.host) l.position.events;

@@ -2,7 +2,8 @@ use Rattle.std.proofs.Common.{◌≡◌, List, All, [], length, ap, subst, sym, 
 use Rattle.std.specs.Prelude.{Err}
 use Rattle.std.specs.Vec.{vec_len}
 use Rattle.std.proofs.lemmas.List.{length-map}
-use Rattle.os9_outer.specs.TerminalState.{TerminalState, terminal_states}
+use Rattle.os9_outer.specs.TerminalState.{TerminalState}
+use Rattle.device_table.specs.Seen.{terminal_states}
 use Rattle.boot_run.specs.Loaded.{HasNoKeys, loaded}
 use Rattle.file_drives.specs.Drives.{drive_states, drive_views}
 use Rattle.os9_kernel.specs.Outside.{outside}
@@ -18,7 +19,7 @@ use Rattle.os9_debug.proofs.machine.start.Goals as goal
 pub new-requires-clause-drives : goal.new-requires-clause-drives
 new-requires-clause-drives g c =
     let drives = c.args.devices.now.drives in
-    let long : length (drive_views (λ table. (g.dyn-1.0.entry table).1) drives.items) ≡ vec_len drives = simp length-map (sym drives.ok.0) in
+    let long : length (drive_views (λ box. (g.dyn-1.0.entry box.vtable).1) drives.items) ≡ vec_len drives = simp length-map (sym drives.ok.0) in
     (omega arith, omega (arith, long, c.requires.can_run.few_drives))
 
 pub new-requires-clause-volumes : goal.new-requires-clause-volumes
@@ -26,7 +27,7 @@ new-requires-clause-volumes g c = no-volumes _
 
 pub load_keys-requires : goal.load_keys-requires
 load_keys-requires g c =
-    let kept = ap (λ terms. terminal_states (λ table. (g.dyn-2.0.entry table).1) terms.items) c.in-Ok.ensures.terms_kept in
+    let kept = ap (λ terms. terminal_states (λ box. (g.dyn-2.0.entry box.vtable).1) terms.items) c.in-Ok.ensures.terms_kept in
     subst (λ (terms : List TerminalState). All HasNoKeys terms) (sym kept) c.requires.can_run.terminals.unloaded
 
 pub start-requires : goal.start-requires
@@ -38,37 +39,37 @@ unreachable-requires g c =
 
 pub returns-in-Err-Boot-clause-started : goal.returns-in-Err-Boot-clause-started
 returns-in-Err-Boot-clause-started g c =
-    let before = outside (λ table. (g.dyn-1.0.entry table).1) c.args.devices.now.drives.items (λ table. (g.dyn-2.0.entry table).1) c.args.devices.now.terms.items in
-    let after = outside (λ table. (g.dyn-1.0.entry table).1) c.new.new.devices.drives.items (λ table. (g.dyn-2.0.entry table).1) c.new.new.devices.terms.items in
+    let before = outside (λ box. (g.dyn-1.0.entry box.vtable).1) (λ box. (g.dyn-2.0.entry box.vtable).1) c.args.devices.now in
+    let after = outside (λ box. (g.dyn-1.0.entry box.vtable).1) (λ box. (g.dyn-2.0.entry box.vtable).1) c.new.new.devices in
     let same = where-refused c.in-Err-Boot.field-0
-    (λ same. ap (λ devices. outside (λ table. (g.dyn-1.0.entry table).1) devices.drives.items
-    (λ table. (g.dyn-2.0.entry table).1) devices.terms.items) same) c.in-Err-Boot.ensures.untouched in
+    (λ same. ap (λ devices. outside (λ box. (g.dyn-1.0.entry box.vtable).1) (λ box. (g.dyn-2.0.entry box.vtable).1) devices) same) c.in-Err-Boot.ensures.untouched in
     subst (λ (fault : SessionFault). HasStarted c.args.machine.now (Err fault) before after)
     (sym (c.fault_of.ensures ∙ ap start_fault c.in-Err-Boot.fault-is))
     (start-refused c.args.machine.now c.in-Err-Boot.field-0 c.in-Err-Boot.fault before after c.in-Err-Boot.field-0-is
-    c.in-Err-Boot.ensures.starts.refused same (ap (λ terms. terminal_states (λ table. (g.dyn-2.0.entry table).1)
+    c.in-Err-Boot.ensures.starts.refused same (ap (λ terms. terminal_states (λ box. (g.dyn-2.0.entry box.vtable).1)
     terms.items) c.in-Err-Boot.ensures.terms_kept) c.in-Err-Boot.ensures.starts.drives)
 
 pub returns-in-Err-clause-started : goal.returns-in-Err-clause-started
 returns-in-Err-clause-started g c =
-    let before = outside (λ table. (g.dyn-1.0.entry table).1) c.args.devices.now.drives.items (λ table. (g.dyn-2.0.entry table).1) c.args.devices.now.terms.items in
-    let started = outside (λ table. (g.dyn-1.0.entry table).1) c.new.new.devices.drives.items (λ table. (g.dyn-2.0.entry table).1) c.new.new.devices.terms.items in
-    let after = outside (λ table. (g.dyn-1.0.entry table).1) c.load_keys.new.devices.drives.items (λ table. (g.dyn-2.0.entry table).1) c.load_keys.new.devices.terms.items in
+    let before = outside (λ box. (g.dyn-1.0.entry box.vtable).1) (λ box. (g.dyn-2.0.entry box.vtable).1) c.args.devices.now in
+    let started = outside (λ box. (g.dyn-1.0.entry box.vtable).1) (λ box. (g.dyn-2.0.entry box.vtable).1) c.new.new.devices in
+    let after = outside (λ box. (g.dyn-1.0.entry box.vtable).1) (λ box. (g.dyn-2.0.entry box.vtable).1) c.load_keys.new.devices in
     let moved : drive_states started.drives ≡ drive_states before.drives = c.in-Ok.ensures.starts.drives.moves in
-    let drives : drive_states after.drives ≡ drive_states started.drives = ap (λ drives. drive_states (drive_views (λ table. (g.dyn-1.0.entry table).1) drives.items)) c.in-Err.ensures.drives_kept in
-    let terms = ap (λ devices. terminal_states (λ table. (g.dyn-2.0.entry table).1) devices.terms.items)
-    c.in-Err.ensures.kept ∙ ap (λ terms. terminal_states (λ table. (g.dyn-2.0.entry table).1) terms.items)
+    let drives : drive_states after.drives ≡ drive_states started.drives = ap (λ drives. drive_states (drive_views (λ box. (g.dyn-1.0.entry box.vtable).1) drives.items))
+    c.in-Err.ensures.drives_kept in
+    let terms = ap (λ devices. terminal_states (λ box. (g.dyn-2.0.entry box.vtable).1) devices.terms.items)
+    c.in-Err.ensures.kept ∙ ap (λ terms. terminal_states (λ box. (g.dyn-2.0.entry box.vtable).1) terms.items)
     c.in-Ok.ensures.terms_kept in
     no-start c.args.machine.now NoMemory before after (fell-kept before after terms (drives ∙ moved))
 
 pub returns-in-Ok-load_keys-clause-started : goal.returns-in-Ok-load_keys-clause-started
 returns-in-Ok-load_keys-clause-started g c =
-    let before = outside (λ table. (g.dyn-1.0.entry table).1) c.args.devices.now.drives.items (λ table. (g.dyn-2.0.entry table).1) c.args.devices.now.terms.items in
-    let started = outside (λ table. (g.dyn-1.0.entry table).1) c.new.new.devices.drives.items (λ table. (g.dyn-2.0.entry table).1) c.new.new.devices.terms.items in
-    let after = outside (λ table. (g.dyn-1.0.entry table).1) c.load_keys.new.devices.drives.items (λ table. (g.dyn-2.0.entry table).1) c.load_keys.new.devices.terms.items in
-    let drives = ap (λ drives. drive_views (λ table. (g.dyn-1.0.entry table).1) drives.items) c.in-Ok-load_keys.ensures.drives_kept in
+    let before = outside (λ box. (g.dyn-1.0.entry box.vtable).1) (λ box. (g.dyn-2.0.entry box.vtable).1) c.args.devices.now in
+    let started = outside (λ box. (g.dyn-1.0.entry box.vtable).1) (λ box. (g.dyn-2.0.entry box.vtable).1) c.new.new.devices in
+    let after = outside (λ box. (g.dyn-1.0.entry box.vtable).1) (λ box. (g.dyn-2.0.entry box.vtable).1) c.load_keys.new.devices in
+    let drives = ap (λ drives. drive_views (λ box. (g.dyn-1.0.entry box.vtable).1) drives.items) c.in-Ok-load_keys.ensures.drives_kept in
     let terms = c.in-Ok-load_keys.ensures.loaded ∙ ap (λ terms. loaded c.args.machine.now.keys.now terms)
-    (ap (λ terms. terminal_states (λ table. (g.dyn-2.0.entry table).1) terms.items) c.in-Ok.ensures.terms_kept) in
+    (ap (λ terms. terminal_states (λ box. (g.dyn-2.0.entry box.vtable).1) terms.items) c.in-Ok.ensures.terms_kept) in
     has-started c.args.machine.now c.in-Ok.kernel before started after c.requires c.in-Ok.ensures.starts.drives.moves
     drives terms (c.in-Ok.ensures.starts.stands [] (no-images _)) c.start.result c.start.ensures.goes_on
     c.start.ensures.at c.start.ensures.first c.in-Ok.ensures.starts.accepted
@@ -77,7 +78,7 @@ pub returns-in-Err-Boot-clause-drives : goal.returns-in-Err-Boot-clause-drives
 returns-in-Err-Boot-clause-drives g c =
     omega (
       arith,
-      drives-counted (λ table. (g.dyn-1.0.entry table).1) 0 _ c.args.devices.now.drives.items
+      drives-counted (λ box. (g.dyn-1.0.entry box.vtable).1) 0 _ c.args.devices.now.drives.items
           c.new.new.devices.drives.items (no-volumes _) c.in-Err-Boot.ensures.starts.drives,
       c.args.devices.now.drives.ok.0,
       c.new.new.devices.drives.ok.0,
@@ -87,7 +88,7 @@ pub returns-in-Err-clause-drives : goal.returns-in-Err-clause-drives
 returns-in-Err-clause-drives g c =
     omega (
       arith,
-      drives-counted (λ table. (g.dyn-1.0.entry table).1) 0 _ c.args.devices.now.drives.items
+      drives-counted (λ box. (g.dyn-1.0.entry box.vtable).1) 0 _ c.args.devices.now.drives.items
           c.new.new.devices.drives.items (no-volumes _) c.in-Ok.ensures.starts.drives,
       c.args.devices.now.drives.ok.0,
       c.new.new.devices.drives.ok.0,
@@ -98,7 +99,7 @@ pub returns-in-Ok-load_keys-clause-drives : goal.returns-in-Ok-load_keys-clause-
 returns-in-Ok-load_keys-clause-drives g c =
     omega (
       arith,
-      drives-counted (λ table. (g.dyn-1.0.entry table).1) 0 _ c.args.devices.now.drives.items
+      drives-counted (λ box. (g.dyn-1.0.entry box.vtable).1) 0 _ c.args.devices.now.drives.items
           c.new.new.devices.drives.items (no-volumes _) c.in-Ok.ensures.starts.drives,
       c.args.devices.now.drives.ok.0,
       c.new.new.devices.drives.ok.0,

@@ -38,8 +38,8 @@ returns-in-Ok-advance_to-clause-reached g c = λ is.
 
 pub returns-in-Ok-advance_to-clause-end : goal.returns-in-Ok-advance_to-clause-end
 returns-in-Ok-advance_to-clause-end g c = λ is.
-    let between = outside (λ table. (g.dyn-1.0.entry table).1) c.go_back.new.devices.drives.items (λ table. (g.dyn-2.0.entry table).1) c.go_back.new.devices.terms.items in
-    let after = outside (λ table. (g.dyn-1.0.entry table).1) c.advance_to.new.devices.drives.items (λ table. (g.dyn-2.0.entry table).1) c.advance_to.new.devices.terms.items in
+    let between = outside (λ box. (g.dyn-1.0.entry box.vtable).1) (λ box. (g.dyn-2.0.entry box.vtable).1) c.go_back.new.devices in
+    let after = outside (λ box. (g.dyn-1.0.entry box.vtable).1) (λ box. (g.dyn-2.0.entry box.vtable).1) c.advance_to.new.devices in
     let same : c.in-Ok-advance_to.step ≡ End = cc in
     at-end _ c.args.machine.now c.args.k c.args.position.now c.go_back.new.position c.advance_to.new.self _ _ _
     c.in-Ok.ensures.moved (subst (λ (step : Step). HasGone c.args.k c.args.machine.now.slices.now

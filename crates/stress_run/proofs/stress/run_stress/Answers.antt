@@ -13,8 +13,8 @@ run_images-outcome-requires-clause-volumes g c = are-volumes c.args.seed c.in-Ok
 
 pub returns-clause-call : goal.returns-clause-call
 returns-clause-call g c =
-    let before = outside (λ table. (g.dyn-1.0.entry table).1) c.args.devices.now.drives.items (λ table. (g.dyn-2.0.entry table).1) c.args.devices.now.terms.items in
-    let after = outside (λ table. (g.dyn-1.0.entry table).1) c.run_images-outcome.new.devices.drives.items (λ table. (g.dyn-2.0.entry table).1) c.run_images-outcome.new.devices.terms.items in
+    let before = outside (λ box. (g.dyn-1.0.entry box.vtable).1) (λ box. (g.dyn-2.0.entry box.vtable).1) c.args.devices.now in
+    let after = outside (λ box. (g.dyn-1.0.entry box.vtable).1) (λ box. (g.dyn-2.0.entry box.vtable).1) c.run_images-outcome.new.devices in
     let history = history_left c.run_images-outcome.result.records in
     let run = subst (λ setup. RunsImages setup c.run_images-outcome.new.images history (world_of g.H.Host c.args.host.now before)
     (world_of g.H.Host c.run_images-outcome.new.host after) c.run_images-outcome.result.end)

@@ -1,5 +1,5 @@
 use Rattle.std.proofs.Common.{refl, ap}
-use Rattle.os9_outer.specs.TerminalState.{terminal_states}
+use Rattle.device_table.specs.Seen.{terminal_states}
 use Rattle.os9_kernel.specs.Outside.{outside}
 use Rattle.os9_words.specs.Notes.{notes_of}
 use Rattle.boot_run.specs.World.{world_of}
@@ -22,10 +22,10 @@ returns-in-Format-clause-drives g c =
 
 pub returns-in-Ok-clause-made : goal.returns-in-Ok-clause-made
 returns-in-Ok-clause-made g c =
-    let was = outside (λ table. (g.dyn-1.0.entry table).1) c.args.devices.now.drives.items (λ table. (g.dyn-2.0.entry table).1) c.args.devices.now.terms.items in
-    let left = outside (λ table. (g.dyn-1.0.entry table).1) c.make_of.new.devices.drives.items (λ table. (g.dyn-2.0.entry table).1) c.make_of.new.devices.terms.items in
+    let was = outside (λ box. (g.dyn-1.0.entry box.vtable).1) (λ box. (g.dyn-2.0.entry box.vtable).1) c.args.devices.now in
+    let left = outside (λ box. (g.dyn-1.0.entry box.vtable).1) (λ box. (g.dyn-2.0.entry box.vtable).1) c.make_of.new.devices in
     let before = world_of g.H.Host c.args.host.now was in
-    let terms = ap (λ terms. terminal_states (λ table. (g.dyn-2.0.entry table).1) terms.items) c.make_of.ensures.terms_kept in
+    let terms = ap (λ terms. terminal_states (λ box. (g.dyn-2.0.entry box.vtable).1) terms.items) c.make_of.ensures.terms_kept in
     made-in c.args.vol.now c.make_of.result before (record before { devices = left }) _ (c.in-Ok.ensures.kept left)
     (made-of c.args.vol.now c.in-Ok.files before left c.in-Ok.ensures.contents terms c.make_of.result
     c.make_of.ensures.made c.make_of.ensures.drives)
@@ -39,7 +39,7 @@ returns-in-Ok-clause-drives g c = c.make_of.ensures.drives.empty
 
 pub returns-in-Err-clause-made : goal.returns-in-Err-clause-made
 returns-in-Err-clause-made g c =
-    let was = outside (λ table. (g.dyn-1.0.entry table).1) c.args.devices.now.drives.items (λ table. (g.dyn-2.0.entry table).1) c.args.devices.now.terms.items in
+    let was = outside (λ box. (g.dyn-1.0.entry box.vtable).1) (λ box. (g.dyn-2.0.entry box.vtable).1) c.args.devices.now in
     read-ended c.args.vol.now _ _ c.in-Err.end c.in-Err.ensures.may (c.in-Err.ensures.ended was)
 
 pub returns-in-Err-clause-noted : goal.returns-in-Err-clause-noted

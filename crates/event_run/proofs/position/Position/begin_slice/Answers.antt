@@ -34,7 +34,7 @@ returns-then-has_events-clause-begun g c =
 
 pub returns-clause-begun : goal.returns-clause-begun
 returns-clause-begun g c =
-    let drives = ap (λ drives. drive_views (λ table. (g.dyn-1.0.entry table).1) drives.items) c.empty_terminals.ensures.drives_kept in
+    let drives = ap (λ drives. drive_views (λ box. (g.dyn-1.0.entry box.vtable).1) drives.items) c.empty_terminals.ensures.drives_kept in
     let (s, tied) = c.requires.stands in
     let (ticked, ticks, there) = c.tick.ensures.tick.step (rw c.in-Ok.is refl) s tied in
     let (t, chooses, now, who) = c.choose-chosen.ensures.step _ ticked there in

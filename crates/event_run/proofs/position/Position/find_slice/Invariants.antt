@@ -7,8 +7,8 @@ use Rattle.event_run.proofs.position.Position.find_slice.Given as goal
 
 abbrev pub invariant-loop-index : goal.invariant-loop-index
 invariant-loop-index g l =
-    let before = outside (λ table. (g.dyn-1.0.entry table).1) l.initial.devices.drives.items (λ table. (g.dyn-2.0.entry table).1) l.initial.devices.terms.items in
-    let now = outside (λ table. (g.dyn-1.0.entry table).1) l.devices.drives.items (λ table. (g.dyn-2.0.entry table).1) l.devices.terms.items in
+    let before = outside (λ box. (g.dyn-1.0.entry box.vtable).1) (λ box. (g.dyn-2.0.entry box.vtable).1) l.initial.devices in
+    let now = outside (λ box. (g.dyn-1.0.entry box.vtable).1) (λ box. (g.dyn-2.0.entry box.vtable).1) l.devices in
     record {
       so_far : FoundSoFar l.slices l.initial.self l.index l.self before now;
       terminals : vec_len l.devices.terms ≡ vec_len l.initial.devices.terms;

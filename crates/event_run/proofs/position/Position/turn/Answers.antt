@@ -51,7 +51,7 @@ pub returns-clause-turn : goal.returns-clause-turn
 returns-clause-turn g c =
     let turn = c.turn-turn.ensures.turn in
     let most = c.most-most.ensures in
-    let drives = ap (λ drives. drive_views (λ table. (g.dyn-1.0.entry table).1) drives.items) c.empty_terminals.ensures.drives_kept in
+    let drives = ap (λ drives. drive_views (λ box. (g.dyn-1.0.entry box.vtable).1) drives.items) c.empty_terminals.ensures.drives_kept in
     let fits : c.args.self.now.slice < 2 ^ 32 = search rules in
     let counted = c.turn-turn.ensures.executed (omega (arith, turn.few, most.slice, c.requires.left, fits)) in
     had-over c.args.self.now c.turn-turn.new.self _ _ c.turn-turn.result.count c.events_of.result c.turn-turn.result.end c.unwrap-process.result

@@ -15,7 +15,7 @@ pub returns-in-Instruction-clause-event : goal.returns-in-Instruction-clause-eve
 returns-in-Instruction-clause-event g c =
     let old = c.args.self.now in
     let p = c.unwrap-p.result in
-    let before : Outside = outside (λ table. (g.dyn-1.0.entry table).1) c.args.devices.now.drives.items (λ table. (g.dyn-2.0.entry table).1) c.args.devices.now.terms.items in
+    let before : Outside = outside (λ box. (g.dyn-1.0.entry box.vtable).1) (λ box. (g.dyn-2.0.entry box.vtable).1) c.args.devices.now in
     let next = does-next old p Instruction c.unwrap-p.ensures c.in-Instruction.ensures.process c.requires.going c.in-Instruction.ensures.next in
     let turn = c.instructions.ensures.turn _ in record {
       step = λ other s tied.

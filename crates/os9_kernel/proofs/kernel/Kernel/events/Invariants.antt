@@ -10,8 +10,8 @@ use Rattle.os9_kernel.proofs.kernel.Kernel.events.Given as goal
 
 abbrev pub invariant-loop-left : goal.invariant-loop-left
 invariant-loop-left g l =
-    let before : Outside = outside (λ table. (g.dyn-1.0.entry table).1) l.initial.devices.drives.items (λ table. (g.dyn-2.0.entry table).1) l.initial.devices.terms.items in
-    let now : Outside = outside (λ table. (g.dyn-1.0.entry table).1) l.devices.drives.items (λ table. (g.dyn-2.0.entry table).1) l.devices.terms.items in record {
+    let before : Outside = outside (λ box. (g.dyn-1.0.entry box.vtable).1) (λ box. (g.dyn-2.0.entry box.vtable).1) l.initial.devices in
+    let now : Outside = outside (λ box. (g.dyn-1.0.entry box.vtable).1) (λ box. (g.dyn-2.0.entry box.vtable).1) l.devices in record {
       going : IsGoing l.self;
       terminal : vec_len l.devices.terms ≡ vec_len l.initial.devices.terms;
       drives : vec_len l.devices.drives ≡ vec_len l.initial.devices.drives;

@@ -4,10 +4,9 @@ use Rattle.std.proofs.lemmas.List.{length-map}
 use Rattle.std.specs.Prelude.{slice_index_or}
 use Rattle.os9_base.specs.declared.call.CallEnd.{CallEnd}
 use Rattle.os9_base.specs.declared.call.CallEnd.TheVariants.{Wait}
-use Rattle.os9_outer.specs.TerminalState.{terminal_states}
+use Rattle.device_table.specs.Seen.{terminal_states}
 use Rattle.call_rules.specs.Attempts.{after_attempt}
 use Rattle.call_rules.specs.Inner.{Inner, no_own}
-use Rattle.file_drives.specs.Drives.{boxed_drive_view}
 use Rattle.file_rules.specs.Attempts.{asker_of}
 use Rattle.file_rules.specs.Files.{Files}
 use Rattle.file_state.specs.Attempt.{Standing, standing}
@@ -16,6 +15,7 @@ use Rattle.file_state.specs.Tie.{StandsFor}
 use Rattle.file_state.specs.declared.state.FileState.{FileState}
 use Rattle.proc_calls.specs.Telling.{LivesOn}
 use Rattle.proc_rules.specs.Records.{is_waiting, record_at}
+use Rattle.file_drives.specs.Drives.{boxed_seen}
 use Rattle.proc_state.specs.Tie.{Comes, Represents as RepresentsProcesses}
 use Rattle.proc_state.specs.declared.state.ProcState.{ProcState}
 use Rattle.machine_model.specs.Services.{Serves, Service, with_files}
@@ -48,8 +48,8 @@ begin-requires-clause-begins g c is done =
     let p = c.args.p.0 in
     let new = c.try_load-end.new.self in
     let terms = vec_len c.args.devices.now.terms in
-    let before : Standing = standing (λ table. (g.dyn-1.0.entry table).1) old.processes old.files c.args.devices.now.drives.items in
-    let after : Standing = standing (λ table. (g.dyn-1.0.entry table).1) new.processes new.files c.try_load-end.new.devices.drives.items in
+    let before : Standing = standing (λ box. (g.dyn-1.0.entry box.vtable).1) old.processes old.files c.args.devices.now in
+    let after : Standing = standing (λ box. (g.dyn-1.0.entry box.vtable).1) new.processes new.files c.try_load-end.new.devices in
     let (s, tied) = c.requires.stands in
     let (time, is_time) = some-time old _ s tied in
     let it = c.try_load-end.ensures.call time s.inner s.files tied.inner tied.files tied.run.locked.state.running.kinds in (
@@ -71,8 +71,8 @@ returns-clause-event g c =
     let end = c.try_load-end.result in
     let act = Attempt c.args.code in
     let next = c.requires.next in
-    let before : Outside = outside (λ table. (g.dyn-1.0.entry table).1) c.args.devices.now.drives.items (λ table. (g.dyn-2.0.entry table).1) c.args.devices.now.terms.items in
-    let after : Outside = outside (λ table. (g.dyn-1.0.entry table).1) c.try_load-end.new.devices.drives.items (λ table. (g.dyn-2.0.entry table).1) c.try_load-end.new.devices.terms.items in
+    let before : Outside = outside (λ box. (g.dyn-1.0.entry box.vtable).1) (λ box. (g.dyn-2.0.entry box.vtable).1) c.args.devices.now in
+    let after : Outside = outside (λ box. (g.dyn-1.0.entry box.vtable).1) (λ box. (g.dyn-2.0.entry box.vtable).1) c.try_load-end.new.devices in
     let terms = c.args.devices.now.terms in
     let long : vec_len terms ≡ length before.terms = terms.ok.0 ∙ sym (simp length-map) in
     let (s0, tied0) = c.requires.stands in
@@ -101,7 +101,7 @@ returns-clause-event g c =
           s.terms (c.tell_end.ensures.chosen ∙ c.begin.ensures.chosen ∙ c.try_load-end.ensures.chosen) there
           stands
           (clock-is old p act next before s tied ∙ sym (c.tell_end.ensures.clock ∙ c.begin.ensures.clock ∙ c.try_load-end.ensures.clock))
-          (terms_here ∙ ap (λ terms. terminal_states (λ table. (g.dyn-2.0.entry table).1) terms.items) (sym c.try_load-end.ensures.terms_kept))
+          (terms_here ∙ ap (λ terms. terminal_states (λ box. (g.dyn-2.0.entry box.vtable).1) terms.items) (sym c.try_load-end.ensures.terms_kept))
           (λ event. never-known new) (
             it.result,
             with_files s left,
@@ -117,8 +117,8 @@ returns-clause-event g c =
       memory = λ out. absurd (never-wants first.result (over ∙ out));
       waits = λ is.
           let waiting : end ≡ Wait = waits-so end (sym c.event_end.ensures ∙ is) in
-          let standing_before : Standing = standing (λ table. (g.dyn-1.0.entry table).1) old.processes old.files c.args.devices.now.drives.items in
-          let standing_after : Standing = standing (λ table. (g.dyn-1.0.entry table).1) tried.processes tried.files c.try_load-end.new.devices.drives.items in
+          let standing_before : Standing = standing (λ box. (g.dyn-1.0.entry box.vtable).1) old.processes old.files c.args.devices.now in
+          let standing_after : Standing = standing (λ box. (g.dyn-1.0.entry box.vtable).1) tried.processes tried.files c.try_load-end.new.devices in
           let at_wait : LoadsSo c.args.call s0.inner s0.files time0 (vec_len terms) p.0 Wait standing_before
           standing_after = subst (λ (end : CallEnd). LoadsSo c.args.call s0.inner s0.files time0 (vec_len terms)
           p.0 end standing_before standing_after) waiting first in record {
@@ -174,7 +174,7 @@ returns-clause-drives g c =
     let (time, is_time) = some-time old _ s tied in
     let was = c.args.devices.now.drives in
     let now = c.try_load-end.new.devices.drives in
-    let view = boxed_drive_view (λ table. (g.dyn-1.0.entry table).1) in
+    let view = boxed_seen (λ box. (g.dyn-1.0.entry box.vtable).1) in
     now.ok.0 ∙ sym (length-map now.items view)
     ∙ (c.try_load-end.ensures.call time s.inner s.files tied.inner tied.files tied.run.locked.state.running.kinds).calls.as_many
     ∙ length-map was.items view ∙ sym was.ok.0

@@ -22,8 +22,8 @@ returns-in-Err-clause-starts g c = record {
 
 pub returns-in-Err-OutOfMemory-clause-starts : goal.returns-in-Err-OutOfMemory-clause-starts
 returns-in-Err-OutOfMemory-clause-starts g c =
-    let before = drive_views (λ table. (g.dyn-1.0.entry table).1) c.args.devices.now.drives.items in
-    let after = drive_views (λ table. (g.dyn-1.0.entry table).1) c.start_files.new.devices.drives.items in
+    let before = drive_views (λ box. (g.dyn-1.0.entry box.vtable).1) c.args.devices.now.drives.items in
+    let after = drive_views (λ box. (g.dyn-1.0.entry box.vtable).1) c.start_files.new.devices.drives.items in
     record {
       stands = λ images have. tt;
       accepted = tt;
@@ -36,8 +36,8 @@ returns-in-Err-OutOfMemory-clause-starts g c =
 
 pub returns-in-Err-Drive-clause-starts : goal.returns-in-Err-Drive-clause-starts
 returns-in-Err-Drive-clause-starts g c =
-    let before = drive_views (λ table. (g.dyn-1.0.entry table).1) c.args.devices.now.drives.items in
-    let after = drive_views (λ table. (g.dyn-1.0.entry table).1) c.start_files.new.devices.drives.items in
+    let before = drive_views (λ box. (g.dyn-1.0.entry box.vtable).1) c.args.devices.now.drives.items in
+    let after = drive_views (λ box. (g.dyn-1.0.entry box.vtable).1) c.start_files.new.devices.drives.items in
     record {
       stands = λ images have. tt;
       accepted = tt;
@@ -52,7 +52,7 @@ returns-in-Err-Drive-clause-starts g c =
 
 pub returns-clause-starts : goal.returns-clause-starts
 returns-clause-starts g c =
-    let after : Outside = outside (λ table. (g.dyn-1.0.entry table).1) c.start_files.new.devices.drives.items (λ table. (g.dyn-2.0.entry table).1) c.start_files.new.devices.terms.items in
+    let after : Outside = outside (λ box. (g.dyn-1.0.entry box.vtable).1) (λ box. (g.dyn-2.0.entry box.vtable).1) c.start_files.new.devices in
     let terms = c.start_files.new.devices.terms in
     let long : length after.terms ≡ vec_len terms = simp length-map (sym terms.ok.0) in
     let kept : vec_len terms ≡ vec_len c.args.devices.now.terms = ap (λ terms. vec_len terms) c.start_files.ensures.terms_kept in

@@ -13,7 +13,6 @@ use Rattle.call_rules.specs.Inner.{Inner, no_own}
 use Rattle.call_rules.specs.declared.proc_call.ProcCall.{ProcCall}
 use Rattle.file_rules.specs.Memory.{LacksEntry, LacksMemory}
 use Rattle.file_dispatch.specs.Attempts.{MayAttempt}
-use Rattle.file_drives.specs.Drives.{boxed_drive_view}
 use Rattle.file_rules.specs.Attempts.{FileAttempts, asker_of, io_effect}
 use Rattle.io_model.specs.Path.{ArePaths}
 use Rattle.io_rules.specs.Io.{Io}
@@ -27,6 +26,7 @@ use Rattle.file_state.specs.Attempt.{settled}
 use Rattle.event_rules.specs.declared.ends.EventEnd.{EventEnd}
 use Rattle.proc_rules.specs.declared.record.Record.{Record}
 use Rattle.proc_rules.specs.Records.{IsLiving, is_waiting, record_at}
+use Rattle.file_drives.specs.Drives.{boxed_seen}
 use Rattle.proc_state.specs.Tie.{Comes, Represents as RepresentsProcesses}
 use Rattle.machine_model.specs.Services.{Serves, Service, on_paths}
 use Rattle.machine_model.specs.Event.{Event}
@@ -62,7 +62,7 @@ pub attempt-end-requires-clause-may : goal.attempt-end-requires-clause-may
 attempt-end-requires-clause-may g c =
     let (s, tied) = c.requires.stands in
     let terms = c.args.devices.now.terms in
-    let before = outside (λ table. (g.dyn-1.0.entry table).1) c.args.devices.now.drives.items (λ table. (g.dyn-2.0.entry table).1) terms.items in
+    let before = outside (λ box. (g.dyn-1.0.entry box.vtable).1) (λ box. (g.dyn-2.0.entry box.vtable).1) c.args.devices.now in
     let long : length before.terms ≡ vec_len terms = simp length-map (sym terms.ok.0) in
     subst (λ (n : ℕ). MayAttempt c.args.call c.args.self.now.processes c.args.self.now.files c.args.p.0 n) long
     (may-attempt-here c.args.self.now c.args.p c.args.code c.requires.next before s tied c.args.call (path-served c.args.code c.args.call c.requires.serves).1)
@@ -85,8 +85,8 @@ returns-clause-event g c =
     let act = Attempt c.args.code in
     let next = c.requires.next in
     let coded = path-served c.args.code c.args.call c.requires.serves in
-    let before : Outside = outside (λ table. (g.dyn-1.0.entry table).1) c.args.devices.now.drives.items (λ table. (g.dyn-2.0.entry table).1) c.args.devices.now.terms.items in
-    let after : Outside = outside (λ table. (g.dyn-1.0.entry table).1) c.attempt-end.new.devices.drives.items (λ table. (g.dyn-2.0.entry table).1) c.attempt-end.new.devices.terms.items in
+    let before : Outside = outside (λ box. (g.dyn-1.0.entry box.vtable).1) (λ box. (g.dyn-2.0.entry box.vtable).1) c.args.devices.now in
+    let after : Outside = outside (λ box. (g.dyn-1.0.entry box.vtable).1) (λ box. (g.dyn-2.0.entry box.vtable).1) c.attempt-end.new.devices in
     let other : c.event_end.result ≢ EventEnd.NoMemory → c.attempt-end.result ≢ NoMemory = (λ other out. other (c.event_end.ensures ∙ ap event_end_of out)) in
     let settled_is : new.files ≡ settled p.0 c.attempt-end.result c.attempt-end.new.files =
     c.tell_end.ensures.files ∙ ap (λ (records : Records). let files : FileState = record c.attempt-end.new.files { records = records } in files) c.forget_request.ensures in
@@ -246,7 +246,7 @@ returns-clause-drives g c =
     let fits = time-for c.args.self.now.clock c.args.self.now.processes.tick c.args.call c.time_for-time.result time c.time_for-time.ensures is_time in
     let was = c.args.devices.now.drives in
     let now = c.attempt-end.new.devices.drives in
-    let view = boxed_drive_view (λ table. (g.dyn-1.0.entry table).1) in
+    let view = boxed_seen (λ box. (g.dyn-1.0.entry box.vtable).1) in
     elim (cases-memory c.attempt-end.result) [
       | inl out ↦
           elim ((c.attempt-end.ensures.call time fits s.inner s.files tied.inner tied.files tied.run.locked.state.running.kinds).memory out) [

@@ -10,8 +10,8 @@ use Rattle.os9_kernel.proofs.kernel.Kernel.tick.Goals as goal
 pub returns-in-Ok-true-clause-tick : goal.returns-in-Ok-true-clause-tick
 returns-in-Ok-true-clause-tick g c =
     let old = c.args.self.now in
-    let after = outside (λ table. (g.dyn-1.0.entry table).1) c.arrive_keys.new.devices.drives.items (λ table. (g.dyn-2.0.entry table).1) c.arrive_keys.new.devices.terms.items in
-    let kept = ap (λ drives. drive_views (λ table. (g.dyn-1.0.entry table).1) drives.items) c.arrive_keys.ensures.drives in
+    let after = outside (λ box. (g.dyn-1.0.entry box.vtable).1) (λ box. (g.dyn-2.0.entry box.vtable).1) c.arrive_keys.new.devices in
+    let kept = ap (λ drives. drive_views (λ box. (g.dyn-1.0.entry box.vtable).1) drives.items) c.arrive_keys.ensures.drives in
     let known : Known = record old.known { marks = Everyone } in record {
       step = λ ok s tied.
           let (next, arrives, there) = c.in-Ok-true.ensures.arrived refl (raised old _ s tied) (record { memory = tied.inner.memory; is = raised-is old _ s tied }) in
@@ -25,8 +25,8 @@ returns-in-Ok-true-clause-tick g c =
 pub returns-in-Ok-false-clause-tick : goal.returns-in-Ok-false-clause-tick
 returns-in-Ok-false-clause-tick g c =
     let old = c.args.self.now in
-    let after = outside (λ table. (g.dyn-1.0.entry table).1) c.arrive_keys.new.devices.drives.items (λ table. (g.dyn-2.0.entry table).1) c.arrive_keys.new.devices.terms.items in
-    let kept = ap (λ drives. drive_views (λ table. (g.dyn-1.0.entry table).1) drives.items) c.arrive_keys.ensures.drives in
+    let after = outside (λ box. (g.dyn-1.0.entry box.vtable).1) (λ box. (g.dyn-2.0.entry box.vtable).1) c.arrive_keys.new.devices in
+    let kept = ap (λ drives. drive_views (λ box. (g.dyn-1.0.entry box.vtable).1) drives.items) c.arrive_keys.ensures.drives in
     let (same, same_io) = c.in-Ok-false.ensures.quiet (ap Ok c.in-Ok-false.field-0-test) in record {
       step = λ ok s tied.
           let (next, arrives, there) = c.in-Ok-false.ensures.arrived refl (raised old _ s tied) (record { memory = tied.inner.memory; is = raised-is old _ s tied }) in
@@ -41,8 +41,8 @@ returns-in-Ok-false-clause-tick g c =
 pub returns-in-Err-clause-tick : goal.returns-in-Err-clause-tick
 returns-in-Err-clause-tick g c =
     let old = c.args.self.now in
-    let after = outside (λ table. (g.dyn-1.0.entry table).1) c.arrive_keys.new.devices.drives.items (λ table. (g.dyn-2.0.entry table).1) c.arrive_keys.new.devices.terms.items in
-    let kept = ap (λ drives. drive_views (λ table. (g.dyn-1.0.entry table).1) drives.items) c.arrive_keys.ensures.drives in record {
+    let after = outside (λ box. (g.dyn-1.0.entry box.vtable).1) (λ box. (g.dyn-2.0.entry box.vtable).1) c.arrive_keys.new.devices in
+    let kept = ap (λ drives. drive_views (λ box. (g.dyn-1.0.entry box.vtable).1) drives.items) c.arrive_keys.ensures.drives in record {
       step = λ ok. cc;
       broken = λ err s tied.
           let (polled, between, arrives, there, breaks) = c.in-Err.ensures.broken refl (raised old _ s tied) (record { memory = tied.inner.memory; is = raised-is old _ s tied }) in
